@@ -1,0 +1,17 @@
+pub mod PiecesLemmas
+pub mod Texts
+pub mod Steps
+pub mod SpellingLemmas
+pub mod ReadingLemmas
+pub mod Examples
+pub mod RowLemmas
+pub mod JudgedLemmas
+pub mod StageLemmas
+pub mod ServedLemmas
+pub mod SegmentLemmas
+pub mod CleanLemmas
+pub mod FoundLemmas
+pub mod RunLemmas
+pub mod StartLemmas
+pub mod OpenedLemmas
+pub mod ShortLemmas

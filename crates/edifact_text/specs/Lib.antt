@@ -1,0 +1,9 @@
+pub mod Interchange
+pub mod Characters
+pub mod Rows
+pub mod Spelling
+pub mod Faults
+pub mod Pieces
+pub mod Reading
+pub mod Stages
+pub mod Views

@@ -1,0 +1,84 @@
+//! Going through the text, a segment at a time.
+ghost use Rattle.std.specs.Prelude.{◌≡◌, ◌<◌, ◌≤◌, length, MatchResult, MatchOption, IfOk, IfSome, [], ◌∷◌};
+
+use crate::faults::{EdiCode, EdiFault};
+use crate::pieces::{cut, skip_blanks};
+use crate::segment_text::SegmentText;
+use crate::service::Service;
+
+/// What is left of the text, and its service characters.
+#[derive(Clone, Copy)]
+pub(crate) struct Cursor<'a> {
+    /// How long the whole text is.
+    pub(crate) len: usize,
+    pub(crate) rest: &'a [u8],
+    pub(crate) service: Service,
+    ghost within: { length rest.now ≤ len },
+}
+
+impl<'a> Cursor<'a> {
+    ghost use Rattle.edifact_text.specs.Stages.{next_of, ended_ones};
+    ghost use Rattle.edifact_text.specs.Views.{ahead, seen};
+
+    /// What stands before the next terminator, and what is behind that; without one, all that is left.
+    pub(crate) fn take(self) -> (SegmentText<'a>, Option<Cursor<'a>>)
+        ensures first { MatchOption result.1 (ahead self.entry ≡ seen result.0 ∷ [])
+            (λ rest. (ahead self.entry ≡ seen result.0 ∷ ahead rest) × (0 < length (ahead rest))) }
+        ensures service { result.0.service ≡ self.entry.service }
+        ensures same { IfSome result.1 (λ rest. (rest.service ≡ self.entry.service) × (rest.len ≡ self.entry.len)
+            × (length rest.rest.now < length self.entry.rest.now)) }
+    {
+        let service = self.service;
+        let (front, behind) = cut(self.rest, service.release, service.terminator);
+        let bytes = skip_blanks(front);
+        let place = self.len - self.rest.len() + (front.len() - bytes.len());
+        let text = SegmentText {
+            bytes,
+            place,
+            service,
+        };
+        match behind {
+            Some(rest) => (
+                text,
+                Some(Cursor {
+                    len: self.len,
+                    rest,
+                    service,
+                }),
+            ),
+            None => (text, None),
+        }
+    }
+
+    /// The next segment that has a terminator, and what is behind it.
+    pub(crate) fn split_first(self) -> Option<(SegmentText<'a>, Cursor<'a>)>
+        ensures first { MatchOption result (ended_ones (ahead self.entry) ≡ [])
+            (λ p. ended_ones (ahead self.entry) ≡ seen p.0 ∷ ended_ones (ahead p.1)) }
+        ensures same { IfSome result (λ p. (p.0.service ≡ self.entry.service) × (p.1.service ≡ self.entry.service)) }
+    {
+        let (text, behind) = self.take();
+        Some((text, behind?))
+    }
+
+    /// The next segment, checked as any segment is, and what is behind it.
+    pub(crate) fn next(self) -> Result<(SegmentText<'a>, Cursor<'a>), EdiFault>
+        ensures next { MatchResult result
+            (λ p. next_of self.entry.service self.entry.len (ahead self.entry) ≡ Ok (seen p.0, ahead p.1))
+            (λ e. next_of self.entry.service self.entry.len (ahead self.entry) ≡ Err e) }
+        ensures same { IfOk result (λ p. (p.0.service ≡ self.entry.service) × (p.1.service ≡ self.entry.service)
+            × (p.1.len ≡ self.entry.len) × (length p.1.rest.now < length self.entry.rest.now)) }
+    {
+        let (text, behind) = self.take();
+        let rest = match behind {
+            Some(rest) => rest,
+            None => {
+                return Err(EdiFault {
+                    code: EdiCode::Truncated,
+                    place: self.len,
+                });
+            }
+        };
+        text.check()?;
+        Ok((text, rest))
+    }
+}

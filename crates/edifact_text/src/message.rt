@@ -1,0 +1,33 @@
+ghost use Rattle.std.specs.Prelude.{◌<◌, ◌+◌, ◌^◌};
+
+use crate::cursor::Cursor;
+use crate::segment_text::SegmentText;
+
+/// The message of an interchange: the segments between its header and its trailer. It borrows the text.
+#[derive(Clone, Copy)]
+pub struct Message<'a> {
+    /// What stands behind the message header.
+    pub(crate) behind: Cursor<'a>,
+    /// How many segments of that are the message's.
+    pub(crate) count: u64,
+    ghost fits: { count + 2 < 2 ^ 64 },
+}
+
+/// A segment, and its number in the message.
+#[derive(Clone, Copy)]
+pub struct Segment<'a> {
+    pub(crate) text: SegmentText<'a>,
+    pub(crate) number: u64,
+}
+
+/// The segments of a message that are left, in their order.
+#[derive(Clone, Copy)]
+pub struct Segments<'a> {
+    /// What stands behind the last segment that was given.
+    pub(crate) left: Cursor<'a>,
+    /// How many segments of that are the message's.
+    pub(crate) count: u64,
+    /// The number of the first of them.
+    pub(crate) first: u64,
+    ghost fits: { first + count < 2 ^ 64 },
+}

@@ -1,0 +1,48 @@
+ghost use Rattle.std.specs.Prelude.{◌≡◌, ℕ, length, ◌≤◌};
+ghost use Rattle.edifact_text.specs.Rows.{is_digit, number_from, count_of, is_one};
+ghost use Rattle.edifact_text.specs.Views.{meant};
+
+use crate::raw::Raw;
+use arrayvec::ArrayVec;
+
+/// The number that these digits write, where they are 1 to 10 digits.
+pub(crate) fn number(digits: &[u8]) -> Option<u64>
+    ensures { result ≡ count_of digits.now }
+{
+    if digits.is_empty() || digits.len() > 10 {
+        return None;
+    }
+    let mut value: u64 = 0;
+    for digit in digits {
+        if *digit < 48 || *digit > 57 {
+            return None;
+        }
+        value = 10 * value + u64::from(*digit - 48);
+    }
+    Some(value)
+}
+
+/// The number that a literal of 1 to 10 digits writes.
+pub(crate) fn count(raw: Raw<'_>) -> Option<u64>
+    ensures { result ≡ count_of (meant raw.entry) }
+{
+    let mut digits: ArrayVec<u8, 35> = ArrayVec::new();
+    if !raw.literal_into(&mut digits) {
+        return None;
+    }
+    number(digits.as_slice())
+}
+
+/// The literal is the number 1, behind any zeros.
+pub(crate) fn is_one(raw: Raw<'_>) -> bool
+    ensures { result ≡ is_one (meant raw.entry) }
+{
+    let mut left = raw;
+    while let Some((byte, rest)) = left.split_first() {
+        if byte != 48 {
+            return left.is(b"1");
+        }
+        left = rest;
+    }
+    false
+}

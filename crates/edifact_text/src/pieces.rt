@@ -1,0 +1,101 @@
+//! Cutting bytes at a separator. A separator behind a release character cuts nothing.
+ghost use Rattle.std.specs.Prelude.{◌≡◌, ◌↔◌, ◌<◌, ◌≤◌, IsTrue, false, IfSome, MatchOption, length, slice_index_or, [], ◌∷◌, ◌+◌};
+ghost use Rattle.edifact_text.specs.Characters.{is_release, is_blank};
+ghost use Rattle.edifact_text.specs.Pieces.{end_from, pieces};
+ghost use Rattle.edifact_text.specs.Reading.{trimmed};
+
+/// The byte is the release character.
+pub(crate) fn is_release(release: Option<u8>, byte: u8) -> bool
+    ensures { result ≡ is_release release byte }
+{
+    match release {
+        Some(r) => byte == r,
+        None => false,
+    }
+}
+
+/// The index of the first separator that cuts.
+pub(crate) fn end_of(bytes: &[u8], release: Option<u8>, separator: u8) -> Option<usize>
+    ensures value { result ≡ end_from release separator false bytes.now }
+    ensures within { IfSome result (λ n. n < length bytes.now) }
+{
+    let mut held = false;
+    for (at, byte) in bytes.iter().enumerate() {
+        if held {
+            held = false;
+        } else if is_release(release, *byte) {
+            held = true;
+        } else if *byte == separator {
+            return Some(at);
+        }
+    }
+    None
+}
+
+/// The bytes up to the first separator that cuts, and those behind it; all of them where none does.
+pub(crate) fn cut(bytes: &[u8], release: Option<u8>, separator: u8) -> (&[u8], Option<&[u8]>)
+    ensures first { MatchOption result.1 (pieces release separator bytes.now ≡ result.0.now ∷ [])
+        (λ rest. pieces release separator bytes.now ≡ result.0.now ∷ pieces release separator rest.now) }
+    ensures less { length result.0.now ≤ length bytes.now }
+    ensures len { IfSome result.1 (λ rest. length result.0.now + 1 + length rest.now ≡ length bytes.now) }
+{
+    match end_of(bytes, release, separator) {
+        None => (bytes, None),
+        Some(end) => {
+            let (front, behind) = bytes.split_at(end);
+            match behind {
+                [] => (bytes, None),
+                [_, rest @ ..] => (front, Some(rest)),
+            }
+        }
+    }
+}
+
+/// The piece of this index, and no bytes past the last piece.
+pub(crate) fn piece(bytes: &[u8], release: Option<u8>, separator: u8, index: usize) -> &[u8]
+    ensures { result.now ≡ slice_index_or (pieces release separator bytes.now) index [] }
+{
+    let mut rest = bytes;
+    for _ in 0..index {
+        match cut(rest, release, separator).1 {
+            Some(behind) => rest = behind,
+            None => return &[],
+        }
+    }
+    cut(rest, release, separator).0
+}
+
+/// `most` pieces or fewer.
+pub(crate) fn are_at_most(bytes: &[u8], release: Option<u8>, separator: u8, most: u32) -> bool
+    requires { 0 < most }
+    ensures { IsTrue result ↔ (length (pieces release separator bytes.now) ≤ most) }
+{
+    let mut rest = bytes;
+    for _ in 0..most {
+        match cut(rest, release, separator).1 {
+            Some(behind) => rest = behind,
+            None => return true,
+        }
+    }
+    false
+}
+
+/// Carriage return, line feed, tab or space.
+pub(crate) fn is_blank(byte: u8) -> bool
+    ensures { result ≡ is_blank byte }
+{
+    byte == 13 || byte == 10 || byte == 9 || byte == 32
+}
+
+/// The bytes from the first that is no blank.
+pub(crate) fn skip_blanks(bytes: &[u8]) -> &[u8]
+    ensures value { result.now ≡ trimmed bytes.now }
+    ensures less { length result.now ≤ length bytes.now }
+{
+    for (at, byte) in bytes.iter().enumerate() {
+        if !is_blank(*byte) {
+            return &bytes[at..];
+        }
+    }
+    &[]
+}

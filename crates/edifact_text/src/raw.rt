@@ -1,0 +1,121 @@
+ghost use Rattle.std.specs.Prelude.{◌≡◌, ◌↔◌, ◌<◌, ◌≤◌, IsTrue, IfSome, MatchOption, length, [], ◌∷◌};
+ghost use Rattle.edifact_text.specs.Pieces.{literal};
+ghost use Rattle.edifact_text.specs.Views.{meant};
+
+use crate::pieces::is_release;
+use arrayvec::ArrayVec;
+
+/// A component as the text writes it. It means its literal: the release character makes the byte behind it literal, and isn't
+/// meant itself. It borrows the text, and everything here is asked of the literal.
+#[derive(Clone, Copy)]
+pub struct Raw<'a> {
+    bytes: &'a [u8],
+    release: Option<u8>,
+}
+
+impl<'a> Raw<'a> {
+    /// These bytes of a segment, where this is the release character.
+    #[tactic(auto, unfolding(crate::specs::Views::meant))]
+    pub(crate) fn new(bytes: &'a [u8], release: Option<u8>) -> Raw<'a>
+        ensures { meant result ≡ literal release bytes.now }
+    {
+        Raw { bytes, release }
+    }
+
+    /// The literal's first byte, and a component that means the rest of it.
+    #[tactic(auto, unfolding(crate::specs::Views::meant))]
+    pub(crate) fn split_first(self) -> Option<(u8, Raw<'a>)>
+        ensures first { MatchOption result (meant self.entry ≡ []) (λ p. meant self.entry ≡ p.0 ∷ meant p.1) }
+        ensures less { IfSome result (λ p. length p.1.bytes.now < length self.entry.bytes.now) }
+    {
+        match self.bytes {
+            [] => None,
+            [byte, rest @ ..] => {
+                if !is_release(self.release, *byte) {
+                    return Some((
+                        *byte,
+                        Raw {
+                            bytes: rest,
+                            release: self.release,
+                        },
+                    ));
+                }
+                match rest {
+                    [] => None,
+                    [byte, rest @ ..] => Some((
+                        *byte,
+                        Raw {
+                            bytes: rest,
+                            release: self.release,
+                        },
+                    )),
+                }
+            }
+        }
+    }
+
+    /// Puts the literal into `out`, in place of what it held. Where it has over 35 bytes the answer is false, and `out` is empty.
+    pub fn literal_into(self, out: &mut ArrayVec<u8, 35>) -> bool
+        ensures fits { IsTrue result ↔ (length (meant self.entry) ≤ 35) }
+        ensures literal { IsTrue result → out.new.items ≡ meant self.entry }
+        ensures empty { ¬ IsTrue result → out.new.items ≡ [] }
+    {
+        out.clear();
+        let mut left = self;
+        while let Some((byte, rest)) = left.split_first() {
+            if out.try_push(byte).is_err() {
+                out.clear();
+                return false;
+            }
+            left = rest;
+        }
+        true
+    }
+
+    /// The two literals are equal.
+    pub fn same(self, other: Raw<'_>) -> bool
+        ensures { IsTrue result ↔ (meant self.entry ≡ meant other.entry) }
+    {
+        let mut left = self;
+        let mut right = other;
+        loop {
+            match (left.split_first(), right.split_first()) {
+                (None, None) => return true,
+                (Some((a, rest)), Some((b, others))) => {
+                    if a != b {
+                        return false;
+                    }
+                    left = rest;
+                    right = others;
+                }
+                _ => return false,
+            }
+        }
+    }
+
+    /// The literal is this text.
+    pub fn is(self, text: &[u8]) -> bool
+        ensures { IsTrue result ↔ (meant self.entry ≡ text.now) }
+    {
+        let mut left = self;
+        for expected in text {
+            match left.split_first() {
+                Some((byte, rest)) => {
+                    if byte != *expected {
+                        return false;
+                    }
+                    left = rest;
+                }
+                None => return false,
+            }
+        }
+        left.is_empty()
+    }
+
+    /// The literal is empty.
+    pub fn is_empty(self) -> bool
+        ensures { IsTrue result ↔ (meant self.entry ≡ []) }
+    {
+        self.split_first().is_none()
+    }
+}

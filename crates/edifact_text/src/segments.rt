@@ -1,0 +1,76 @@
+//! What a caller reads of a message.
+ghost use Rattle.std.specs.Prelude.{◌≡◌};
+ghost use Rattle.std.specs.Iterator.{YieldsFirstBy, item_count};
+ghost use Rattle.edifact_text.specs.Interchange.{component};
+ghost use Rattle.edifact_text.specs.Views.{meant, message_view, numbered_view, left_of};
+
+use crate::message::{Message, Segment, Segments};
+use crate::raw::Raw;
+
+impl<'a> Message<'a> {
+    /// The segments behind the message header and before the message trailer, numbered from 2.
+    #[tactic(auto, unfolding(crate::specs::Views::message_view, crate::specs::Views::left_of))]
+    pub fn segments(&self) -> Segments<'a>
+        ensures { left_of result ≡ (message_view self.now).segments }
+    {
+        Segments {
+            left: self.behind,
+            count: self.count,
+            first: 2,
+        }
+    }
+
+    /// The interchange's decimal mark, as its service string advice sets it: `.` where there is none.
+    #[tactic(auto, unfolding(crate::specs::Views::message_view))]
+    pub fn decimal_mark(&self) -> u8
+        ensures { result ≡ (message_view self.now).mark }
+    {
+        self.behind.service.mark
+    }
+}
+
+impl<'a> Segment<'a> {
+    /// The segment's number in its message, the message header being 1.
+    #[tactic(auto, unfolding(crate::specs::Views::numbered_view))]
+    pub fn number(&self) -> u64
+        ensures { result ≡ (numbered_view self.now).number }
+    {
+        self.number
+    }
+
+    /// The tag: component 0 of element 0.
+    pub fn tag(&self) -> Raw<'a>
+        ensures { meant result ≡ component (numbered_view self.now).parts 0 0 }
+    {
+        self.component(0, 0)
+    }
+
+    /// Component `j` of element `i`, both counted from 0. It is empty where the segment has no such element or component.
+    #[tactic(auto, using(crate::proofs::ReadingLemmas::part_is), unfolding(crate::specs::Views::numbered_view))]
+    pub fn component(&self, i: usize, j: usize) -> Raw<'a>
+        ensures { meant result ≡ component (numbered_view self.now).parts i j }
+    {
+        self.text.component(i, j)
+    }
+}
+
+impl<'a> Iterator for Segments<'a> {
+    type Item = Segment<'a>;
+
+    ghost next_gives = { YieldsFirstBy numbered_view left_of };
+
+    ghost remaining = { item_count left_of };
+
+    #[tactic(auto, unfolding(crate::specs::Views::numbered_view, crate::specs::Views::left_of))]
+    fn next(&mut self) -> Option<Segment<'a>> {
+        if self.count == 0 {
+            return None;
+        }
+        let (text, behind) = self.left.split_first()?;
+        let number = self.first;
+        self.left = behind;
+        self.count -= 1;
+        self.first += 1;
+        Some(Segment { text, number })
+    }
+}

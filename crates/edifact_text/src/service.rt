@@ -1,0 +1,9 @@
+/// The service characters of an interchange: two separators, the decimal mark, a release character or none, and the terminator.
+#[derive(Clone, Copy)]
+pub(crate) struct Service {
+    pub(crate) component: u8,
+    pub(crate) element: u8,
+    pub(crate) mark: u8,
+    pub(crate) release: Option<u8>,
+    pub(crate) terminator: u8,
+}

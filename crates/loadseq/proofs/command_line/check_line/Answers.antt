@@ -1,0 +1,19 @@
+use Rattle.std.proofs.Common.{map, codes}
+use Rattle.clap.specs.Words.{takes}
+use Rattle.loadseq.specs.Words.{check_command}
+use Rattle.loadseq.proofs.LineReads.{not_true, word_is}
+use Rattle.loadseq.proofs.command_line.check_line.Goals as goal
+
+pub returns-in-Err-clause-usage : goal.returns-in-Err-clause-usage
+returns-in-Err-clause-usage c usage =
+    not_true (takes check_command (map (λ w. w.now) c.args.words.now)) (λ t. c.refused.ensures usage (c.in-Err.ensures.refused t))
+
+pub returns-clause-ok : goal.returns-clause-ok
+returns-clause-ok c =
+    let m = c.in-Ok.matches in
+    let rows = c.in-Ok.ensures.rows in
+    record {
+      folder = word_is m _ (codes "FOLDER") c.get_str.result _ rows c.get_str.ensures c.unwrap-folder.ensures;
+      baplie = word_is m _ (codes "BAPLIE") c.get_str-2.result _ rows c.get_str-2.ensures c.unwrap-baplie.ensures;
+      movins = word_is m _ (codes "MOVINS") c.get_str-3.result _ rows c.get_str-3.ensures c.unwrap-movins.ensures;
+    }

@@ -1,0 +1,24 @@
+-- The words of a command line: the first names the command, and the command reads those behind it.
+use Rattle.std.specs.Str.{bytes_eq}
+use Rattle.std.specs.Prelude.{codes, if◌then◌else◌, ℕ, true, List, [], ◌∷◌, Option, Some, None}
+use Rattle.clap.specs.Words.{App, Rule, Text, new_app, new_rule, with_rule}
+use Rattle.clap.specs.declared.builder.ArgAction.TheVariants.{Set}
+
+-- a word that has to be there
+abbrev pub positional : Text → Rule
+positional name = record (new_rule name) { required = true; action = Some Set }
+
+-- a command that is handed the words behind its name
+abbrev pub without_name : App → App
+without_name app = record app { top = record app.top { no_binary_name = true } }
+
+-- `loadseq check FOLDER BAPLIE MOVINS`
+abbrev pub check_command : App
+check_command =
+    with_rule (with_rule (with_rule (without_name (new_app (codes "loadseq check")))
+    (positional (codes "FOLDER"))) (positional (codes "BAPLIE"))) (positional (codes "MOVINS"))
+
+-- the words behind a first word, if that is this name
+abbrev pub behind_name : List ℕ → List Text → Option (List Text)
+behind_name name [] = None
+behind_name name (word ∷ words) = if bytes_eq word name then Some words else None

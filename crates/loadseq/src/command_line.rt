@@ -1,0 +1,126 @@
+ghost use Rattle.std.specs.Prelude.{◌≡◌, ◌≢◌, [], IfOk, IfErr, true, false, map, codes};
+ghost use Rattle.clap.specs.Words.{app_of, takes, fault_of, matches_of, rows_of, rule_of, found_of, kind_of, IsParsedFrom};
+ghost use Rattle.clap.specs.Built.{TakesValue, IsPlainArg};
+ghost use Rattle.clap.specs.declared.parser.matches.ArgMatches.{ArgMatches};
+ghost use Rattle.loadseq.specs.Lines.{IsLineOf, IsUsage, IsLineBehind, IsNotTaken};
+ghost use Rattle.loadseq.specs.Promised.{HasWords};
+ghost use Rattle.loadseq.specs.Words.{check_command, positional, behind_name};
+
+use clap::error::ErrorKind;
+use clap::{Arg, ArgAction, ArgMatches, Command};
+use std::alloc::{AllocError, Global};
+use thiserror::Error;
+
+/// The words of a command line, as they were given.
+#[derive(Clone, Copy, Debug, PartialEq, Eq)]
+pub struct Line<'a> {
+    /// The folder of the ship's profile.
+    pub folder: &'a str,
+    /// The file of the bay plan on arrival.
+    pub baplie: &'a str,
+    /// The file of the movement instruction.
+    pub movins: &'a str,
+}
+
+/// Why words are no command line.
+#[derive(Debug, Drop, Error)]
+pub enum LineFault {
+    /// The words are wrong, or ask for help; the text says what may be written.
+    #[error("{0}")]
+    Usage(String),
+    /// Want of memory.
+    #[error("no memory")]
+    NoMemory,
+}
+
+/// What is said where the first word is no command.
+const USAGE: &str = "usage: loadseq check FOLDER BAPLIE MOVINS";
+
+/// A word that has to be there.
+fn word<'a>(alloc: Global, name: &'a str) -> Arg<'a>
+    ensures rule { rule_of result ≡ positional name.entry.now }
+    ensures id { result.id ≡ name.entry }
+    ensures plain { IsPlainArg result }
+    ensures one { result.global ≡ false }
+    ensures value { TakesValue result }
+{
+    Arg::new(alloc, name).required(true).action(ArgAction::Set)
+}
+
+/// The command `check`.
+fn check<'a>(alloc: Global) -> Result<Command<'a>, AllocError>
+    ensures app { IfOk result (λ c. app_of c ≡ check_command) }
+    ensures promises { IfOk result (λ c. (m : ArgMatches) → IsParsedFrom c m → HasWords m) }
+{
+    Command::new(alloc, "loadseq check")
+        .no_binary_name(true)
+        .arg(word(alloc, "FOLDER"))?
+        .arg(word(alloc, "BAPLIE"))?
+        .arg(word(alloc, "MOVINS"))
+}
+
+/// What `clap` makes of the words behind `check`.
+fn check_matches<'a>(alloc: Global, words: &'a [&'a str]) -> Result<ArgMatches<'a>, clap::Error>
+    ensures rows { IfOk result (λ m. rows_of (found_of m) ≡ matches_of check_command (map (λ w. w.now) words.entry.now)) }
+    ensures taken { IfOk result (λ _. fault_of check_command (map (λ w. w.now) words.entry.now) ≡ []) }
+    ensures promised { IfOk result HasWords }
+    ensures refused { IfErr result (λ e. takes check_command (map (λ w. w.now) words.entry.now) ≡ true → kind_of e ≡ ErrorKind.OutOfMemory) }
+{
+    let command = check(alloc)?;
+    command.try_get_matches_from(words)
+}
+
+/// The refusal of words, with this text.
+fn usage(alloc: Global, text: &str) -> LineFault {
+    match String::from_str(alloc, text) {
+        Ok(text) => LineFault::Usage(text),
+        Err(_) => LineFault::NoMemory,
+    }
+}
+
+/// The refusal of words that `clap` refuses.
+fn refused(alloc: Global, error: &clap::Error) -> LineFault
+    ensures { IsUsage result → kind_of error.now ≢ ErrorKind.OutOfMemory }
+{
+    if error.kind() == ErrorKind::OutOfMemory {
+        return LineFault::NoMemory;
+    }
+    match format!(in alloc; "{error}") {
+        Ok(text) => LineFault::Usage(text),
+        Err(_) => LineFault::NoMemory,
+    }
+}
+
+/// The line of the words behind `check`.
+fn check_line<'a>(alloc: Global, words: &'a [&'a str]) -> Result<Line<'a>, LineFault>
+    ensures ok { IfOk result (IsLineOf (map (λ w. w.now) words.entry.now)) }
+    ensures usage { IfErr result (λ e. IsUsage e → takes check_command (map (λ w. w.now) words.entry.now) ≡ false) }
+{
+    let matches = match check_matches(alloc, words) {
+        Ok(matches) => matches,
+        Err(error) => return Err(refused(alloc, &error)),
+    };
+    let folder = matches.get_str("FOLDER").unwrap();
+    let baplie = matches.get_str("BAPLIE").unwrap();
+    let movins = matches.get_str("MOVINS").unwrap();
+    Ok(Line {
+        folder,
+        baplie,
+        movins,
+    })
+}
+
+/// The command line that the words after the program's name are: `check`, and what `clap` reads of the three words
+/// behind it. [`LineFault::Usage`] comes only where there is no first word, it is another, or `clap` doesn't take
+/// the words behind it; help is such an answer too.
+pub fn read_line<'a>(alloc: Global, words: &'a [&'a str]) -> Result<Line<'a>, LineFault>
+    ensures ok { IfOk result (IsLineBehind (behind_name (codes "check") (map (λ w. w.now) words.entry.now))) }
+    ensures usage { IfErr result (λ e. IsUsage e → IsNotTaken (behind_name (codes "check") (map (λ w. w.now) words.entry.now))) }
+{
+    if let Some((first, behind)) = words.split_first() {
+        if *first == "check" {
+            return check_line(alloc, behind);
+        }
+    }
+    Err(usage(alloc, USAGE))
+}

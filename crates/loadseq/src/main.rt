@@ -1,0 +1,51 @@
+//! The program: `loadseq check FOLDER BAPLIE MOVINS` reads a ship's profile and a bay plan and writes the
+//! report to standard output.
+#![tactic(auto)]
+
+mod command_line;
+mod files;
+mod serving;
+
+use files::Disk;
+use serving::{NO_MEMORY_STATUS, USAGE_STATUS, serve};
+use std::alloc::{AllocError, Global};
+use std::io::ErrorKind;
+use std::process::ExitCode;
+use std::{env, io};
+
+#[cfg(test)]
+mod tests;
+
+/// The words after the program's name.
+fn words(rt: &HostRuntime) -> io::Result<Vec<String>> {
+    let mut words = Vec::new(rt.alloc());
+    for word in env::args(rt)?.skip(1) {
+        words.push(word)?;
+    }
+    Ok(words)
+}
+
+fn borrowed(alloc: Global, words: &[String]) -> Result<Vec<&str>, AllocError> {
+    let mut list = Vec::new(alloc);
+    for word in words {
+        list.push(word.as_str())?;
+    }
+    Ok(list)
+}
+
+fn main(rt: HostRuntime) -> ExitCode {
+    let words = match words(&rt) {
+        Ok(words) => words,
+        Err(error) if error.kind() == ErrorKind::OutOfMemory => {
+            return ExitCode::from(NO_MEMORY_STATUS);
+        }
+        Err(_) => return ExitCode::from(USAGE_STATUS),
+    };
+    let Ok(list) = borrowed(rt.alloc(), &words) else {
+        return ExitCode::from(NO_MEMORY_STATUS);
+    };
+    let mut disk = Disk::new(&rt);
+    let mut out = rt.stdout();
+    let mut err = rt.stderr();
+    ExitCode::from(serve(rt.alloc(), &mut disk, &list, &mut out, &mut err))
+}

@@ -1,0 +1,296 @@
+use crate::files::{LIMIT, Readers, Unopened};
+use crate::serving::serve;
+use std::io;
+use std::io::{ErrorKind, Read, Write};
+use std::process::Abort;
+
+const SHIP: &[u8] =
+    b"[[blocks]]\nkg = 8200000\nx_mm = 50000\ny_mm = 0\nz_mm = 6000\nhalf_mm = 50000\n";
+
+const HEAVY: &[u8] =
+    b"[[blocks]]\nkg = 12300001\nx_mm = 50000\ny_mm = 0\nz_mm = 6000\nhalf_mm = 50000\n";
+
+const CELLS: &[u8] = b"cell,x,y,z,half\n0030082,50000,0,10000,3029\n";
+
+const HYDRO: &[u8] =
+    b"kg,draught,kmt,lcb,lcf,mct\n4100000,2000,17667,50000,50000,17000000\n8200000,4000,10333,50000,50000,17000000\n12300000,6000,8556,50000,50000,17000000\n";
+
+const PLAN: &[u8] = b"UNB+UNOA:2+SHIP+PLAN+250101:1200+7'UNH+1+BAPLIE:D:95B:UN'UNT+2+1'UNZ+1+7'";
+
+const REPORT: &str = "STEP LIFT KG GM MEAN\n0 - 8200000 4333 4000\n";
+
+/// What a file of a test gives.
+#[derive(Clone, Copy)]
+enum Content {
+    Bytes(&'static [u8]),
+    /// Opens, and fails when it is read.
+    Broken,
+    /// Gives this many spaces.
+    Spaces(usize),
+    /// Spaces without an end.
+    Endless,
+    /// Can't be opened.
+    Closed(Unopened),
+}
+
+/// A file of a test, and how many bytes of it were read.
+#[derive(Drop)]
+struct Opened {
+    content: Content,
+    read: usize,
+}
+
+/// Fills the front of `buffer` with spaces, at most `most`.
+fn spaces(buffer: &mut [u8], most: usize) -> usize {
+    let mut count = 0;
+    for byte in buffer.iter_mut() {
+        if count >= most {
+            break;
+        }
+        *byte = b' ';
+        count = count.saturating_add(1);
+    }
+    count
+}
+
+impl Read for Opened {
+    fn read(&mut self, buffer: &mut [u8]) -> io::Result<usize> {
+        let count = match self.content {
+            Content::Bytes(bytes) => match bytes.get(self.read..) {
+                Some(mut rest) => rest.read(buffer)?,
+                None => 0,
+            },
+            Content::Spaces(all) => spaces(buffer, all.saturating_sub(self.read)),
+            Content::Endless => spaces(buffer, usize::MAX),
+            Content::Broken | Content::Closed(_) => {
+                return Err(io::Error::from(ErrorKind::PermissionDenied));
+            }
+        };
+        self.read = self.read.saturating_add(count);
+        Ok(count)
+    }
+}
+
+/// The files of a test by their names.
+#[derive(Drop)]
+struct Memory<'a> {
+    files: &'a [(&'a str, Content)],
+}
+
+impl<'a> Readers for Memory<'a> {
+    type File = Opened;
+
+    fn file(&mut self, name: &str) -> Result<Opened, Unopened> {
+        for (known, content) in self.files {
+            if *known == name {
+                return match *content {
+                    Content::Closed(unopened) => Err(unopened),
+                    content => Ok(Opened { content, read: 0 }),
+                };
+            }
+        }
+        Err(Unopened::Missing)
+    }
+}
+
+/// A writer that takes no byte.
+#[derive(Drop)]
+struct Full;
+
+impl Write for Full {
+    fn write(&mut self, _: &[u8]) -> io::Result<usize> {
+        Err(io::Error::from(ErrorKind::WriteZero))
+    }
+
+    fn flush(&mut self) -> io::Result<()> {
+        Ok(())
+    }
+}
+
+const WORDS: [&str; 4] = ["check", "box", "plan.edi", "moves.edi"];
+
+/// The files of the box ship, with one of them replaced.
+fn with<'a>(name: &'a str, content: Content) -> [(&'a str, Content); 5] {
+    [
+        (name, content),
+        ("box/ship.toml", Content::Bytes(SHIP)),
+        ("box/cells.csv", Content::Bytes(CELLS)),
+        ("box/hydro.csv", Content::Bytes(HYDRO)),
+        ("plan.edi", Content::Bytes(PLAN)),
+    ]
+}
+
+/// A run with these files and words ends so, and writes this to `out` and `err`.
+fn check(
+    rt: &(impl Abort + AllocGlobal),
+    files: &[(&str, Content)],
+    words: &[&str],
+    expected: (u8, &str, &str),
+) {
+    let mut out = Vec::new(rt.alloc());
+    let mut err = Vec::new(rt.alloc());
+    let status = serve(rt.alloc(), &mut Memory { files }, words, &mut out, &mut err);
+    assert_eq!(rt; status, expected.0, "{}", expected.2);
+    assert_eq!(rt; out.as_slice(), expected.1.as_bytes());
+    assert_eq!(rt; err.as_slice(), expected.2.as_bytes());
+}
+
+#[test]
+fn statuses(rt: HostRuntime) {
+    check(
+        &rt,
+        &with("box/ship.toml", Content::Bytes(SHIP)),
+        &WORDS,
+        (0, REPORT, ""),
+    );
+    check(
+        &rt,
+        &with("box/ship.toml", Content::Bytes(HEAVY)),
+        &WORDS,
+        (1, "STEP LIFT KG GM MEAN\n0 - 12300001 OUTSIDE HYDRO\n", ""),
+    );
+}
+
+#[test]
+fn refusals(rt: HostRuntime) {
+    for (name, text, line) in [
+        ("box/ship.toml", b"".as_slice(), "refused F1 P2 blocks\n"),
+        ("box/ship.toml", b"\x00\xff".as_slice(), "refused F1 P1\n"),
+        ("box/ship.toml", CELLS, "refused F1 P1\n"),
+        (
+            "box/cells.csv",
+            b"".as_slice(),
+            "refused F1 P13 cells.csv\n",
+        ),
+        ("box/cells.csv", HYDRO, "refused F1 P4 cells.csv 1\n"),
+        (
+            "box/hydro.csv",
+            b"kg\n".as_slice(),
+            "refused F1 P4 hydro.csv 1\n",
+        ),
+        ("plan.edi", b"".as_slice(), "refused F2 M1 E1 at 0\n"),
+        ("plan.edi", SHIP, "refused F2 M1 E1 at 74\n"),
+        (
+            "plan.edi",
+            b"UNB+UNOA:2+S+P+1:1+7'UNH+1+BAPLIE:D:95B:UN'LOC+147+0990082'MEA+WT++KGM:1'UNT+4+1'UNZ+1+7'".as_slice(),
+            "refused F3 S1 item 1\n",
+        ),
+    ] {
+        check(
+            &rt,
+            &with(name, Content::Bytes(text)),
+            &WORDS,
+            (2, "", line),
+        );
+    }
+}
+
+#[test]
+fn words(rt: HostRuntime) {
+    let files = with("box/ship.toml", Content::Bytes(SHIP));
+    let usage = "usage: loadseq check FOLDER BAPLIE MOVINS\n";
+    check(&rt, &files, &[], (3, "", usage));
+    check(&rt, &files, &["report"], (3, "", usage));
+    check(&rt, &files, &["--help"], (3, "", usage));
+    let wrong: [&[&str]; 4] = [
+        &["check"],
+        &["check", "box", "plan.edi"],
+        &["check", "box", "plan.edi", "moves.edi", "more"],
+        &["check", "--help"],
+    ];
+    for words in wrong {
+        let mut out = Vec::new(rt.alloc());
+        let mut err = Vec::new(rt.alloc());
+        let status = serve(
+            rt.alloc(),
+            &mut Memory { files: &files },
+            words,
+            &mut out,
+            &mut err,
+        );
+        assert_eq!(rt; status, 3);
+        assert!(rt; out.is_empty());
+        assert!(rt; !err.is_empty());
+    }
+}
+
+// The files are read in their order before anything is checked; the first that isn't read ends the run.
+#[test]
+fn unread_files(rt: HostRuntime) {
+    for name in [
+        "box/ship.toml",
+        "box/cells.csv",
+        "box/hydro.csv",
+        "plan.edi",
+    ] {
+        let line = match name {
+            "box/ship.toml" => "read fault box/ship.toml\n",
+            "box/cells.csv" => "read fault box/cells.csv\n",
+            "box/hydro.csv" => "read fault box/hydro.csv\n",
+            _ => "read fault plan.edi\n",
+        };
+        for content in [
+            Content::Broken,
+            Content::Closed(Unopened::Missing),
+            Content::Closed(Unopened::Failed),
+        ] {
+            check(&rt, &with(name, content), &WORDS, (5, "", line));
+        }
+        check(
+            &rt,
+            &with(name, Content::Closed(Unopened::NoMemory)),
+            &WORDS,
+            (4, "", "no memory\n"),
+        );
+    }
+    let bad_ship = [("box/ship.toml", Content::Bytes(b"="))];
+    check(
+        &rt,
+        &bad_ship,
+        &WORDS,
+        (5, "", "read fault box/cells.csv\n"),
+    );
+}
+
+#[test]
+fn longest_file(rt: HostRuntime) {
+    check(
+        &rt,
+        &with("plan.edi", Content::Spaces(LIMIT)),
+        &WORDS,
+        (2, "", "refused F2 M1 E1 at 67108864\n"),
+    );
+    for content in [Content::Spaces(LIMIT + 1), Content::Endless] {
+        check(
+            &rt,
+            &with("plan.edi", content),
+            &WORDS,
+            (5, "", "read fault plan.edi\n"),
+        );
+    }
+}
+
+#[test]
+fn failing_outputs(rt: HostRuntime) {
+    let files = with("box/ship.toml", Content::Bytes(SHIP));
+    let mut err = Vec::new(rt.alloc());
+    let status = serve(
+        rt.alloc(),
+        &mut Memory { files: &files },
+        &WORDS,
+        &mut Full,
+        &mut err,
+    );
+    assert_eq!(rt; status, 5);
+    assert_eq!(rt; err.as_slice(), b"write fault\n".as_slice());
+    let mut out = Vec::new(rt.alloc());
+    let status = serve(
+        rt.alloc(),
+        &mut Memory { files: &[] },
+        &WORDS,
+        &mut out,
+        &mut Full,
+    );
+    assert_eq!(rt; status, 5);
+    assert!(rt; out.is_empty());
+}

@@ -1,0 +1,26 @@
+use Rattle.std.proofs.Common.{rules, ℕ, ◌+◌, ◌^◌, ℤ, pos, ◌≤ℤ◌, List, FitsSigned, to_z-of_z, arith}
+use Rattle.std.specs.Int.{w128}
+use Rattle.units_core.proofs.Signed.{signed_arith, one_part}
+use Rattle.units_core.specs.Interpolation.{at, Encloses, IsPositive, IsWithin}
+use Rattle.seq_report.proofs.floating.figures_of.Goals as goal
+
+-- a displacement within the table is one of the table's sizes
+within_table : (xs : List ℤ) (i : ℕ) (kg : ℤ) → Encloses xs i kg → IsPositive xs → IsWithin (10 ^ 9) xs → (pos 1 ≤ℤ kg) × (kg ≤ℤ pos (10 ^ 9))
+within_table xs i kg e p w =
+    let low = p i (omega (arith, e.inside)) in
+    let high = w (i + 1) in
+    (omega (arith, signed_arith, low, e.from), omega (arith, signed_arith, one_part (at xs (i + 1)), high, e.to))
+
+pub metacentric_height-requires-clause-kg_low : goal.metacentric_height-requires-clause-kg_low
+metacentric_height-requires-clause-kg_low c =
+    let fits : FitsSigned w128 c.args.sum.now.kg = search rules in
+    let exact = simp to_z-of_z at c.in-Some.ensures.exact in
+    let table = c.kg-displacements.ensures in
+    (within_table c.kg-displacements.result.now c.in-Some.i c.args.sum.now.kg exact (rw table.value table.sound.kg_positive) (rw table.value table.sound.kg_within)).0
+
+pub metacentric_height-requires-clause-kg_high : goal.metacentric_height-requires-clause-kg_high
+metacentric_height-requires-clause-kg_high c =
+    let fits : FitsSigned w128 c.args.sum.now.kg = search rules in
+    let exact = simp to_z-of_z at c.in-Some.ensures.exact in
+    let table = c.kg-displacements.ensures in
+    (within_table c.kg-displacements.result.now c.in-Some.i c.args.sum.now.kg exact (rw table.value table.sound.kg_positive) (rw table.value table.sound.kg_within)).1

@@ -1,0 +1,5 @@
+pub mod Arrival
+pub mod Floating
+pub mod Refusal
+pub mod Report
+pub mod Sums

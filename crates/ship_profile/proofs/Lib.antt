@@ -1,0 +1,10 @@
+pub mod Examples
+pub mod MeaningLemmas
+pub mod NumberLemmas
+pub mod OutcomeLemmas
+pub mod PlaceLemmas
+pub mod ReadingLemmas
+pub mod RowLemmas
+pub mod ShipLemmas
+pub mod SoundLemmas
+pub mod TableLemmas

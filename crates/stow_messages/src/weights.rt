@@ -1,0 +1,96 @@
+ghost use Rattle.std.specs.Prelude.{◌≡◌, ◌==◌, ◌<◌, ◌≤◌, ◌^◌, length};
+ghost use Rattle.std.specs.Char.{is_ascii_digit};
+ghost use Rattle.std.specs.List.{list_all};
+ghost use Rattle.std.specs.Str.Parse.{digits_value};
+ghost use Rattle.edifact_text.specs.Views.{meant};
+ghost use Rattle.stow_messages.specs.Weights.{kg_in, kg_of, digits_of, behind_digits, is_fraction, is_above_zero, begins_with_digit};
+
+use arrayvec::ArrayVec;
+use edifact_text::Raw;
+use units_core::Kg;
+
+/// The number that the digits in front write, and what stands behind them.
+fn leading_number(text: &[u8]) -> (u128, &[u8])
+    requires { length text.now ≤ 35 }
+    ensures number { result.0 ≡ digits_value 10 (digits_of text.now) }
+    ensures behind { result.1.now ≡ behind_digits text.now }
+    ensures small { result.0 < 10 ^ 35 }
+{
+    let mut number: u128 = 0;
+    for (at, byte) in text.iter().enumerate() {
+        if !byte.is_ascii_digit() {
+            return (number, &text[at..]);
+        }
+        number = 10 * number + u128::from(*byte - b'0');
+    }
+    (number, &[])
+}
+
+/// All of the bytes are digits.
+fn are_digits(bytes: &[u8]) -> bool
+    ensures { result ≡ list_all is_ascii_digit bytes.now }
+{
+    bytes.iter().all(|byte| byte.is_ascii_digit())
+}
+
+/// All of the bytes are the digit 0.
+fn are_zeros(bytes: &[u8]) -> bool
+    ensures { result ≡ list_all (λ b. b == 48) bytes.now }
+{
+    bytes.iter().all(|byte| *byte == b'0')
+}
+
+/// Nothing, or a mark and digits.
+fn is_fraction(text: &[u8], mark: u8) -> bool
+    ensures { result ≡ is_fraction mark text.now }
+{
+    match text {
+        [] => true,
+        [first, digits @ ..] => {
+            (*first == b'.' || *first == b',' || *first == mark) && are_digits(digits)
+        }
+    }
+}
+
+/// Behind the mark stands a digit other than 0.
+fn is_above_zero(text: &[u8]) -> bool
+    ensures { result ≡ is_above_zero text.now }
+{
+    match text {
+        [] => false,
+        [_, digits @ ..] => !are_zeros(digits),
+    }
+}
+
+/// The mass that a text of at most 35 bytes writes.
+fn kilograms_of(text: &[u8], mark: u8) -> Option<Kg>
+    requires { length text.now ≤ 35 }
+    ensures { result ≡ kg_of mark text.now }
+{
+    let first = text.first()?;
+    if !first.is_ascii_digit() {
+        return None;
+    }
+    let (number, fraction) = leading_number(text);
+    if !is_fraction(fraction, mark) {
+        return None;
+    }
+    let rounded = if is_above_zero(fraction) {
+        number + 1
+    } else {
+        number
+    };
+    Kg::new(u32::try_from(rounded).ok()?)
+}
+
+/// The mass in kg that a value writes, a fraction rounded up by its digits alone; `None` for what is no
+/// number, over 35 bytes long, or above 999,999 kg. `mark` is the interchange's decimal mark.
+pub fn kilograms(value: Raw<'_>, mark: u8) -> Option<Kg>
+    ensures { result ≡ kg_in mark (meant value.entry) }
+{
+    let mut text: ArrayVec<u8, 35> = ArrayVec::new();
+    if !value.literal_into(&mut text) {
+        return None;
+    }
+    kilograms_of(text.as_slice(), mark)
+}

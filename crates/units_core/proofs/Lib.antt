@@ -1,0 +1,4 @@
+pub mod Signed
+pub mod Order
+pub mod Ring
+pub mod Ratios

@@ -1,0 +1,4 @@
+pub mod Bodies
+pub mod Cells
+pub mod Interpolation
+pub mod Ratio
