@@ -5,6 +5,8 @@ use Rattle.edifact_text.specs.declared.faults.EdiCode.TheVariants.{Truncated, Ba
 use Rattle.edifact_text.specs.Interchange.{component}
 use Rattle.edifact_text.specs.Rows.{is_text}
 use Rattle.edifact_text.specs.Reading.{opened, segment_of}
+use Rattle.edifact_text.specs.Faults.{IsMessage, IsFault}
+use Rattle.edifact_text.proofs.OpenedLemmas.{message_is, fault_is}
 
 empty_plan : opened Baplie (codes "UNB+UNOA:2+SHIP+PLAN+250101:1200+7'UNH+1+BAPLIE:D:95B:UN'UNT+2+1'UNZ+1+7'") ≡ Ok (record {
   mark = 46;
@@ -90,3 +92,10 @@ no_terminator = refl
 another_tag : opened Baplie (codes " XYZ'") ≡ Err (record { code = NoUnb; place = 1 })
 unfolding opened segment_of component is_text
 another_tag = refl
+
+-- By the law, the first of them is a message by the definition, and the cut one has that fault.
+empty_plan_is : IsMessage Baplie (codes "UNB+UNOA:2+SHIP+PLAN+250101:1200+7'UNH+1+BAPLIE:D:95B:UN'UNT+2+1'UNZ+1+7'") 46 []
+empty_plan_is = message_is Baplie (codes "UNB+UNOA:2+SHIP+PLAN+250101:1200+7'UNH+1+BAPLIE:D:95B:UN'UNT+2+1'UNZ+1+7'") (record { mark = 46; segments = [] }) empty_plan
+
+cut_is : IsFault Baplie (codes "XYZ") (record { code = Truncated; place = 3 })
+cut_is = fault_is Baplie (codes "XYZ") (record { code = Truncated; place = 3 }) no_terminator

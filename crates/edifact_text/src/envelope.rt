@@ -77,14 +77,15 @@ fn trailer<'a>(cursor: Cursor<'a>) -> Result<Ended<'a>, EdiFault>
     let mut number: u64 = 2;
     'segments: loop {
         let (text, behind) = left.next()?;
-        if text.has(0, 0, b"UNT") {
+        let trailers = text.trailers();
+        if trailers.message {
             return Ok(Ended {
                 trailer: text,
                 number,
                 behind,
             });
         }
-        text.fault(text.has(0, 0, b"UNZ"), EdiCode::SegmentCount)?;
+        text.fault(trailers.interchange, EdiCode::SegmentCount)?;
         left = behind;
         number += 1;
     }

@@ -1,4 +1,5 @@
 ghost use Rattle.std.specs.Prelude.{◌≡◌, ◌↔◌, ◌<◌, ◌≤◌, IsTrue, IfSome, MatchOption, length, [], ◌∷◌};
+ghost use Rattle.edifact_text.specs.Rows.{is_text};
 ghost use Rattle.edifact_text.specs.Pieces.{literal};
 ghost use Rattle.edifact_text.specs.Views.{meant};
 
@@ -110,6 +111,14 @@ impl<'a> Raw<'a> {
             }
         }
         left.is_empty()
+    }
+
+    /// The literal is this text, for definitions that compute.
+    #[tactic(auto, using(crate::proofs::Texts::told))]
+    pub(crate) fn reads(self, text: &[u8]) -> bool
+        ensures { result ≡ is_text (meant self.entry) text.now }
+    {
+        self.is(text)
     }
 
     /// The literal is empty.

@@ -1,13 +1,33 @@
 //! The envelope's rows of the fault table, in their order.
-ghost use Rattle.std.specs.Prelude.{◌≡◌};
-ghost use Rattle.edifact_text.specs.Stages.{unb_rows, unh_rows, unt_rows, unz_rows, is_of_type};
+ghost use Rattle.std.specs.Prelude.{◌≡◌, codes};
+ghost use Rattle.edifact_text.specs.Rows.{is_text};
+ghost use Rattle.edifact_text.specs.Stages.{unb_rows, unh_rows, unt_rows, unz_rows, is_of_type, part};
 ghost use Rattle.edifact_text.specs.Views.{seen};
 
 use crate::faults::{EdiCode, EdiFault, Kind};
 use crate::numbers::is_one;
 use crate::segment_text::SegmentText;
 
+/// Which of the two trailers a segment is, by its tag.
+#[derive(Clone, Copy)]
+pub(crate) struct Trailers {
+    pub(crate) message: bool,
+    pub(crate) interchange: bool,
+}
+
 impl SegmentText<'_> {
+    /// Whether it is a trailer. The tag is looked for once.
+    pub(crate) fn trailers(self) -> Trailers
+        ensures message { result.message ≡ is_text (part self.entry.service self.entry.bytes.now 0 0) (codes "UNT") }
+        ensures interchange { result.interchange ≡ is_text (part self.entry.service self.entry.bytes.now 0 0) (codes "UNZ") }
+    {
+        let tag = self.component(0, 0);
+        Trailers {
+            message: tag.reads(b"UNT"),
+            interchange: tag.reads(b"UNZ"),
+        }
+    }
+
     /// The interchange header.
     pub(crate) fn unb_rows(self) -> Result<(), EdiFault>
         ensures { result ≡ unb_rows self.entry.service (seen self.entry) }

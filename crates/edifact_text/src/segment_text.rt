@@ -36,11 +36,10 @@ impl<'a> SegmentText<'a> {
     }
 
     /// Component `j` of element `i` has this literal.
-    #[tactic(auto, using(crate::proofs::Texts::told))]
     pub(crate) fn has(self, i: usize, j: usize, text: &[u8]) -> bool
         ensures { result ≡ is_text (part self.entry.service self.entry.bytes.now i j) text.now }
     {
-        self.component(i, j).is(text)
+        self.component(i, j).reads(text)
     }
 
     /// Component `j` of element `i` has the literal of the other's component `l` of element `k`.

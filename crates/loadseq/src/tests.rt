@@ -1,3 +1,5 @@
+ghost use Rattle.std.specs.Prelude.{◌≤◌, IfOk, length};
+
 use crate::files::{LIMIT, Readers, Unopened};
 use crate::serving::serve;
 use std::io;
@@ -40,32 +42,46 @@ struct Opened {
     read: usize,
 }
 
-/// Fills the front of `buffer` with spaces, at most `most`.
-fn spaces(buffer: &mut [u8], most: usize) -> usize {
-    let mut count = 0;
+/// Fills the front of `buffer` with spaces, at most `most`, and says how many.
+fn spaces(buffer: &mut [u8], most: usize) -> usize
+    ensures { result ≤ length buffer.old }
+{
+    let count = buffer.len().min(most);
     for byte in buffer.iter_mut() {
-        if count >= most {
-            break;
-        }
         *byte = b' ';
-        count = count.saturating_add(1);
     }
     count
 }
 
+/// Reads the bytes that are left, and says how many.
+fn bytes_left(bytes: &[u8], read: usize, buffer: &mut [u8]) -> io::Result<usize>
+    ensures { IfOk result (λ count. count ≤ length buffer.old) }
+{
+    match bytes.get(read..) {
+        Some(mut rest) => rest.read(buffer),
+        None => Ok(0),
+    }
+}
+
+impl Opened {
+    /// Fills the front of `buffer` as the content says.
+    fn fill(&self, buffer: &mut [u8]) -> io::Result<usize>
+        ensures { IfOk result (λ count. count ≤ length buffer.old) }
+    {
+        match self.content {
+            Content::Bytes(bytes) => bytes_left(bytes, self.read, buffer),
+            Content::Spaces(all) => Ok(spaces(buffer, all.saturating_sub(self.read))),
+            Content::Endless => Ok(spaces(buffer, usize::MAX)),
+            Content::Broken | Content::Closed(_) => {
+                Err(io::Error::from(ErrorKind::PermissionDenied))
+            }
+        }
+    }
+}
+
 impl Read for Opened {
     fn read(&mut self, buffer: &mut [u8]) -> io::Result<usize> {
-        let count = match self.content {
-            Content::Bytes(bytes) => match bytes.get(self.read..) {
-                Some(mut rest) => rest.read(buffer)?,
-                None => 0,
-            },
-            Content::Spaces(all) => spaces(buffer, all.saturating_sub(self.read)),
-            Content::Endless => spaces(buffer, usize::MAX),
-            Content::Broken | Content::Closed(_) => {
-                return Err(io::Error::from(ErrorKind::PermissionDenied));
-            }
-        };
+        let count = self.fill(buffer)?;
         self.read = self.read.saturating_add(count);
         Ok(count)
     }
@@ -125,14 +141,22 @@ fn check(
     rt: &(impl Abort + AllocGlobal),
     files: &[(&str, Content)],
     words: &[&str],
-    expected: (u8, &str, &str),
+    status: u8,
+    report: &str,
+    line: &str,
 ) {
     let mut out = Vec::new(rt.alloc());
     let mut err = Vec::new(rt.alloc());
-    let status = serve(rt.alloc(), &mut Memory { files }, words, &mut out, &mut err);
-    assert_eq!(rt; status, expected.0, "{}", expected.2);
-    assert_eq!(rt; out.as_slice(), expected.1.as_bytes());
-    assert_eq!(rt; err.as_slice(), expected.2.as_bytes());
+    let ended = serve(
+        rt.alloc(),
+        &mut Memory { files: &*files },
+        words,
+        &mut out,
+        &mut err,
+    );
+    assert_eq!(rt; ended, status, "{line}");
+    assert_eq!(rt; out.as_slice(), report.as_bytes());
+    assert_eq!(rt; err.as_slice(), line.as_bytes());
 }
 
 #[test]
@@ -141,13 +165,17 @@ fn statuses(rt: HostRuntime) {
         &rt,
         &with("box/ship.toml", Content::Bytes(SHIP)),
         &WORDS,
-        (0, REPORT, ""),
+        0,
+        REPORT,
+        "",
     );
     check(
         &rt,
         &with("box/ship.toml", Content::Bytes(HEAVY)),
         &WORDS,
-        (1, "STEP LIFT KG GM MEAN\n0 - 12300001 OUTSIDE HYDRO\n", ""),
+        1,
+        "STEP LIFT KG GM MEAN\n0 - 12300001 OUTSIDE HYDRO\n",
+        "",
     );
 }
 
@@ -176,12 +204,7 @@ fn refusals(rt: HostRuntime) {
             "refused F3 S1 item 1\n",
         ),
     ] {
-        check(
-            &rt,
-            &with(name, Content::Bytes(text)),
-            &WORDS,
-            (2, "", line),
-        );
+        check(&rt, &with(name, Content::Bytes(text)), &WORDS, 2, "", line);
     }
 }
 
@@ -189,9 +212,9 @@ fn refusals(rt: HostRuntime) {
 fn words(rt: HostRuntime) {
     let files = with("box/ship.toml", Content::Bytes(SHIP));
     let usage = "usage: loadseq check FOLDER BAPLIE MOVINS\n";
-    check(&rt, &files, &[], (3, "", usage));
-    check(&rt, &files, &["report"], (3, "", usage));
-    check(&rt, &files, &["--help"], (3, "", usage));
+    check(&rt, &files, &[], 3, "", usage);
+    check(&rt, &files, &["report"], 3, "", usage);
+    check(&rt, &files, &["--help"], 3, "", usage);
     let wrong: [&[&str]; 4] = [
         &["check"],
         &["check", "box", "plan.edi"],
@@ -234,22 +257,19 @@ fn unread_files(rt: HostRuntime) {
             Content::Closed(Unopened::Missing),
             Content::Closed(Unopened::Failed),
         ] {
-            check(&rt, &with(name, content), &WORDS, (5, "", line));
+            check(&rt, &with(name, content), &WORDS, 5, "", line);
         }
         check(
             &rt,
             &with(name, Content::Closed(Unopened::NoMemory)),
             &WORDS,
-            (4, "", "no memory\n"),
+            4,
+            "",
+            "no memory\n",
         );
     }
     let bad_ship = [("box/ship.toml", Content::Bytes(b"="))];
-    check(
-        &rt,
-        &bad_ship,
-        &WORDS,
-        (5, "", "read fault box/cells.csv\n"),
-    );
+    check(&rt, &bad_ship, &WORDS, 5, "", "read fault box/cells.csv\n");
 }
 
 #[test]
@@ -258,14 +278,18 @@ fn longest_file(rt: HostRuntime) {
         &rt,
         &with("plan.edi", Content::Spaces(LIMIT)),
         &WORDS,
-        (2, "", "refused F2 M1 E1 at 67108864\n"),
+        2,
+        "",
+        "refused F2 M1 E1 at 67108864\n",
     );
     for content in [Content::Spaces(LIMIT + 1), Content::Endless] {
         check(
             &rt,
             &with("plan.edi", content),
             &WORDS,
-            (5, "", "read fault plan.edi\n"),
+            5,
+            "",
+            "read fault plan.edi\n",
         );
     }
 }

@@ -1,10 +1,11 @@
-ghost use Rattle.std.specs.Prelude.{◌≡◌, ◌≢◌, ◌≤◌, ◌^◌, ◌≤ℤ◌, pos, unsigned_abs, Ok, Err, IfOk, IfErr, option_map};
+ghost use Rattle.std.specs.Prelude.{◌≡◌, ◌≢◌, ◌≤ℤ◌, Ok, Err, IfOk, IfErr, option_map};
 ghost use Rattle.toml.specs.Data.{get_member};
 ghost use Rattle.toml.specs.View.{view, items_view, table_view};
 ghost use Rattle.ship_profile.specs.Outcome.{each};
 ghost use Rattle.ship_profile.specs.Ship.{number_in_table, length_in_table, block_of, blocks_of, blocks_in, items_in};
 
 use crate::faults::{File, Key, ProfileFault};
+use crate::numbers::length;
 use std::alloc::Global;
 use toml::{Table, Value};
 use units_core::{Body, Mm, Place};
@@ -50,14 +51,6 @@ fn number_in_table(
             }
         }
     }
-}
-
-/// The length of so many millimetres.
-pub fn length(mm: i64) -> Mm
-    requires { unsigned_abs mm ≤ 10 ^ 6 }
-    ensures { result ≡ mm }
-{
-    Mm::new(mm as i32).unwrap()
 }
 
 /// The length at a name, at most 10^6 mm either way.

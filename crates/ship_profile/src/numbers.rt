@@ -1,5 +1,7 @@
-ghost use Rattle.std.specs.Prelude.{◌≡◌, ◌<◌, ◌^◌, IfSome};
+ghost use Rattle.std.specs.Prelude.{◌≡◌, ◌<◌, ◌≤◌, ◌^◌, IfSome, unsigned_abs};
 ghost use Rattle.ship_profile.specs.Numbers.{after_spaces, before_spaces, natural_in, number_in};
+
+use units_core::Mm;
 
 /// The greatest number of digits.
 const MAX_DIGITS: usize = 18;
@@ -61,4 +63,12 @@ pub fn number(text: &[u8]) -> Option<i64>
             None => None,
         },
     }
+}
+
+/// The length of so many millimetres.
+pub fn length(mm: i64) -> Mm
+    requires { unsigned_abs mm ≤ 10 ^ 6 }
+    ensures { result ≡ mm }
+{
+    Mm::new(mm as i32).unwrap()
 }

@@ -3,9 +3,9 @@ ghost use Rattle.std.specs.Map.{lookup};
 ghost use Rattle.units_core.specs.Cells.{cell_eq};
 ghost use Rattle.ship_profile.specs.Record.{IsPlace, place_at, places_in};
 
-use crate::blocks::length;
 use crate::faults::ProfileFault;
 use crate::forms::cells_layout;
+use crate::numbers::length;
 use crate::rows::Row;
 use crate::tables::read_table;
 use indexmap::IndexSet;

@@ -1,6 +1,6 @@
-ghost use Rattle.std.specs.Prelude.{◌≡◌, ◌≢◌, ◌≤◌, ◌+◌, ◌-◌, ◌∷◌, [], ◌++◌, List, length, slice_get, int_lt, ◌-ℤ◌, OnOk, IfOk, IfErr, Ok, Err};
+ghost use Rattle.std.specs.Prelude.{◌≡◌, ◌≢◌, ◌≤◌, ◌+◌, ◌-◌, List, length, slice_get, int_lt, ◌-ℤ◌, OnOk, IfOk, IfErr, Ok, Err};
 ghost use Rattle.csv.specs.Records.{fields_of};
-ghost use Rattle.ship_profile.specs.Reading.{Fields, HasLeft, records_of};
+ghost use Rattle.ship_profile.specs.Reading.{Fields, HasLeft};
 ghost use Rattle.ship_profile.specs.Tables.{form_of, rise_fault, double_fault, rule_fault, seen_by, remembered, HasGathered, kept, added, rows_under, rows_of, table_in};
 
 use crate::faults::{File, ProfileFault};

@@ -1,3 +1,6 @@
+pub mod Entries
+pub mod Groups
 pub mod Items
+pub mod Lifts
 pub mod Views
 pub mod Weights

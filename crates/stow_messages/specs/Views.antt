@@ -1,8 +1,14 @@
 -- The code's values, as the definitions see them.
-use Rattle.std.specs.Prelude.{option_map}
-use Rattle.edifact_text.specs.Views.{numbered_view}
+use Rattle.std.specs.Prelude.{List, ◌∷◌, Option, None, Some, option_map}
+use Rattle.edifact_text.specs.Interchange.{Numbered}
+use Rattle.edifact_text.specs.Views.{numbered_view, left_of}
 use Rattle.stow_messages.specs.declared.groups.Group.{Group}
-use Rattle.stow_messages.specs.Items.{Found}
+use Rattle.stow_messages.specs.declared.parts.Part as declared
+use Rattle.stow_messages.specs.declared.parts.Part.TheVariants as code
+use Rattle.stow_messages.specs.declared.parts.Parts.{Parts}
+use Rattle.stow_messages.specs.Groups.{Found, Part, Handled, Located, is_equipment, is_verified, is_gross, first_of, until_part, parts_of}
+use Rattle.std.specs.Option.{option_or}
+use Rattle.std.specs.Prelude.{find, Bool}
 
 abbrev pub found_view : Group → Found
 found_view g = record {
@@ -11,3 +17,28 @@ found_view g = record {
   verified = option_map numbered_view g.verified;
   gross = option_map numbered_view g.gross;
 }
+
+abbrev pub part_view : declared.Part → Part
+part_view (code.Handled s) = Handled (numbered_view s)
+part_view (code.Located g) = Located (found_view g)
+
+-- a part that was begun, with the segments behind it
+abbrev pub more_found : Found → List Numbered → Found
+more_found f behind = record {
+  location = f.location;
+  equipment = option_or f.equipment (find is_equipment behind);
+  verified = option_or f.verified (find is_verified behind);
+  gross = option_or f.gross (find is_gross behind);
+}
+
+abbrev pub more_part : Part → List Numbered → Part
+more_part (Handled s) behind = Handled s
+more_part (Located f) behind = Located (more_found f behind)
+
+-- the parts that are left: the one that was begun, and those of the segments that are left
+abbrev pub parts_from : Bool → Option Part → List Numbered → List Part
+parts_from handles None segments = parts_of handles segments
+parts_from handles (Some begun) segments = more_part begun (until_part handles segments) ∷ parts_of handles segments
+
+abbrev pub parts_left : Parts → List Part
+parts_left parts = parts_from parts.handles (option_map part_view parts.begun) (left_of parts.left)

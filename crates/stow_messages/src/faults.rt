@@ -1,8 +1,10 @@
+ghost use Rattle.std.specs.Prelude.{◌≡◌};
+
 use edifact_text::EdiFault;
 use std::fmt;
 use thiserror::Error;
 
-/// Why a text is no bay plan. The display is the code of the cause, M1 to M10.
+/// Why a text is no bay plan, or no movement instruction. The display is the code of the cause, M1 to M10.
 #[derive(Clone, Copy, Debug, PartialEq, Eq, Error)]
 pub enum StowCode {
     /// The text isn't the interchange of one such message.
@@ -23,7 +25,13 @@ pub enum StowCode {
     /// A container without a weight.
     #[error("M6")]
     NoWeight,
-    /// More items than the program takes.
+    /// In a movement instruction a location of a cell before any handling.
+    #[error("M7")]
+    LiftWithoutHandling,
+    /// A handling other than `LOA` and `DIS`.
+    #[error("M8")]
+    UnknownHandling,
+    /// More items, or more lifts, than the program takes.
     #[error("M9")]
     TooMany,
     /// Want of memory.
@@ -37,6 +45,24 @@ pub enum StowCode {
 pub struct StowFault {
     pub code: StowCode,
     pub segment: u64,
+}
+
+/// Want of memory.
+pub const NO_MEMORY: StowFault = StowFault {
+    code: StowCode::NoMemory,
+    segment: 0,
+};
+
+impl StowFault {
+    /// The fault of a text that isn't the interchange of such a message.
+    pub(crate) fn envelope(fault: EdiFault) -> StowFault
+        ensures { result ≡ record { code = StowCode.Envelope fault; segment = 0 } }
+    {
+        StowFault {
+            code: StowCode::Envelope(fault),
+            segment: 0,
+        }
+    }
 }
 
 impl fmt::Display for StowFault {

@@ -1,6 +1,8 @@
 ghost use Rattle.std.specs.Prelude.{◌≡◌};
 ghost use Rattle.edifact_text.specs.Views.{numbered_view};
-ghost use Rattle.stow_messages.specs.Items.{has, is_location, is_equipment, is_verified, is_gross, noted, started, cell_at, id_at, id_of, kg_at, item_in};
+ghost use Rattle.stow_messages.specs.Entries.{cell_at, id_at, id_of, kg_at, item_of};
+ghost use Rattle.stow_messages.specs.Groups.{has, is_location, is_handling, is_equipment, is_verified, is_gross, noted, started};
+ghost use Rattle.stow_messages.specs.Lifts.{names_a_container};
 ghost use Rattle.stow_messages.specs.Views.{found_view};
 
 use crate::faults::{StowCode, StowFault};
@@ -22,7 +24,7 @@ pub struct Group<'a> {
 
 /// Component `j` of element `i` of the segment is this text.
 #[tactic(auto, using(crate::proofs::Texts::told))]
-fn has(segment: &Segment<'_>, i: usize, j: usize, text: &[u8]) -> bool
+pub fn has(segment: &Segment<'_>, i: usize, j: usize, text: &[u8]) -> bool
     ensures { result ≡ has (numbered_view segment.now) i j text.now }
 {
     segment.component(i, j).is(text)
@@ -33,6 +35,13 @@ pub fn is_location(segment: &Segment<'_>) -> bool
     ensures { result ≡ is_location (numbered_view segment.now) }
 {
     has(segment, 0, 0, b"LOC") && has(segment, 1, 0, b"147")
+}
+
+/// The segment is a handling: what is done with the containers of the groups behind it.
+pub fn is_handling(segment: &Segment<'_>) -> bool
+    ensures { result ≡ is_handling (numbered_view segment.now) }
+{
+    has(segment, 0, 0, b"HAN")
 }
 
 fn is_equipment(segment: &Segment<'_>) -> bool
@@ -54,7 +63,7 @@ fn is_gross(segment: &Segment<'_>) -> bool
 }
 
 /// A fault found at a segment.
-fn fault_at(code: StowCode, segment: &Segment<'_>) -> StowFault
+pub fn fault_at(code: StowCode, segment: &Segment<'_>) -> StowFault
     ensures { result ≡ record { code = code; segment = (numbered_view segment.now).number } }
 {
     StowFault {
@@ -135,8 +144,15 @@ impl<'a> Group<'a> {
         group
     }
 
+    /// The cell of the group.
+    pub fn cell(&self) -> Result<Cell, StowFault>
+        ensures { result ≡ cell_at (found_view self.now).location }
+    {
+        cell_at(&self.location)
+    }
+
     /// The identification of the group's container, which is empty where there is none.
-    fn id(&self) -> Result<ArrayVec<u8, 17>, StowFault>
+    pub fn id(&self) -> Result<ArrayVec<u8, 17>, StowFault>
         ensures { result ≡ id_of (found_view self.now).equipment }
     {
         match self.equipment {
@@ -145,12 +161,23 @@ impl<'a> Group<'a> {
         }
     }
 
-    /// The item of the group, nothing where it has neither a container nor a mass, or its first fault.
-    pub fn item(&self, mark: u8) -> Result<Option<Item>, StowFault>
-        ensures { result ≡ item_in mark (found_view self.now) }
+    /// The group has a container or a mass.
+    pub fn names_a_container(&self) -> bool
+        ensures { result ≡ names_a_container (found_view self.now) }
     {
-        let cell = cell_at(&self.location)?;
-        let id = self.id()?;
+        self.equipment.is_some() || self.verified.is_some() || self.gross.is_some()
+    }
+
+    /// The item of the group's cell and identification, nothing where the group has neither a container nor a
+    /// mass, or its first fault.
+    pub fn item(
+        &self,
+        cell: Cell,
+        id: ArrayVec<u8, 17>,
+        mark: u8,
+    ) -> Result<Option<Item>, StowFault>
+        ensures { result ≡ item_of mark (found_view self.now) cell id }
+    {
         let measure = match self.verified {
             Some(verified) => Some(verified),
             None => self.gross,

@@ -11,16 +11,23 @@ pub struct Item {
     pub kg: Kg,
 }
 
+/// An equal identification.
+pub fn copied(id: &ArrayVec<u8, 17>) -> ArrayVec<u8, 17>
+    ensures { result ≡ id.now }
+{
+    let mut copy = ArrayVec::new();
+    let _ = copy.try_extend_from_slice(id.as_slice());
+    copy
+}
+
 impl Item {
     /// An equal item.
     pub fn copy(&self) -> Item
         ensures { result ≡ self.now }
     {
-        let mut id = ArrayVec::new();
-        let _ = id.try_extend_from_slice(self.id.as_slice());
         Item {
             cell: self.cell,
-            id,
+            id: copied(&self.id),
             kg: self.kg,
         }
     }

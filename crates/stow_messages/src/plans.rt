@@ -1,36 +1,37 @@
 ghost use Rattle.std.specs.Prelude.{◌≡◌, ◌≢◌, ◌≤◌, [], length, Ok, Err, IfOk, IfErr, OnOk};
-ghost use Rattle.edifact_text.specs.Views.{left_of};
-ghost use Rattle.stow_messages.specs.Items.{added, bay_plan, groups, items_from};
-ghost use Rattle.stow_messages.specs.Views.{found_view};
+ghost use Rattle.stow_messages.specs.Items.{added, bay_plan, item_in, items_from};
+ghost use Rattle.stow_messages.specs.Views.{found_view, parts_left};
 
-use crate::faults::{StowCode, StowFault};
-use crate::groups::{Group, is_location};
+use crate::faults::{NO_MEMORY, StowCode, StowFault};
+use crate::groups::{Group, fault_at};
 use crate::items::Item;
-use edifact_text::{Kind, Segments, open};
+use crate::parts::{Part, Parts};
+use edifact_text::{Kind, open};
 use std::alloc::Global;
 
 /// The greatest number of items in a bay plan.
 const MAX_ITEMS: usize = 30_000;
 
-const NO_MEMORY: StowFault = StowFault {
-    code: StowCode::NoMemory,
-    segment: 0,
-};
+/// The item of a group.
+fn item_in(group: &Group<'_>, mark: u8) -> Result<Option<Item>, StowFault>
+    ensures { result ≡ item_in mark (found_view group.now) }
+{
+    let cell = group.cell()?;
+    let id = group.id()?;
+    group.item(cell, id, mark)
+}
 
 /// Adds the item of a group, if it is one.
 fn add(items: &mut Vec<Item>, group: &Group<'_>, mark: u8) -> Result<(), StowFault>
     ensures ok { OnOk result (added mark items.old.items (found_view group.now) ≡ Ok items.new.items) }
     ensures refused { IfErr result (λ e. e.code ≢ StowCode.NoMemory → added mark items.old.items (found_view group.now) ≡ Err e) }
 {
-    let item = match group.item(mark)? {
+    let item = match item_in(group, mark)? {
         Some(item) => item,
         None => return Ok(()),
     };
     if items.len() >= MAX_ITEMS {
-        return Err(StowFault {
-            code: StowCode::TooMany,
-            segment: group.location.number(),
-        });
+        return Err(fault_at(StowCode::TooMany, &group.location));
     }
     if items.push(item).is_err() {
         return Err(NO_MEMORY);
@@ -38,25 +39,17 @@ fn add(items: &mut Vec<Item>, group: &Group<'_>, mark: u8) -> Result<(), StowFau
     Ok(())
 }
 
-/// The items of a message's segments.
-fn items_of(alloc: Global, segments: Segments<'_>, mark: u8) -> Result<Vec<Item>, StowFault>
-    ensures ok { IfOk result (λ items. items_from mark [] (groups (left_of segments.entry)) ≡ Ok items.items) }
-    ensures refused { IfErr result (λ e. e.code ≢ StowCode.NoMemory → items_from mark [] (groups (left_of segments.entry)) ≡ Err e) }
+/// The items of a message's parts.
+fn items_of(alloc: Global, parts: Parts<'_>, mark: u8) -> Result<Vec<Item>, StowFault>
+    ensures ok { IfOk result (λ items. items_from mark [] (parts_left parts.entry) ≡ Ok items.items) }
+    ensures refused { IfErr result (λ e. e.code ≢ StowCode.NoMemory → items_from mark [] (parts_left parts.entry) ≡ Err e) }
 {
     let mut items = Vec::new(alloc);
-    let mut group: Option<Group<'_>> = None;
-    for segment in segments {
-        if is_location(&segment) {
-            if let Some(complete) = group {
-                add(&mut items, &complete, mark)?;
-            }
-            group = Some(Group::at(segment));
-        } else if let Some(begun) = group {
-            group = Some(begun.with(segment));
+    for part in parts {
+        match part {
+            Part::Located(group) => add(&mut items, &group, mark)?,
+            Part::Handled(_) => {}
         }
-    }
-    if let Some(complete) = group {
-        add(&mut items, &complete, mark)?;
     }
     Ok(items)
 }
@@ -69,14 +62,12 @@ pub fn baplie(alloc: Global, bytes: &[u8]) -> Result<Vec<Item>, StowFault>
     ensures refused { IfErr result (λ e. e.code ≢ StowCode.NoMemory → bay_plan bytes.now ≡ Err e) }
     ensures few { IfOk result (λ items. length items.items ≤ 30000) }
 {
-    let message = match open(bytes, Kind::Baplie) {
-        Ok(message) => message,
-        Err(fault) => {
-            return Err(StowFault {
-                code: StowCode::Envelope(fault),
-                segment: 0,
-            });
-        }
-    };
-    items_of(alloc, message.segments(), message.decimal_mark())
+    match open(bytes, Kind::Baplie) {
+        Ok(message) => items_of(
+            alloc,
+            Parts::new(message.segments(), false),
+            message.decimal_mark(),
+        ),
+        Err(fault) => Err(StowFault::envelope(fault)),
+    }
 }

@@ -1,16 +1,13 @@
-use crate::{Item, StowCode, StowFault, baplie};
+use crate::{Item, Lift, StowCode, StowFault, baplie, movins};
 use arrayvec::ArrayVec;
 use std::alloc::{AllocError, Global};
 use std::process::Abort;
 use std::test::Fail;
 use units_core::{Cell, Kg};
 
-/// The bay plan of these segments.
-fn plan(alloc: Global, segments: &[&str]) -> Result<String, AllocError> {
-    let mut text = String::from_str(
-        alloc,
-        "UNB+UNOA:2+SHIP+PLAN+250101:1200+7'UNH+1+BAPLIE:D:95B:UN'",
-    )?;
+/// The message of this name that has these segments.
+fn message(alloc: Global, name: &str, segments: &[&str]) -> Result<String, AllocError> {
+    let mut text = format!(in alloc; "UNB+UNOA:2+SHIP+PLAN+250101:1200+7'UNH+1+{name}:D:95B:UN'")?;
     for segment in segments {
         text.push_str(segment)?;
         text.push_str("'")?;
@@ -19,6 +16,11 @@ fn plan(alloc: Global, segments: &[&str]) -> Result<String, AllocError> {
     let end = format!(in alloc; "UNT+{count}+1'UNZ+1+7'")?;
     text.push_str(end.as_str())?;
     Ok(text)
+}
+
+/// The bay plan of these segments.
+fn plan(alloc: Global, segments: &[&str]) -> Result<String, AllocError> {
+    message(alloc, "BAPLIE", segments)
 }
 
 /// What the answer to a plan prints: its items, or its fault.
@@ -279,5 +281,172 @@ fn most_items(rt: HostRuntime) -> Result<(), Fail> {
     longer.push_str("LOC+147+0030082'MEA+WT++KGM:1'UNT+60005+1'UNZ+1+7'")?;
     let shown = answer(rt.alloc(), longer.as_bytes())?;
     assert_eq!(rt; shown.as_str(), "M9 segment 60003");
+    Ok(())
+}
+
+/// Adds what a lift prints: its kind, cell, identification and mass.
+fn show(alloc: Global, shown: &mut String, lift: &Lift) -> Result<(), AllocError> {
+    let (kind, cell, id) = match lift {
+        Lift::Load(item) => ("L", item.cell, &item.id),
+        Lift::Discharge { cell, id } => ("D", *cell, id),
+    };
+    let Cell { bay, row, tier } = cell;
+    let place = format!(in alloc; "{kind}{bay:03}{row:02}{tier:02}")?;
+    shown.push_str(place.as_str())?;
+    for byte in id.as_slice() {
+        shown.push(char::from(*byte))?;
+    }
+    if let Lift::Load(item) = lift {
+        let kg = item.kg.get();
+        let mass = format!(in alloc; "={kg}")?;
+        shown.push_str(mass.as_str())?;
+    }
+    shown.push_str(" ")
+}
+
+/// What the answer to an instruction prints: its lifts, or its fault.
+fn orders(alloc: Global, text: &[u8]) -> Result<String, AllocError> {
+    match movins(alloc, text) {
+        Ok(lifts) => {
+            let mut shown = String::new(alloc);
+            for lift in &lifts {
+                show(alloc, &mut shown, &lift.copy())?;
+            }
+            Ok(shown)
+        }
+        Err(fault) => format!(in alloc; "{fault}"),
+    }
+}
+
+/// Each list of segments of an instruction, separated by a space, with its answer.
+fn check_orders(rt: &(impl Abort + AllocGlobal), rows: &[(&str, &str)]) -> Result<(), Fail> {
+    for (segments, expected) in rows {
+        let segments: Vec<&str> = segments.split_whitespace().collect(rt.alloc())?;
+        let text = message(rt.alloc(), "MOVINS", &segments)?;
+        let answer = orders(rt.alloc(), text.as_bytes())?;
+        assert_eq!(rt; answer.as_str(), *expected, "{segments:?}");
+    }
+    Ok(())
+}
+
+#[test]
+fn handlings_hold_for_what_follows(rt: HostRuntime) -> Result<(), Fail> {
+    check_orders(
+        &rt,
+        &[
+            (
+                "HAN+LOA LOC+147+0030782::5 MEA+WT++KGM:20500 EQD+CN+ABCU1234560",
+                "L0030782ABCU1234560=20500 ",
+            ),
+            (
+                "HAN+DIS LOC+147+0030082 EQD+CN+AB LOC+147+0010082 EQD+CN HAN+LOA LOC+147+0050082 MEA+WT++KGM:7",
+                "D0030082AB D0010082 L0050082=7 ",
+            ),
+            (
+                "HAN+DIS HAN+LOA LOC+147+0050082 MEA+WT++KGM:7 HAN+DIS",
+                "L0050082=7 ",
+            ),
+            // what stands between a handling and a location belongs to no group
+            (
+                "HAN+LOA EQD+CN+X MEA+WT++LBR:x LOC+147+0050082 MEA+WT++KGM:7",
+                "L0050082=7 ",
+            ),
+            // a handling ends a group
+            (
+                "HAN+DIS LOC+147+0050082 HAN+LOA EQD+CN+X LOC+147+0030082 MEA+WT++KGM:7",
+                "L0030082=7 ",
+            ),
+            // the mass of a discharge isn't looked at
+            ("HAN+DIS LOC+147+0050082 MEA+WT++LBR:x", "D0050082 "),
+            ("HAN+DIS LOC+147+0050082 MEA+VGM LOC+9+DEHAM", "D0050082 "),
+            // a group without a container and a mass is no lift
+            ("HAN+LOA LOC+147+0050082 HAN+DIS LOC+147+0050082 DTM+1", ""),
+            ("HAN+?LOA:9 LOC+147+0050082 MEA+WT++KGM:7", "L0050082=7 "),
+        ],
+    )
+}
+
+// A group's faults come before those of the segment that ends it, also where that is a handling.
+#[test]
+fn faults_of_an_instruction(rt: HostRuntime) -> Result<(), Fail> {
+    check_orders(
+        &rt,
+        &[
+            ("HAN+RES", "M8 segment 2"),
+            ("HAN", "M8 segment 2"),
+            (
+                "LOC+147+0030782 MEA+WT++KGM:20500 EQD+CN+AB",
+                "M7 segment 2",
+            ),
+            ("LOC+147+X", "M2 segment 2"),
+            ("LOC+147+0030082", "M7 segment 2"),
+            ("HAN+LOA LOC+147+0030082 EQD+CN+AB HAN+RES", "M6 segment 3"),
+            (
+                "HAN+LOA LOC+147+0030082 MEA+WT++LBR:7 HAN+RES",
+                "M5 segment 4",
+            ),
+            (
+                "HAN+DIS LOC+147+0030082 EQD+CN+ABCDEFGHIJKLMNOPQR HAN+RES",
+                "M3 segment 4",
+            ),
+            (
+                "HAN+DIS LOC+147+0030082 EQD+CN+AB HAN+RES LOC+147+X",
+                "M8 segment 5",
+            ),
+            (
+                "HAN+DIS LOC+147+0030082 EQD+CN+AB LOC+147+X HAN+RES",
+                "M2 segment 5",
+            ),
+        ],
+    )
+}
+
+#[test]
+fn handlings_of_a_plan(rt: HostRuntime) -> Result<(), Fail> {
+    check(
+        &rt,
+        &[(
+            "HAN+RES LOC+147+0030082 HAN+RES MEA+WT++KGM:7",
+            "@0030082=7 ",
+        )],
+    )
+}
+
+// A producer's habits: the service string advice, a line for each segment, and segments that aren't looked at.
+#[test]
+fn segments_between(rt: HostRuntime) -> Result<(), Fail> {
+    let text =
+        b"UNA:+.? '\r\nUNB+UNOA:2+T+S+250101:1200+9++++1'\r\nUNH+77+MOVINS:D:95B:UN:SMDG20'\r\nBGM++5+9'\r\nDTM+137:2501011200:201'\r\nTDT+20+1W+++XX:172:20+++9V:103::SKAGEN'\r\nLOC+5+DEHAM:139:6'\r\nHAN+LOA'\r\nLOC+147+0030782::5'\r\nFTX+AAA+++TEXT ?'QUOTED?''\r\nMEA+WT++KGM:1000'\r\nMEA+VGM++KGM:20500.5'\r\nLOC+9+DEHAM'\r\nLOC+11+NLRTM'\r\nRFF+BM:1'\r\nEQD+CN+ABCU1234560+22G1+++5'\r\nNAD+CA+XX:172:20'\r\nUNT+16+77'\r\nUNZ+1+9'\r\n";
+    let shown = orders(rt.alloc(), text)?;
+    assert_eq!(rt; shown.as_str(), "L0030782ABCU1234560=20501 ");
+    Ok(())
+}
+
+// Wherever a byte of an instruction is another, there is an answer, and none of them takes a cut message.
+#[test]
+fn one_byte_changed(rt: HostRuntime) -> Result<(), Fail> {
+    let text =
+        b"UNB+UNOA:2+PLAN+SHIP+250101:1200+8'UNH+1+MOVINS:D:95B:UN'HAN+LOA'LOC+147+0030782::5'MEA+WT++KGM:20500'EQD+CN+ABCU1234560'UNT+6+1'UNZ+1+8'";
+    for cut in 0..text.len() {
+        let shown = orders(rt.alloc(), &text[..cut])?;
+        let expected = format!(in rt.alloc(); "M1 E1 at {cut}")?;
+        assert_eq!(rt; shown.as_str(), expected.as_str());
+    }
+    let whole = orders(rt.alloc(), text)?;
+    assert_eq!(rt; whole.as_str(), "L0030782ABCU1234560=20500 ");
+    let mut changed = text.to_vec(rt.alloc())?;
+    let mut loads: u32 = 0;
+    for at in 0..text.len() {
+        for byte in [b'X', b'\'', b'?', b'+', 0] {
+            assert!(rt; at < changed.len() && at < text.len());
+            changed[at] = byte;
+            if let Ok(lifts) = movins(rt.alloc(), &changed) {
+                loads = loads.saturating_add(1);
+                assert!(rt; lifts.len() <= 1);
+            }
+            changed[at] = text[at];
+        }
+    }
+    assert!(rt; 50 < loads, "{loads}");
     Ok(())
 }

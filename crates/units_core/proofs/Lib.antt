@@ -1,4 +1,5 @@
-pub mod Signed
+pub mod Intervals
 pub mod Order
-pub mod Ring
 pub mod Ratios
+pub mod Ring
+pub mod Signed

@@ -1,5 +1,5 @@
 -- The numbers of cells: bay, row and tier (ISO 9711-1), written in seven digits, three, two and two.
-use Rattle.std.specs.Prelude.{ℕ, ◌+◌, ◌-◌, ◌*◌, Bool, nat_eq, ◌&&◌, if◌then◌else◌, List, [], ◌∷◌, Option, Some, None}
+use Rattle.std.specs.Prelude.{◌≡◌, ℕ, ◌+◌, ◌-◌, ◌*◌, ◌%◌, ◌≤◌, Bool, nat_eq, ◌&&◌, if◌then◌else◌, List, [], ◌∷◌, Option, Some, None}
 use Rattle.std.specs.Char.{is_ascii_digit}
 use Rattle.units_core.specs.declared.cells.Cell.{Cell}
 
@@ -29,3 +29,15 @@ abbrev pub cell_in : List ℕ → Option Cell
 cell_in (b1 ∷ b2 ∷ b3 ∷ r1 ∷ r2 ∷ t1 ∷ t2 ∷ []) = cell_of (three_in b1 b2 b3) (two_in r1 r2) (two_in t1 t2)
 cell_in (b2 ∷ b3 ∷ r1 ∷ r2 ∷ t1 ∷ t2 ∷ []) = cell_of (three_in 48 b2 b3) (two_in r1 r2) (two_in t1 t2)
 cell_in text = None
+
+-- The 20-foot bays that a cell stands over: an odd bay is one itself, and an even bay stands over its two odd neighbours. Bay 0
+-- has no bay before it.
+abbrev pub span_of : ℕ → ℕ × ℕ
+span_of bay = if nat_eq (bay % 2) 1 then (bay, bay) else (bay - 1, bay + 1)
+
+-- two cells want the same room: row and tier are equal, and the spans of the bays meet
+pub record Conflicts (a b : Cell) : Type 0 where
+  pub row : a.row ≡ b.row
+  pub tier : a.tier ≡ b.tier
+  pub before : (span_of a.bay).0 ≤ (span_of b.bay).1
+  pub behind : (span_of b.bay).0 ≤ (span_of a.bay).1

@@ -35,9 +35,13 @@ IsOutside xs x = (x <ℤ at xs 0) ⊎ (at xs (length xs - 1) <ℤ x)
 abbrev pub reading : List ℤ → List ℤ → ℕ → ℤ → Ratio
 reading xs ys i x = ((at ys i *ℤ (at xs (i + 1) -ℤ x)) +ℤ (at ys (i + 1) *ℤ (x -ℤ at xs i))) over (at xs (i + 1) -ℤ at xs i)
 
+-- each argument is above the one before it
+abbrev pub IsRising : List ℤ → Type 0
+IsRising xs = (i : ℕ) → i + 1 < length xs → at xs i <ℤ at xs (i + 1)
+
 -- the arguments rise, by no more than m from row to row
 pub record Rises (m : ℕ) (xs : List ℤ) : Type 0 where
-  pub rises : (i : ℕ) → i + 1 < length xs → at xs i <ℤ at xs (i + 1)
+  pub rises : IsRising xs
   pub gaps : (i : ℕ) → i + 1 < length xs → (at xs (i + 1) -ℤ at xs i) ≤ℤ pos m
 
 -- each number of the column is of size m at most

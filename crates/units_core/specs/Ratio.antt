@@ -40,6 +40,10 @@ Is n d r = (pos 1 ≤ℤ d) × (pos 1 ≤ℤ r.bottom) × (n *ℤ r.bottom ≡ r
 abbrev pub IsAtLeast : Ratio → ℤ → Type 0
 IsAtLeast r k = (k *ℤ r.bottom) ≤ℤ r.top
 
+-- the ratio is at most the whole number
+abbrev pub IsAtMost : Ratio → ℤ → Type 0
+IsAtMost r k = r.top ≤ℤ (k *ℤ r.bottom)
+
 -- q is the greatest whole number that is not above the ratio
 abbrev pub IsFloor : ℤ → Ratio → Type 0
 IsFloor q r = ((q *ℤ r.bottom) ≤ℤ r.top) × (r.top <ℤ ((q +ℤ pos 1) *ℤ r.bottom))

@@ -1,5 +1,5 @@
-ghost use Rattle.std.specs.Prelude.{◌≡◌};
-ghost use Rattle.units_core.specs.Cells.{cell_in, two_in, three_in};
+ghost use Rattle.std.specs.Prelude.{◌≡◌, ◌↔◌, IsTrue};
+ghost use Rattle.units_core.specs.Cells.{cell_in, two_in, three_in, span_of, Conflicts};
 
 /// A cell by bay, row and tier (ISO 9711-1), in the seven digits that bay plans write: three of the bay, two
 /// of the row, two of the tier. An odd bay is one of 20 feet, an even bay one of 40 feet over its two odd
@@ -51,4 +51,26 @@ impl Cell {
             tier: tier?,
         })
     }
+}
+
+/// The first and the last of the 20-foot bays that a cell stands over: an odd bay is one itself, an even bay stands
+/// over its two odd neighbours, and bay 0 over 0 and 1.
+pub fn span(cell: Cell) -> (u16, u16)
+    ensures { result ≡ span_of cell.bay }
+{
+    let bay = cell.bay;
+    if bay % 2 == 1 {
+        (bay, bay)
+    } else {
+        (bay.saturating_sub(1), bay + 1)
+    }
+}
+
+/// Whether two cells want the same room: row and tier are equal, and the bays that they stand over meet.
+pub fn conflicts(a: Cell, b: Cell) -> bool
+    ensures { IsTrue result ↔ Conflicts a b }
+{
+    let (a_first, a_last) = span(a);
+    let (b_first, b_last) = span(b);
+    a.row == b.row && a.tier == b.tier && a_first <= b_last && b_first <= a_last
 }

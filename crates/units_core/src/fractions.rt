@@ -1,6 +1,6 @@
 ghost use Rattle.std.specs.Prelude.{◌≡◌, ℕ, ◌+◌, ◌*◌, ◌^◌, ◌<◌, ◌≤◌, ◌↔◌, IsTrue, pos, ◌+ℤ◌, ◌-ℤ◌, ◌*ℤ◌, ◌≤ℤ◌, ◌<ℤ◌, unsigned_abs, FitsSigned};
 ghost use Rattle.std.specs.Int.{w128};
-ghost use Rattle.units_core.specs.Ratio.{◌over◌, floor_of, IsFloor, IsAtLeast};
+ghost use Rattle.units_core.specs.Ratio.{◌over◌, floor_of, IsFloor, IsAtLeast, IsAtMost};
 ghost use Rattle.units_core.specs.Interpolation.{IsOnLine};
 
 /// A fraction of two whole numbers, its divisor at least 1.
@@ -28,6 +28,14 @@ pub fn at_least(fraction: Frac, limit: i128) -> bool
     fraction.num >= limit * fraction.den
 }
 
+/// Whether the fraction is at most `limit`, decided by the cross product.
+pub fn at_most(fraction: Frac, limit: i128) -> bool
+    requires { FitsSigned w128 (limit *ℤ fraction.den) }
+    ensures { IsTrue result ↔ IsAtMost (fraction.num over fraction.den) limit }
+{
+    fraction.num <= limit * fraction.den
+}
+
 /// The value at `x` on the straight line through `(x0, y0)` and `(x1, y1)`, two neighbouring rows of a
 /// table, as a fraction over `x1 - x0`.
 pub fn interp(x: i128, x0: i128, y0: i128, x1: i128, y1: i128) -> Frac
@@ -47,4 +55,19 @@ pub fn interp(x: i128, x0: i128, y0: i128, x1: i128, y1: i128) -> Frac
         num: y0 * (x1 - x) + y1 * (x - x0),
         den: x1 - x0,
     }
+}
+
+/// The value at `x` on the straight line through `(x0, y0)` and `(x1, y1)`, rounded down.
+pub fn interp_floor(x: i128, x0: i128, y0: i128, x1: i128, y1: i128) -> i128
+    requires rises { x0 <ℤ x1 }
+    requires from { x0 ≤ℤ x }
+    requires to { x ≤ℤ x1 }
+    requires x0_small { unsigned_abs x0 ≤ 10 ^ 18 }
+    requires x1_small { unsigned_abs x1 ≤ 10 ^ 18 }
+    requires y0_small { unsigned_abs y0 ≤ 10 ^ 18 }
+    requires y1_small { unsigned_abs y1 ≤ 10 ^ 18 }
+    ensures value { result ≡ floor_of (((y0 *ℤ (x1 -ℤ x)) +ℤ (y1 *ℤ (x -ℤ x0))) over (x1 -ℤ x0)) }
+    ensures greatest { IsFloor result (((y0 *ℤ (x1 -ℤ x)) +ℤ (y1 *ℤ (x -ℤ x0))) over (x1 -ℤ x0)) }
+{
+    floor(interp(x, x0, y0, x1, y1))
 }

@@ -9,8 +9,8 @@ mod measures;
 mod tables;
 
 pub use bodies::{Body, Place};
-pub use cells::Cell;
-pub use fractions::{Frac, at_least, floor, interp};
+pub use cells::{Cell, conflicts, span};
+pub use fractions::{Frac, at_least, at_most, floor, interp, interp_floor};
 pub use measures::{Kg, Mm};
 pub use tables::enclosing;
 

@@ -1,4 +1,7 @@
-use crate::{Body, Cell, Frac, Kg, Mm, Place, at_least, enclosing, floor, interp};
+use crate::{
+    Body, Cell, Frac, Kg, Mm, Place, at_least, at_most, conflicts, enclosing, floor, interp,
+    interp_floor, span,
+};
 
 #[test]
 fn masses_and_lengths_within_their_limits(rt: HostRuntime) {
@@ -105,6 +108,8 @@ fn limits_are_met_exactly(rt: HostRuntime) {
     assert!(rt; !at_least(Frac { num: 449, den: 3 }, 150));
     assert!(rt; at_least(Frac { num: -450, den: 3 }, -150));
     assert!(rt; !at_least(Frac { num: -451, den: 3 }, -150));
+    assert!(rt; at_most(Frac { num: 450, den: 3 }, 150));
+    assert!(rt; !at_most(Frac { num: 451, den: 3 }, 150));
 }
 
 #[test]
@@ -113,6 +118,11 @@ fn rows_are_joined_by_a_line(rt: HostRuntime) {
     assert_eq!(rt; value.den, 8_200_000);
     assert_eq!(rt; value.num, 17_667 * 4_100_000 + 8_556 * 4_100_000);
     assert_eq!(rt; floor(value), 13_111);
+    assert_eq!(rt;
+        interp_floor(8_200_000, 4_100_000, 17_667, 12_300_000, 8_556),
+        13_111
+    );
+    assert_eq!(rt; interp_floor(1, 0, 0, 3, -1), -1);
 }
 
 #[test]
@@ -127,5 +137,46 @@ fn arguments_lie_between_two_rows(rt: HostRuntime) {
         (12_300_001, None),
     ] {
         assert_eq!(rt; enclosing(&arguments, x), interval, "{x}");
+    }
+}
+
+fn cell(bay: u16, row: u8) -> Cell {
+    Cell { bay, row, tier: 82 }
+}
+
+// A 40-foot bay stands over its two odd neighbours, and two of them may share one.
+#[test]
+fn overlapping_spans(rt: HostRuntime) {
+    for (bay, first, last) in [
+        (0, 0, 1),
+        (1, 1, 1),
+        (2, 1, 3),
+        (3, 3, 3),
+        (65_534, 65_533, 65_535),
+    ] {
+        assert_eq!(rt; span(cell(bay, 0)).0, first, "bay {bay}");
+        assert_eq!(rt; span(cell(bay, 0)).1, last, "bay {bay}");
+    }
+    for (a, b, overlap) in [
+        (1, 2, true),
+        (2, 3, true),
+        (2, 4, true),
+        (2, 6, false),
+        (1, 3, false),
+        (0, 2, true),
+        (0, 3, false),
+        (5, 5, true),
+    ] {
+        assert_eq!(rt;
+            conflicts(cell(a, 0), cell(b, 0)),
+            overlap,
+            "bays {a} and {b}"
+        );
+        assert_eq!(rt;
+            conflicts(cell(b, 0), cell(a, 0)),
+            overlap,
+            "bays {b} and {a}"
+        );
+        assert!(rt; !conflicts(cell(a, 0), cell(b, 2)));
     }
 }

@@ -24,3 +24,6 @@ metacentric_height-requires-clause-kg_high c =
     let exact = simp to_z-of_z at c.in-Some.ensures.exact in
     let table = c.kg-displacements.ensures in
     (within_table c.kg-displacements.result.now c.in-Some.i c.args.sum.now.kg exact (rw table.value table.sound.kg_positive) (rw table.value table.sound.kg_within)).1
+
+pub enclosing-requires-clause-rises : goal.enclosing-requires-clause-rises
+enclosing-requires-clause-rises c = rw c.kg-displacements.ensures.value c.kg-displacements.ensures.sound.rises.rises

@@ -1,10 +1,7 @@
-use Rattle.std.proofs.Common.{◌≡◌, [], option_map}
-use Rattle.edifact_text.specs.Views.{left_of}
-use Rattle.stow_messages.specs.Items.{items_from, groups}
-use Rattle.stow_messages.specs.Views.{found_view}
-use Rattle.stow_messages.proofs.Walks.{continued}
+use Rattle.std.proofs.Common.{◌≡◌, []}
+use Rattle.stow_messages.specs.Items.{items_from}
+use Rattle.stow_messages.specs.Views.{parts_left}
 use Rattle.stow_messages.proofs.plans.items_of.Given as goal
 
-abbrev pub invariant-loop-segment : goal.invariant-loop-segment
-invariant-loop-segment l =
-    continued l.mark l.items.items (option_map found_view l.group) (left_of l.segment-iterator) ≡ items_from l.mark [] (groups (left_of l.fn.segments))
+abbrev pub invariant-loop-part : goal.invariant-loop-part
+invariant-loop-part l = items_from l.mark l.items.items (parts_left l.part-iterator) ≡ items_from l.mark [] (parts_left l.fn.parts)

@@ -1,0 +1,64 @@
+-- The lifts of a movement instruction (MOVINS, UN/EDIFACT D.95B): those of its groups in their order, each handled as the last
+-- handling before it says. The first fault in the order of the segments is the instruction's, and those of a group come before
+-- those of the segment that ends it.
+use Rattle.std.specs.Prelude.{ℕ, List, [], ◌∷◌, Option, Some, None, Result, Ok, Err, Bool, true, ◌||◌, if◌then◌else◌, codes}
+use Rattle.std.specs.Option.{is_some, option_map}
+use Rattle.arrayvec.specs.ArrayVec.{ArrayVec}
+use Rattle.units_core.specs.declared.cells.Cell.{Cell}
+use Rattle.edifact_text.specs.Interchange.{Numbered, Opened}
+use Rattle.edifact_text.specs.Reading.{opened}
+use Rattle.edifact_text.specs.declared.faults.EdiFault.{EdiFault}
+use Rattle.edifact_text.specs.declared.faults.Kind.TheVariants.{Movins}
+use Rattle.stow_messages.specs.declared.items.Item.{Item}
+use Rattle.stow_messages.specs.declared.lifts.Lift.{Lift}
+use Rattle.stow_messages.specs.declared.lifts.Lift.TheVariants.{Load, Discharge}
+use Rattle.stow_messages.specs.declared.lifts.Handling.{Handling}
+use Rattle.stow_messages.specs.declared.lifts.Handling.TheVariants.{Loading, Discharging}
+use Rattle.stow_messages.specs.declared.faults.StowFault.{StowFault}
+use Rattle.stow_messages.specs.declared.faults.StowCode.TheVariants.{Envelope, LiftWithoutHandling, UnknownHandling}
+use Rattle.stow_messages.specs.Entries.{◌>>=◌, fault_at, or_fault_at, cell_at, id_of, item_of, with_entry}
+use Rattle.stow_messages.specs.Groups.{has, Found, Part, Handled, Located, parts_of}
+
+-- what a handling says: LOA to load, DIS to discharge, and no other code
+abbrev pub handling_at : Numbered → Result Handling StowFault
+handling_at s =
+    if has s 1 0 (codes "LOA") then Ok Loading
+    else if has s 1 0 (codes "DIS") then Ok Discharging
+    else fault_at UnknownHandling s
+
+-- A group under DIS is a discharge where it names a container or has a mass, which isn't read.
+abbrev pub names_a_container : Found → Bool
+names_a_container f = is_some f.equipment || (is_some f.verified || is_some f.gross)
+
+abbrev pub lift_of : ℕ → Found → Cell → Handling → ArrayVec ℕ → Result (Option Lift) StowFault
+lift_of mark f cell Loading id = item_of mark f cell id >>= (λ item. Ok (option_map Load item))
+lift_of mark f cell Discharging id = Ok (if names_a_container f then Some (Discharge cell id) else None)
+
+-- the lift of a group behind a handling, if there was one
+abbrev pub lift_in : ℕ → Option Handling → Found → Result (Option Lift) StowFault
+lift_in mark handling f =
+    cell_at f.location >>= (λ cell.
+    or_fault_at LiftWithoutHandling f.location handling >>= (λ handling.
+    id_of f.equipment >>= (λ id.
+    lift_of mark f cell handling id)))
+
+-- with the lift of one more group: an instruction has at most 200,000
+abbrev pub ordered : ℕ → Option Handling → List Lift → Found → Result (List Lift) StowFault
+ordered mark handling lifts f = lift_in mark handling f >>= with_entry 200000 lifts f.location
+
+abbrev pub lifts_from : ℕ → Option Handling → List Lift → List Part → Result (List Lift) StowFault
+lifts_from mark handling lifts [] = Ok lifts
+lifts_from mark handling lifts (Handled s ∷ more) = handling_at s >>= (λ next. lifts_from mark (Some next) lifts more)
+lifts_from mark handling lifts (Located f ∷ more) = ordered mark handling lifts f >>= (λ longer. lifts_from mark handling longer more)
+
+-- the lifts of a message, before which there was no handling
+abbrev pub lifts_of : Opened → Result (List Lift) StowFault
+lifts_of m = lifts_from m.mark None [] (parts_of true m.segments)
+
+-- the lifts of a text
+abbrev pub lifts_behind : Result Opened EdiFault → Result (List Lift) StowFault
+lifts_behind (Ok m) = lifts_of m
+lifts_behind (Err e) = Err (record { code = Envelope e; segment = 0 })
+
+abbrev pub movement_instruction : List ℕ → Result (List Lift) StowFault
+movement_instruction text = lifts_behind (opened Movins text)
