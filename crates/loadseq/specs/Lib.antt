@@ -1,3 +1,4 @@
 pub mod Lines
 pub mod Promised
+pub mod Statuses
 pub mod Words

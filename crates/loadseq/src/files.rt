@@ -34,6 +34,7 @@ pub struct Disk<'a, R: Files> {
 }
 
 impl<'a, R: Files> Disk<'a, R> {
+    /// The files that the system's handle opens, by their names.
     pub fn new(rt: &'a R) -> Disk<'a, R> {
         Disk { rt }
     }

@@ -5,13 +5,15 @@
 mod command_line;
 mod files;
 mod serving;
+mod stops;
 
 use files::Disk;
-use serving::{NO_MEMORY_STATUS, USAGE_STATUS, serve};
+use serving::serve;
 use std::alloc::{AllocError, Global};
 use std::io::ErrorKind;
 use std::process::ExitCode;
 use std::{env, io};
+use stops::Stop;
 
 #[cfg(test)]
 mod tests;
@@ -37,12 +39,12 @@ fn main(rt: HostRuntime) -> ExitCode {
     let words = match words(&rt) {
         Ok(words) => words,
         Err(error) if error.kind() == ErrorKind::OutOfMemory => {
-            return ExitCode::from(NO_MEMORY_STATUS);
+            return ExitCode::from(Stop::NoMemory.status());
         }
-        Err(_) => return ExitCode::from(USAGE_STATUS),
+        Err(_) => return ExitCode::from(Stop::Usage(String::new(rt.alloc())).status()),
     };
     let Ok(list) = borrowed(rt.alloc(), &words) else {
-        return ExitCode::from(NO_MEMORY_STATUS);
+        return ExitCode::from(Stop::NoMemory.status());
     };
     let mut disk = Disk::new(&rt);
     let mut out = rt.stdout();

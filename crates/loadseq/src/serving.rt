@@ -1,72 +1,12 @@
 ghost use Rattle.std.specs.Prelude.{◌≤◌, IfOk};
 
-use crate::command_line::{Line, LineFault, read_line};
+use crate::command_line::{Line, read_line};
 use crate::files::{Readers, Unopened, whole};
-use seq_report::{Inputs, RunFault, Through, report};
+use crate::stops::Stop;
+use seq_report::{Inputs, Through, report};
 use ship_profile::ProfileBytes;
-use std::alloc::{AllocError, Global};
+use std::alloc::Global;
 use std::io::Write;
-use thiserror::Error;
-
-/// The exit status of a run without memory, and that of wrong words or help.
-pub const NO_MEMORY_STATUS: u8 = 4;
-
-pub const USAGE_STATUS: u8 = 3;
-
-/// Why a run prints no whole report. The display is the one line that standard error gets.
-#[derive(Debug, Drop, Error)]
-enum Stop {
-    #[error("refused {0}")]
-    Refused(RunFault),
-    #[error("{0}")]
-    Usage(String),
-    #[error("no memory")]
-    NoMemory,
-    /// The file of this name isn't read.
-    #[error("read fault {0}")]
-    Read(String),
-    #[error("write fault")]
-    Write,
-}
-
-impl Stop {
-    /// The exit status.
-    fn status(&self) -> u8
-        ensures { result ≤ 5 }
-    {
-        match self {
-            Stop::Refused(_) => 2,
-            Stop::Usage(_) => USAGE_STATUS,
-            Stop::NoMemory => NO_MEMORY_STATUS,
-            Stop::Read(_) | Stop::Write => 5,
-        }
-    }
-}
-
-impl From<AllocError> for Stop {
-    fn from(_: AllocError) -> Stop {
-        Stop::NoMemory
-    }
-}
-
-impl From<LineFault> for Stop {
-    fn from(fault: LineFault) -> Stop {
-        match fault {
-            LineFault::Usage(text) => Stop::Usage(text),
-            LineFault::NoMemory => Stop::NoMemory,
-        }
-    }
-}
-
-impl From<RunFault> for Stop {
-    fn from(fault: RunFault) -> Stop {
-        match fault {
-            RunFault::NoMemory => Stop::NoMemory,
-            RunFault::Write(_) => Stop::Write,
-            fault => Stop::Refused(fault),
-        }
-    }
-}
 
 /// The bytes of the file of this name.
 fn bytes_of<R: Readers>(alloc: Global, files: &mut R, name: &str) -> Result<Vec<u8>, Stop> {

@@ -88,6 +88,8 @@ fn check_block(
     Ok(())
 }
 
+// With ample memory and a sound sink the answer is Ok: bodies that always want memory, or whose sink always fails, meet
+// every contract, and are caught here (always_no_memory, always_write_fault).
 #[test]
 fn empty_plan(rt: HostRuntime) -> Result<(), Fail> {
     let (outcome, text) = written(rt.alloc(), &inputs(SHIP, EMPTY));

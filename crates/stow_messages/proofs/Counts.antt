@@ -9,7 +9,7 @@ use Rattle.stow_messages.specs.declared.lifts.Handling.{Handling}
 use Rattle.stow_messages.specs.declared.faults.StowFault.{StowFault}
 use Rattle.stow_messages.specs.declared.faults.StowCode.TheVariants.{TooMany}
 use Rattle.stow_messages.specs.Entries.{◌>>=◌, fault_at, with_entry}
-use Rattle.stow_messages.specs.Groups.{Found, Part, Handled, Located}
+use Rattle.stow_messages.specs.Groups.{Part, Handled, Located}
 use Rattle.stow_messages.specs.Items.{item_in, added, items_from}
 use Rattle.stow_messages.specs.Lifts.{handling_at, lift_in, ordered, lifts_from}
 

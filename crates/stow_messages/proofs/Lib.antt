@@ -1,3 +1,4 @@
 pub mod Counts
+pub mod StepLemmas
 pub mod Texts
 pub mod Walks

@@ -3,7 +3,7 @@ use Rattle.std.proofs.Common.{◌≡◌, List, [], ◌∷◌, Option, Some, None
 use Rattle.std.specs.Prelude.{find}
 use Rattle.std.specs.Option.{option_or}
 use Rattle.edifact_text.specs.Interchange.{Numbered}
-use Rattle.stow_messages.specs.Groups.{Found, found_in, Part, Handled, Located, is_location, is_equipment, is_verified, is_gross, begins, until_part, part_at, parts_of, first_of, noted, noted_part}
+use Rattle.stow_messages.specs.Groups.{Found, Part, Handled, Located, is_location, is_equipment, is_verified, is_gross, begins, until_part, part_at, parts_of, first_of, noted_part}
 use Rattle.stow_messages.specs.Views.{more_found, more_part, parts_from}
 
 or_none : {A : Type 0} (o : Option A) → option_or o None ≡ o

@@ -12,8 +12,9 @@ use Rattle.stow_messages.specs.declared.faults.StowCode.TheVariants.{BadCell, Id
 use Rattle.stow_messages.specs.Groups.{has, Found}
 use Rattle.stow_messages.specs.Weights.{kg_in}
 
+-- what follows where there was no fault
 infixl 10 ◌>>=◌
-abbrev pub ◌>>=◌ : {A B : Type 0} → Result A StowFault → (A → Result B StowFault) → Result B StowFault
+abbrev pub ◌>>=◌ : {A B E : Type 0} → Result A E → (A → Result B E) → Result B E
 Ok a >>= f = f a
 Err e >>= f = Err e
 

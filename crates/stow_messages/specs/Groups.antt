@@ -1,6 +1,6 @@
 -- How the segments of a message are cut into parts: a location of a cell (LOC+147) begins a group, and in a movement
 -- instruction a handling (HAN) is a part by itself. A group runs to the next part or to the end of the message.
-use Rattle.std.specs.Prelude.{ℕ, List, [], ◌∷◌, Option, Some, None, Bool, true, false, ◌&&◌, if◌then◌else◌, codes, find}
+use Rattle.std.specs.Prelude.{ℕ, List, [], ◌∷◌, Option, Some, None, Bool, true, ◌&&◌, if◌then◌else◌, codes, find}
 use Rattle.std.specs.Option.{option_or}
 use Rattle.std.specs.Str.{bytes_eq}
 use Rattle.edifact_text.specs.Interchange.{Numbered, component}

@@ -2,5 +2,6 @@ pub mod Entries
 pub mod Groups
 pub mod Items
 pub mod Lifts
+pub mod Steps
 pub mod Views
 pub mod Weights

@@ -9,7 +9,6 @@ use Rattle.edifact_text.specs.Interchange.{Numbered, Opened}
 use Rattle.edifact_text.specs.Reading.{opened}
 use Rattle.edifact_text.specs.declared.faults.EdiFault.{EdiFault}
 use Rattle.edifact_text.specs.declared.faults.Kind.TheVariants.{Movins}
-use Rattle.stow_messages.specs.declared.items.Item.{Item}
 use Rattle.stow_messages.specs.declared.lifts.Lift.{Lift}
 use Rattle.stow_messages.specs.declared.lifts.Lift.TheVariants.{Load, Discharge}
 use Rattle.stow_messages.specs.declared.lifts.Handling.{Handling}

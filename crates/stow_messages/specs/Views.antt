@@ -6,7 +6,7 @@ use Rattle.stow_messages.specs.declared.groups.Group.{Group}
 use Rattle.stow_messages.specs.declared.parts.Part as declared
 use Rattle.stow_messages.specs.declared.parts.Part.TheVariants as code
 use Rattle.stow_messages.specs.declared.parts.Parts.{Parts}
-use Rattle.stow_messages.specs.Groups.{Found, Part, Handled, Located, is_equipment, is_verified, is_gross, first_of, until_part, parts_of}
+use Rattle.stow_messages.specs.Groups.{Found, Part, Handled, Located, is_equipment, is_verified, is_gross, until_part, parts_of}
 use Rattle.std.specs.Option.{option_or}
 use Rattle.std.specs.Prelude.{find, Bool}
 

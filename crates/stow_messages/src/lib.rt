@@ -1,5 +1,6 @@
 //! The messages that say what is aboard and what is moved: the bay plan (BAPLIE of UN/EDIFACT directory
-//! D.95B) as a list of items, and the movement instruction (MOVINS) as a list of lifts.
+//! D.95B) as a list of items, the movement instruction (MOVINS) as a list of lifts, and a planner's steps file as a
+//! list of rows: the order of the lifts, with the changes of tanks and the restows among them.
 #![tactic(auto)]
 
 mod faults;
@@ -9,6 +10,9 @@ mod items;
 mod lifts;
 mod parts;
 mod plans;
+mod step_faults;
+mod step_files;
+mod step_rows;
 mod weights;
 
 pub use faults::{StowCode, StowFault};
@@ -16,6 +20,11 @@ pub use instructions::movins;
 pub use items::Item;
 pub use lifts::Lift;
 pub use plans::baplie;
+pub use step_faults::{StepsCode, StepsFault};
+pub use step_files::steps;
+pub use step_rows::StepRow;
 
+#[cfg(test)]
+mod step_tests;
 #[cfg(test)]
 mod tests;

@@ -1,0 +1,221 @@
+use crate::{StepRow, StepsCode, StepsFault, steps};
+use arrayvec::ArrayVec;
+use std::alloc::{AllocError, Global};
+use std::process::Abort;
+use std::test::Fail;
+use units_core::Cell;
+
+/// What a steps file answers where there are so many lifts: its rows one after another, or its fault.
+fn answer(alloc: Global, text: &[u8], lifts: u32) -> Result<String, AllocError> {
+    let rows = match steps(alloc, text, lifts) {
+        Ok(rows) => rows,
+        Err(fault) => return format!(in alloc; "{fault}"),
+    };
+    let mut shown = String::new(alloc);
+    for row in &rows {
+        match row {
+            StepRow::Lift(number) => {
+                let one = format!(in alloc; "lift {number};")?;
+                shown.push_str(one.as_str())?;
+            }
+            StepRow::Tank { name, kg } => {
+                shown.push_str("tank ")?;
+                push(&mut shown, name.as_slice())?;
+                let one = format!(in alloc; " {kg};")?;
+                shown.push_str(one.as_str())?;
+            }
+            StepRow::Restow { from, to, id } => {
+                let Cell { bay, row, tier } = *from;
+                let one = format!(in alloc; "restow {bay:03}{row:02}{tier:02}")?;
+                shown.push_str(one.as_str())?;
+                let Cell { bay, row, tier } = *to;
+                let one = format!(in alloc; " {bay:03}{row:02}{tier:02} ")?;
+                shown.push_str(one.as_str())?;
+                push(&mut shown, id.as_slice())?;
+                shown.push(';')?;
+            }
+        }
+    }
+    Ok(shown)
+}
+
+fn push(shown: &mut String, bytes: &[u8]) -> Result<(), AllocError> {
+    for byte in bytes {
+        shown.push(char::from(*byte))?;
+    }
+    Ok(())
+}
+
+/// Each file's records, under a heading, with its answer.
+fn check(rt: &(impl Abort + AllocGlobal), lifts: u32, rows: &[(&str, &str)]) -> Result<(), Fail> {
+    for (records, want) in rows {
+        let text = format!(in rt.alloc(); "step,a,b,c\n{records}")?;
+        let answer = answer(rt.alloc(), text.as_bytes(), lifts)?;
+        assert_eq!(rt; answer.as_str(), *want, "{records}");
+    }
+    Ok(())
+}
+
+#[test]
+fn steps_file_of_every_kind(rt: HostRuntime) -> Result<(), Fail> {
+    let text =
+        b"step,a,b,c\ntank,DB 1,0,\nlift,2,,\nrestow,0010082,030282,\nlift, 1 ,,\nrestow,0010082,0030282,AB\ntank,A123456789ABCDEF,1000000000,\n";
+    let shown = answer(rt.alloc(), text, 2)?;
+    assert_eq!(rt;
+        shown.as_str(),
+        "tank DB 1 0;lift 2;restow 0010082 0030282 ;lift 1;restow 0010082 0030282 AB;tank A123456789ABCDEF 1000000000;"
+    );
+    Ok(())
+}
+
+/// With one lift.
+#[test]
+fn steps_file_faults(rt: HostRuntime) -> Result<(), Fail> {
+    check(
+        &rt,
+        1,
+        &[
+            ("lift,1,,\n", "lift 1;"),
+            ("lift,2,,\n", "G4 line 2"),
+            ("lift,0,,\n", "G4 line 2"),
+            ("lift,-1,,\n", "G4 line 2"),
+            ("lift,-999999999999999999,,\n", "G4 line 2"),
+            ("lift,4294967297,,\n", "G4 line 2"),
+            ("lift,1,,\nlift,1,,\n", "G5 line 3"),
+            ("", "G6 lift 1"),
+            ("tank,DB1,1,\n", "G6 lift 1"),
+            ("lift,1,x,\n", "G3 line 2"),
+            ("lift,1, ,\n", "G3 line 2"),
+            ("lift,1,,x\n", "G3 line 2"),
+            ("lift,,,\n", "G3 line 2"),
+            ("lift,1.0,,\n", "G3 line 2"),
+            ("lift,0000000000000000001,,\n", "G3 line 2"),
+            ("swap,1,,\n", "G2 line 2"),
+            ("Lift,1,,\n", "G2 line 2"),
+            (" lift,1,,\n", "G2 line 2"),
+            ("lift,1,\n", "G1 line 2"),
+            ("lift,1,,,\n", "G1 line 2"),
+        ],
+    )
+}
+
+#[test]
+fn tanks_and_restows_refused(rt: HostRuntime) -> Result<(), Fail> {
+    check(
+        &rt,
+        0,
+        &[
+            ("tank,DB1,1000000001,\n", "G3 line 2"),
+            ("tank,DB1,-1,\n", "G3 line 2"),
+            ("tank,DB1,,\n", "G3 line 2"),
+            ("tank,DB1,1,x\n", "G3 line 2"),
+            ("tank,,1,\n", "G3 line 2"),
+            ("tank,A123456789ABCDEFG,1,\n", "G3 line 2"),
+            (
+                "restow,0010082,0030082,A123456789ABCDEFG\n",
+                "restow 0010082 0030082 A123456789ABCDEFG;",
+            ),
+            ("restow,0010082,0030082,A123456789ABCDEFGH\n", "G3 line 2"),
+            ("restow,10082,0030082,\n", "G3 line 2"),
+            ("restow, 010082,0030082,\n", "G3 line 2"),
+            ("restow,0010082,,\n", "G3 line 2"),
+        ],
+    )
+}
+
+/// The first fault of a record, and of the records the first.
+#[test]
+fn order_of_faults(rt: HostRuntime) -> Result<(), Fail> {
+    check(
+        &rt,
+        3,
+        &[
+            ("swap,1,\n", "G1 line 2"),
+            ("swap,x,,\n", "G2 line 2"),
+            ("lift,9,x,\n", "G3 line 2"),
+            ("lift,2,,\nlift,9,,\nlift,2,,\n", "G4 line 3"),
+            ("lift,2,,\nlift,2,,\nswap,1,,\n", "G5 line 3"),
+            ("lift,3,,\nlift,1,,\n", "G6 lift 2"),
+            ("lift,3,,\n", "G6 lift 1"),
+        ],
+    )
+}
+
+/// Quotes, CR LF, a byte order mark and blank lines at the end.
+#[test]
+fn a_spreadsheets_habits(rt: HostRuntime) -> Result<(), Fail> {
+    let text =
+        b"\xef\xbb\xbf\"kind\",\"\",\"\",\"\"\r\n\"tank\",\"DB,1\",\"5\",\"\"\r\nlift,\"1\",,\r\n\r\n";
+    let shown = answer(rt.alloc(), text, 1)?;
+    assert_eq!(rt; shown.as_str(), "tank DB,1 5;lift 1;");
+    Ok(())
+}
+
+/// No heading, and one of another number of fields.
+#[test]
+fn headings_of_steps_files(rt: HostRuntime) -> Result<(), Fail> {
+    for (text, lifts, want) in [
+        ("", 0, ""),
+        ("", 2, "G6 lift 1"),
+        ("step,a,b,c", 0, ""),
+        ("step,a,b\nlift,1,,\n", 1, "G1 line 1"),
+        ("lift,1,,\n", 1, "G6 lift 1"),
+    ] {
+        let shown = answer(rt.alloc(), text.as_bytes(), lifts)?;
+        assert_eq!(rt; shown.as_str(), want, "{text}");
+    }
+    Ok(())
+}
+
+/// 200,000 records behind the heading are taken, and one more is refused before it is looked at.
+#[test]
+fn a_record_too_many(rt: HostRuntime) -> Result<(), Fail> {
+    let mut text = String::from_str(rt.alloc(), "step,a,b,c\n")?;
+    for _ in 0..200_000 {
+        text.push_str("tank,A,1,\n")?;
+    }
+    let rows = steps(rt.alloc(), text.as_bytes(), 0).ok().ok_or("rows")?;
+    assert_eq!(rt; rows.len(), 200_000);
+    text.push_str("swap\n")?;
+    let fault = steps(rt.alloc(), text.as_bytes(), 0)
+        .err()
+        .ok_or("a fault")?;
+    let want = StepsFault {
+        code: StepsCode::TooMany,
+        at: 200_002,
+    };
+    assert_eq!(rt; fault, want);
+    let shown = format!(in rt.alloc(); "{fault}")?;
+    assert_eq!(rt; shown.as_str(), "G7 line 200002");
+    Ok(())
+}
+
+#[test]
+fn want_of_memory_has_no_place(rt: HostRuntime) -> Result<(), Fail> {
+    let fault = StepsFault {
+        code: StepsCode::NoMemory,
+        at: 0,
+    };
+    let shown = format!(in rt.alloc(); "{fault}")?;
+    assert_eq!(rt; shown.as_str(), "G8");
+    Ok(())
+}
+
+#[test]
+fn equal_rows(rt: HostRuntime) -> Result<(), Fail> {
+    let mut name: ArrayVec<u8, 16> = ArrayVec::new();
+    let _ = name.try_extend_from_slice(b"DB1");
+    let mut id: ArrayVec<u8, 17> = ArrayVec::new();
+    let _ = id.try_extend_from_slice(b"AB");
+    let from = Cell::read(b"0010082").ok_or("a cell")?;
+    let to = Cell::read(b"0030082").ok_or("a cell")?;
+    let lift = StepRow::Lift(7).copy();
+    assert_eq!(rt; lift, StepRow::Lift(7));
+    let tank = StepRow::Tank { name, kg: 5 };
+    let copy = tank.copy();
+    assert_eq!(rt; copy, tank);
+    let restow = StepRow::Restow { from, to, id };
+    let copy = restow.copy();
+    assert_eq!(rt; copy, restow);
+    Ok(())
+}
