@@ -253,7 +253,7 @@ nothing_at : (r : Option ℕ) (j : ℕ) → literal r (get_or ([] ∷ []) j []) 
 nothing_at r zero = refl
 nothing_at r (suc j) = refl
 
-parts_at : (sv : Service) (es : List (List ℕ)) (i j : ℕ) →
+pub parts_at : (sv : Service) (es : List (List ℕ)) (i j : ℕ) →
     literal sv.release (get_or (pieces sv.release sv.component (get_or es i [])) j []) ≡ get_or (get_or (map (element_of sv) es) i []) j []
 parts_at sv [] i j = nothing_at sv.release j
 parts_at sv (e ∷ es) zero j = literal_at sv.release (pieces sv.release sv.component e) j

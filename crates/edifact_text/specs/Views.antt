@@ -1,14 +1,17 @@
 -- The code's values, as contracts see them.
-use Rattle.std.specs.Prelude.{ℕ, ◌-◌, List, length, take}
+use Rattle.std.specs.Prelude.{ℕ, ◌-◌, List, [], ◌∷◌, length, take, map, Option, Some, None}
+use Rattle.std.specs.Borrow.{Bor}
 use Rattle.edifact_text.specs.declared.raw.Raw.{Raw}
 use Rattle.edifact_text.specs.declared.segment_text.SegmentText.{SegmentText}
 use Rattle.edifact_text.specs.declared.cursor.Cursor.{Cursor}
+use Rattle.edifact_text.specs.declared.elements.Elements.{Elements}
 use Rattle.edifact_text.specs.declared.message.Message.{Message}
 use Rattle.edifact_text.specs.declared.message.Segment.{Segment}
 use Rattle.edifact_text.specs.declared.message.Segments.{Segments}
+use Rattle.edifact_text.specs.declared.service.Service.{Service}
 use Rattle.edifact_text.specs.Interchange.{Numbered, numbered, Opened}
 use Rattle.edifact_text.specs.Pieces.{pieces, literal}
-use Rattle.edifact_text.specs.Reading.{Stretch, stretches, segment_of}
+use Rattle.edifact_text.specs.Reading.{Stretch, stretches, element_of}
 use Rattle.edifact_text.specs.Stages.{ended_ones, message_parts}
 
 -- The literal that some bytes of a segment mean.
@@ -22,9 +25,23 @@ seen text = record { place = text.place; bytes = text.bytes.now }
 abbrev pub ahead : Cursor → List Stretch
 ahead c = stretches (c.len - length c.rest.now) (pieces c.service.release c.service.terminator c.rest.now)
 
+-- A piece, where there is one, before those behind it.
+abbrev pub led : Option (Bor (List ℕ)) → List (List ℕ) → List (List ℕ)
+led None more = []
+led (Some piece) more = piece.now ∷ more
+
+-- The elements of the bytes that are left, if any are.
+abbrev pub pieces_left : Service → Option (Bor (List ℕ)) → List (List ℕ)
+pieces_left sv None = []
+pieces_left sv (Some bytes) = pieces sv.release sv.element bytes.now
+
+-- The bytes of the elements: those that were found, and those behind.
+abbrev pub elements_view : Service → Elements → List (List ℕ)
+elements_view sv e = e.first.now ∷ led e.second (led e.third (led e.fourth (pieces_left sv e.behind)))
+
 -- A segment's number and parts.
 unfoldable pub numbered_view : Segment → Numbered
-numbered_view s = record { number = s.number; parts = segment_of s.text.service s.text.bytes.now }
+numbered_view s = record { number = s.number; parts = map (element_of s.service) (elements_view s.service s.elements) }
 
 -- The segments that are left.
 unfoldable pub left_of : Segments → List Numbered

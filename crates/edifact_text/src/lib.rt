@@ -8,6 +8,7 @@
 
 mod advice;
 mod cursor;
+mod elements;
 mod envelope;
 mod faults;
 mod laws;

@@ -1,7 +1,8 @@
 ghost use Rattle.std.specs.Prelude.{◌<◌, ◌+◌, ◌^◌};
 
 use crate::cursor::Cursor;
-use crate::segment_text::SegmentText;
+use crate::elements::Elements;
+use crate::service::Service;
 
 /// The message of an interchange: the segments between its header and its trailer. It borrows the text.
 #[derive(Clone, Copy)]
@@ -16,7 +17,8 @@ pub struct Message<'a> {
 /// A segment, and its number in the message.
 #[derive(Clone, Copy)]
 pub struct Segment<'a> {
-    pub(crate) text: SegmentText<'a>,
+    pub(crate) elements: Elements<'a>,
+    pub(crate) service: Service,
     pub(crate) number: u64,
 }
 

@@ -55,9 +55,10 @@ impl<'a> Raw<'a> {
         }
     }
 
-    /// Puts the literal into `out`, in place of what it held. Where it has over 35 bytes the answer is false, and `out` is empty.
-    pub fn literal_into(self, out: &mut ArrayVec<u8, 35>) -> bool
-        ensures fits { IsTrue result ↔ (length (meant self.entry) ≤ 35) }
+    /// Puts the literal into `out`, in place of what it held. Where it has more than `MOST` bytes the answer is false, and `out`
+    /// is empty.
+    pub fn literal_into<const MOST: usize>(self, out: &mut ArrayVec<u8, MOST>) -> bool
+        ensures fits { IsTrue result ↔ (length (meant self.entry) ≤ MOST) }
         ensures literal { IsTrue result → out.new.items ≡ meant self.entry }
         ensures empty { ¬ IsTrue result → out.new.items ≡ [] }
     {

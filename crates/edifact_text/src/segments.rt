@@ -4,7 +4,9 @@ ghost use Rattle.std.specs.Iterator.{YieldsFirstBy, item_count};
 ghost use Rattle.edifact_text.specs.Interchange.{component};
 ghost use Rattle.edifact_text.specs.Views.{meant, message_view, numbered_view, left_of};
 
+use crate::elements::Elements;
 use crate::message::{Message, Segment, Segments};
+use crate::pieces::piece;
 use crate::raw::Raw;
 
 impl<'a> Message<'a> {
@@ -46,11 +48,15 @@ impl<'a> Segment<'a> {
     }
 
     /// Component `j` of element `i`, both counted from 0. It is empty where the segment has no such element or component.
-    #[tactic(auto, using(crate::proofs::ReadingLemmas::part_is), unfolding(crate::specs::Views::numbered_view))]
     pub fn component(&self, i: usize, j: usize) -> Raw<'a>
         ensures { meant result ≡ component (numbered_view self.now).parts i j }
     {
-        self.text.component(i, j)
+        let service = self.service;
+        let element = self.elements.get(service, i);
+        Raw::new(
+            piece(element, service.release, service.component, j),
+            service.release,
+        )
     }
 }
 
@@ -61,7 +67,7 @@ impl<'a> Iterator for Segments<'a> {
 
     ghost remaining = { item_count left_of };
 
-    #[tactic(auto, unfolding(crate::specs::Views::numbered_view, crate::specs::Views::left_of))]
+    #[tactic(auto, unfolding(crate::specs::Views::numbered_view, crate::specs::Views::left_of, crate::specs::Reading::segment_of))]
     fn next(&mut self) -> Option<Segment<'a>> {
         if self.count == 0 {
             return None;
@@ -71,6 +77,10 @@ impl<'a> Iterator for Segments<'a> {
         self.left = behind;
         self.count -= 1;
         self.first += 1;
-        Some(Segment { text, number })
+        Some(Segment {
+            elements: Elements::of(text.bytes, text.service),
+            service: text.service,
+            number,
+        })
     }
 }

@@ -14,6 +14,256 @@ const ONE_CONTAINER: &[u8; 165] =
 const LOAD_ONE: &[u8; 137] =
     b"UNB+UNOA:2+PLAN+SHIP+250101:1200+8'UNH+1+MOVINS:D:95B:UN'HAN+LOA'LOC+147+0030782::5'MEA+WT++KGM:20500'EQD+CN+ABCU1234560'UNT+6+1'UNZ+1+8'";
 
+/// Texts that are no bay plan, each with its fault and the fault's place.
+static FAULTS: [(&str, &[u8], EdiCode, usize); 37] = [
+    ("cut in the advice", b" UNA:+.? ", EdiCode::Truncated, 9),
+    (
+        "cut in a segment",
+        b"UNB+UNOA:2+SHIP+PLAN+250101:1200+7'UNH+1+BAPLIE:D:95B:UN'UNT+2+1'UNZ+1",
+        EdiCode::Truncated,
+        70,
+    ),
+    ("a released terminator", b"UNB?'", EdiCode::Truncated, 5),
+    ("release at the very end", b"UNB+A?", EdiCode::Truncated, 6),
+    ("two separators alike", b" UNA:+.+ '", EdiCode::BadUna, 1),
+    ("a letter separates", b"UNAA+.? '", EdiCode::BadUna, 0),
+    ("a space ends segments", b"UNA:+.?  ", EdiCode::BadUna, 0),
+    (
+        "bad advice, nothing behind",
+        b"UNA::.? '",
+        EdiCode::BadUna,
+        0,
+    ),
+    (
+        "no release, and equal separators",
+        b"UNA:+.  :",
+        EdiCode::BadUna,
+        0,
+    ),
+    ("another tag", b"\r\nUNX+1'", EdiCode::NoUnb, 2),
+    (
+        "released blank belongs to the tag",
+        b"? UNB+1'",
+        EdiCode::NoUnb,
+        0,
+    ),
+    (
+        "released byte of the advice",
+        b"UN?A:+.? 'X'",
+        EdiCode::NoUnb,
+        0,
+    ),
+    ("byte order mark", b"\xffUNB'", EdiCode::NoUnb, 0),
+    (
+        "a group",
+        b"UNB+UNOA:2+SHIP+PLAN+250101:1200+7'UNG+1'",
+        EdiCode::Groups,
+        35,
+    ),
+    (
+        "a group behind the message",
+        b"UNB+UNOA:2+SHIP+PLAN+250101:1200+7'UNH+1+BAPLIE:D:95B:UN'UNT+2+1'UNE+1'",
+        EdiCode::Groups,
+        65,
+    ),
+    (
+        "no header",
+        b"UNB+UNOA:2+SHIP+PLAN+250101:1200+7'UNE+1'",
+        EdiCode::NoUnh,
+        35,
+    ),
+    (
+        "no header, but a trailer",
+        b"UNB+UNOA:2+SHIP+PLAN+250101:1200+7'UNT+2+1'",
+        EdiCode::NoUnh,
+        35,
+    ),
+    (
+        "another directory",
+        b"UNB+UNOA:2+SHIP+PLAN+250101:1200+7'UNH+1+BAPLIE:D:96B:UN'",
+        EdiCode::WrongType,
+        35,
+    ),
+    (
+        "another message",
+        b"UNB+UNOA:2+SHIP+PLAN+250101:1200+7'UNH+1+MOVINS:D:95B:UN'",
+        EdiCode::WrongType,
+        35,
+    ),
+    (
+        "a wrong count",
+        b"UNB+UNOA:2+SHIP+PLAN+250101:1200+7'UNH+1+BAPLIE:D:95B:UN'UNT+3+1'UNZ+1+7'",
+        EdiCode::SegmentCount,
+        57,
+    ),
+    (
+        "eleven digits",
+        b"UNB+UNOA:2+SHIP+PLAN+250101:1200+7'UNH+1+BAPLIE:D:95B:UN'UNT+00000000002+1'UNZ+1+7'",
+        EdiCode::SegmentCount,
+        57,
+    ),
+    (
+        "no message trailer",
+        b"UNB+UNOA:2+SHIP+PLAN+250101:1200+7'UNH+1+BAPLIE:D:95B:UN'UNZ+1+7'",
+        EdiCode::SegmentCount,
+        57,
+    ),
+    (
+        "count before reference",
+        b"UNB+UNOA:2+SHIP+PLAN+250101:1200+7'UNH+1+BAPLIE:D:95B:UN'UNT+3+2'UNZ+1+7'",
+        EdiCode::SegmentCount,
+        57,
+    ),
+    (
+        "message reference",
+        b"UNB+UNOA:2+SHIP+PLAN+250101:1200+7'UNH+1+BAPLIE:D:95B:UN'UNT+2+2'UNZ+1+7'",
+        EdiCode::MessageRef,
+        57,
+    ),
+    (
+        "a second message",
+        b"UNB+UNOA:2+SHIP+PLAN+250101:1200+7'UNH+1+BAPLIE:D:95B:UN'UNT+2+1'UNH+1+BAPLIE:D:95B:UN'",
+        EdiCode::SeveralMessages,
+        65,
+    ),
+    (
+        "two messages counted",
+        b"UNB+UNOA:2+SHIP+PLAN+250101:1200+7'UNH+1+BAPLIE:D:95B:UN'UNT+2+1'UNZ+2+7'",
+        EdiCode::InterchangeCount,
+        65,
+    ),
+    (
+        "none counted",
+        b"UNB+UNOA:2+SHIP+PLAN+250101:1200+7'UNH+1+BAPLIE:D:95B:UN'UNT+2+1'UNZ++7'",
+        EdiCode::InterchangeCount,
+        65,
+    ),
+    (
+        "interchange reference",
+        b"UNB+UNOA:2+SHIP+PLAN+250101:1200+7'UNH+1+BAPLIE:D:95B:UN'UNT+2+1'UNZ+1+8'",
+        EdiCode::InterchangeRef,
+        65,
+    ),
+    (
+        "a byte behind",
+        b"UNB+UNOA:2+SHIP+PLAN+250101:1200+7'UNH+1+BAPLIE:D:95B:UN'UNT+2+1'UNZ+1+7'X",
+        EdiCode::Trailing,
+        73,
+    ),
+    (
+        "a segment behind blanks",
+        b"UNB+UNOA:2+SHIP+PLAN+250101:1200+7'UNH+1+BAPLIE:D:95B:UN'UNT+2+1'UNZ+1+7'\r\n''",
+        EdiCode::Trailing,
+        75,
+    ),
+    (
+        "a zero byte behind",
+        b"UNB+UNOA:2+SHIP+PLAN+250101:1200+7'UNH+1+BAPLIE:D:95B:UN'UNT+2+1'UNZ+1+7' \0",
+        EdiCode::Trailing,
+        74,
+    ),
+    (
+        "an empty segment",
+        b"UNB+UNOA:2+SHIP+PLAN+250101:1200+7'\r\n''",
+        EdiCode::EmptySegment,
+        37,
+    ),
+    ("an empty tag", b"+X'", EdiCode::EmptySegment, 0),
+    (
+        "an empty tag of many elements",
+        b"+++++++++++++++++++++++++++++++++++++++++++++++++++++++++++++++++'",
+        EdiCode::EmptySegment,
+        0,
+    ),
+    (
+        "65 elements",
+        b"UNB+UNOA:2+SHIP+PLAN+250101:1200+7'UNH+1+BAPLIE:D:95B:UN'X++++++++++++++++++++++++++++++++++++++++++++++++++++++++++++++++'",
+        EdiCode::TooManyElements,
+        57,
+    ),
+    (
+        "65 components",
+        b"UNB+UNOA:2+SHIP+PLAN+250101:1200+7'UNH+1+BAPLIE:D:95B:UN'X+::::::::::::::::::::::::::::::::::::::::::::::::::::::::::::::::'",
+        EdiCode::TooManyElements,
+        57,
+    ),
+    (
+        "65 elements before the row of the tag",
+        b"X++++++++++++++++++++++++++++++++++++++++++++++++++++++++++++++++'",
+        EdiCode::TooManyElements,
+        0,
+    ),
+];
+
+/// Bay plans, each with the number of its segments.
+static PLANS: [(&str, &[u8], u64); 13] = [
+    (
+        "nothing between",
+        b"UNB+UNOA:2+SHIP+PLAN+250101:1200+7'UNH+1+BAPLIE:D:95B:UN'UNT+2+1'UNZ+1+7'",
+        0,
+    ),
+    (
+        "blanks behind",
+        b"UNB+UNOA:2+SHIP+PLAN+250101:1200+7'UNH+1+BAPLIE:D:95B:UN'UNT+2+1'UNZ+1+7'\r\n ",
+        0,
+    ),
+    (
+        "the default advice",
+        b"UNA:+.? 'UNB+UNOA:2+SHIP+PLAN+250101:1200+7'UNH+1+BAPLIE:D:95B:UN'UNT+2+1'UNZ+1+7'",
+        0,
+    ),
+    (
+        "other characters",
+        b"\r\nUNA|^,! ~UNB^UNOA|2^SHIP^PLAN^250101|1200^7~UNH^1^BAPLIE|D|95B|UN~UNT^2^1~UNZ^1^7~",
+        0,
+    ),
+    (
+        "a mark that separates too",
+        b"UNA:+:? 'UNB+UNOA:2+SHIP+PLAN+250101:1200+7'UNH+1+BAPLIE:D:95B:UN'UNT+2+1'UNZ+1+7'",
+        0,
+    ),
+    (
+        "leading zeros",
+        b"UNB+UNOA:2+SHIP+PLAN+250101:1200+7'UNH+1+BAPLIE:D:95B:UN'UNT+0000000002+1'UNZ+00000000000001+7'",
+        0,
+    ),
+    (
+        "released letters",
+        b"UNB+UNOA:2+SHIP+PLAN+250101:1200+7'UNH+1+BAPLIE:D:95B:UN'U?NT+?2+1'UNZ+1+7'",
+        0,
+    ),
+    (
+        "no references",
+        b"UNB+UNOA:2+SHIP+PLAN+250101:1200+7'UNH++BAPLIE:D:95B:UN'UNT+2'UNZ+1+7'",
+        0,
+    ),
+    (
+        "64 elements",
+        b"UNB+UNOA:2+SHIP+PLAN+250101:1200+7'UNH+1+BAPLIE:D:95B:UN'X+++++++++++++++++++++++++++++++++++++++++++++++++++++++++++++++'UNT+3+1'UNZ+1+7'",
+        1,
+    ),
+    (
+        "64 components",
+        b"UNB+UNOA:2+SHIP+PLAN+250101:1200+7'UNH+1+BAPLIE:D:95B:UN'X+:::::::::::::::::::::::::::::::::::::::::::::::::::::::::::::::'UNT+3+1'UNZ+1+7'",
+        1,
+    ),
+    (
+        "a group inside the message",
+        b"UNB+UNOA:2+SHIP+PLAN+250101:1200+7'UNH+1+BAPLIE:D:95B:UN'UNG'UNE'UNB'UNH'UNT+6+1'UNZ+1+7'",
+        4,
+    ),
+    (
+        "a fifth component of the type",
+        b"UNB+UNOA:2+SHIP+PLAN+250101:1200+7'UNH+1+BAPLIE:D:95B:UN:SMDG20'UNT+2+1:2'UNZ+1:9+7'",
+        0,
+    ),
+    (
+        "lines",
+        b"UNB+UNOA:2+SHIP+PLAN+250101:1200+7'\r\nUNH+1+BAPLIE:D:95B:UN:AB12'\r\nLOC+147+030082::5'\r\nMEA+WT++KGM:20000'\r\nMEA+VGM++KGM:20499.2'\r\nEQD+CN+AB?+CD'\r\nUNT+6+1'\r\nUNZ+1+7'\r\n",
+        4,
+    ),
+];
+
 /// How many segments the message has, or the fault.
 fn judged(text: &[u8], kind: Kind) -> Result<u64, EdiFault> {
     let mut count: u64 = 0;
@@ -85,261 +335,15 @@ fn one_byte_changed(rt: HostRuntime) {
 
 #[test]
 fn interchange_faults(rt: HostRuntime) {
-    let cases: [(&str, &[u8], EdiCode, usize); 37] = [
-        ("cut in the advice", b" UNA:+.? ", EdiCode::Truncated, 9),
-        (
-            "cut in a segment",
-            b"UNB+UNOA:2+SHIP+PLAN+250101:1200+7'UNH+1+BAPLIE:D:95B:UN'UNT+2+1'UNZ+1",
-            EdiCode::Truncated,
-            70,
-        ),
-        ("a released terminator", b"UNB?'", EdiCode::Truncated, 5),
-        ("release at the very end", b"UNB+A?", EdiCode::Truncated, 6),
-        ("two separators alike", b" UNA:+.+ '", EdiCode::BadUna, 1),
-        ("a letter separates", b"UNAA+.? '", EdiCode::BadUna, 0),
-        ("a space ends segments", b"UNA:+.?  ", EdiCode::BadUna, 0),
-        (
-            "bad advice, nothing behind",
-            b"UNA::.? '",
-            EdiCode::BadUna,
-            0,
-        ),
-        (
-            "no release, and equal separators",
-            b"UNA:+.  :",
-            EdiCode::BadUna,
-            0,
-        ),
-        ("another tag", b"\r\nUNX+1'", EdiCode::NoUnb, 2),
-        (
-            "released blank belongs to the tag",
-            b"? UNB+1'",
-            EdiCode::NoUnb,
-            0,
-        ),
-        (
-            "released byte of the advice",
-            b"UN?A:+.? 'X'",
-            EdiCode::NoUnb,
-            0,
-        ),
-        ("byte order mark", b"\xffUNB'", EdiCode::NoUnb, 0),
-        (
-            "a group",
-            b"UNB+UNOA:2+SHIP+PLAN+250101:1200+7'UNG+1'",
-            EdiCode::Groups,
-            35,
-        ),
-        (
-            "a group behind the message",
-            b"UNB+UNOA:2+SHIP+PLAN+250101:1200+7'UNH+1+BAPLIE:D:95B:UN'UNT+2+1'UNE+1'",
-            EdiCode::Groups,
-            65,
-        ),
-        (
-            "no header",
-            b"UNB+UNOA:2+SHIP+PLAN+250101:1200+7'UNE+1'",
-            EdiCode::NoUnh,
-            35,
-        ),
-        (
-            "no header, but a trailer",
-            b"UNB+UNOA:2+SHIP+PLAN+250101:1200+7'UNT+2+1'",
-            EdiCode::NoUnh,
-            35,
-        ),
-        (
-            "another directory",
-            b"UNB+UNOA:2+SHIP+PLAN+250101:1200+7'UNH+1+BAPLIE:D:96B:UN'",
-            EdiCode::WrongType,
-            35,
-        ),
-        (
-            "another message",
-            b"UNB+UNOA:2+SHIP+PLAN+250101:1200+7'UNH+1+MOVINS:D:95B:UN'",
-            EdiCode::WrongType,
-            35,
-        ),
-        (
-            "a wrong count",
-            b"UNB+UNOA:2+SHIP+PLAN+250101:1200+7'UNH+1+BAPLIE:D:95B:UN'UNT+3+1'UNZ+1+7'",
-            EdiCode::SegmentCount,
-            57,
-        ),
-        (
-            "eleven digits",
-            b"UNB+UNOA:2+SHIP+PLAN+250101:1200+7'UNH+1+BAPLIE:D:95B:UN'UNT+00000000002+1'UNZ+1+7'",
-            EdiCode::SegmentCount,
-            57,
-        ),
-        (
-            "no message trailer",
-            b"UNB+UNOA:2+SHIP+PLAN+250101:1200+7'UNH+1+BAPLIE:D:95B:UN'UNZ+1+7'",
-            EdiCode::SegmentCount,
-            57,
-        ),
-        (
-            "count before reference",
-            b"UNB+UNOA:2+SHIP+PLAN+250101:1200+7'UNH+1+BAPLIE:D:95B:UN'UNT+3+2'UNZ+1+7'",
-            EdiCode::SegmentCount,
-            57,
-        ),
-        (
-            "message reference",
-            b"UNB+UNOA:2+SHIP+PLAN+250101:1200+7'UNH+1+BAPLIE:D:95B:UN'UNT+2+2'UNZ+1+7'",
-            EdiCode::MessageRef,
-            57,
-        ),
-        (
-            "a second message",
-            b"UNB+UNOA:2+SHIP+PLAN+250101:1200+7'UNH+1+BAPLIE:D:95B:UN'UNT+2+1'UNH+1+BAPLIE:D:95B:UN'",
-            EdiCode::SeveralMessages,
-            65,
-        ),
-        (
-            "two messages counted",
-            b"UNB+UNOA:2+SHIP+PLAN+250101:1200+7'UNH+1+BAPLIE:D:95B:UN'UNT+2+1'UNZ+2+7'",
-            EdiCode::InterchangeCount,
-            65,
-        ),
-        (
-            "none counted",
-            b"UNB+UNOA:2+SHIP+PLAN+250101:1200+7'UNH+1+BAPLIE:D:95B:UN'UNT+2+1'UNZ++7'",
-            EdiCode::InterchangeCount,
-            65,
-        ),
-        (
-            "interchange reference",
-            b"UNB+UNOA:2+SHIP+PLAN+250101:1200+7'UNH+1+BAPLIE:D:95B:UN'UNT+2+1'UNZ+1+8'",
-            EdiCode::InterchangeRef,
-            65,
-        ),
-        (
-            "a byte behind",
-            b"UNB+UNOA:2+SHIP+PLAN+250101:1200+7'UNH+1+BAPLIE:D:95B:UN'UNT+2+1'UNZ+1+7'X",
-            EdiCode::Trailing,
-            73,
-        ),
-        (
-            "a segment behind blanks",
-            b"UNB+UNOA:2+SHIP+PLAN+250101:1200+7'UNH+1+BAPLIE:D:95B:UN'UNT+2+1'UNZ+1+7'\r\n''",
-            EdiCode::Trailing,
-            75,
-        ),
-        (
-            "a zero byte behind",
-            b"UNB+UNOA:2+SHIP+PLAN+250101:1200+7'UNH+1+BAPLIE:D:95B:UN'UNT+2+1'UNZ+1+7' \0",
-            EdiCode::Trailing,
-            74,
-        ),
-        (
-            "an empty segment",
-            b"UNB+UNOA:2+SHIP+PLAN+250101:1200+7'\r\n''",
-            EdiCode::EmptySegment,
-            37,
-        ),
-        ("an empty tag", b"+X'", EdiCode::EmptySegment, 0),
-        (
-            "an empty tag of many elements",
-            b"+++++++++++++++++++++++++++++++++++++++++++++++++++++++++++++++++'",
-            EdiCode::EmptySegment,
-            0,
-        ),
-        (
-            "65 elements",
-            b"UNB+UNOA:2+SHIP+PLAN+250101:1200+7'UNH+1+BAPLIE:D:95B:UN'X++++++++++++++++++++++++++++++++++++++++++++++++++++++++++++++++'",
-            EdiCode::TooManyElements,
-            57,
-        ),
-        (
-            "65 components",
-            b"UNB+UNOA:2+SHIP+PLAN+250101:1200+7'UNH+1+BAPLIE:D:95B:UN'X+::::::::::::::::::::::::::::::::::::::::::::::::::::::::::::::::'",
-            EdiCode::TooManyElements,
-            57,
-        ),
-        (
-            "65 elements before the row of the tag",
-            b"X++++++++++++++++++++++++++++++++++++++++++++++++++++++++++++++++'",
-            EdiCode::TooManyElements,
-            0,
-        ),
-    ];
-    for (name, text, code, place) in cases {
-        assert_eq!(rt; judged(text, Kind::Baplie), fault(code, place), "{name}");
+    for (name, text, code, place) in &FAULTS {
+        assert_eq!(rt; judged(text, Kind::Baplie), fault(*code, *place), "{name}");
     }
 }
 
 #[test]
 fn interchanges(rt: HostRuntime) {
-    let cases: [(&str, &[u8], u64); 13] = [
-        (
-            "nothing between",
-            b"UNB+UNOA:2+SHIP+PLAN+250101:1200+7'UNH+1+BAPLIE:D:95B:UN'UNT+2+1'UNZ+1+7'",
-            0,
-        ),
-        (
-            "blanks behind",
-            b"UNB+UNOA:2+SHIP+PLAN+250101:1200+7'UNH+1+BAPLIE:D:95B:UN'UNT+2+1'UNZ+1+7'\r\n ",
-            0,
-        ),
-        (
-            "the default advice",
-            b"UNA:+.? 'UNB+UNOA:2+SHIP+PLAN+250101:1200+7'UNH+1+BAPLIE:D:95B:UN'UNT+2+1'UNZ+1+7'",
-            0,
-        ),
-        (
-            "other characters",
-            b"\r\nUNA|^,! ~UNB^UNOA|2^SHIP^PLAN^250101|1200^7~UNH^1^BAPLIE|D|95B|UN~UNT^2^1~UNZ^1^7~",
-            0,
-        ),
-        (
-            "a mark that separates too",
-            b"UNA:+:? 'UNB+UNOA:2+SHIP+PLAN+250101:1200+7'UNH+1+BAPLIE:D:95B:UN'UNT+2+1'UNZ+1+7'",
-            0,
-        ),
-        (
-            "leading zeros",
-            b"UNB+UNOA:2+SHIP+PLAN+250101:1200+7'UNH+1+BAPLIE:D:95B:UN'UNT+0000000002+1'UNZ+00000000000001+7'",
-            0,
-        ),
-        (
-            "released letters",
-            b"UNB+UNOA:2+SHIP+PLAN+250101:1200+7'UNH+1+BAPLIE:D:95B:UN'U?NT+?2+1'UNZ+1+7'",
-            0,
-        ),
-        (
-            "no references",
-            b"UNB+UNOA:2+SHIP+PLAN+250101:1200+7'UNH++BAPLIE:D:95B:UN'UNT+2'UNZ+1+7'",
-            0,
-        ),
-        (
-            "64 elements",
-            b"UNB+UNOA:2+SHIP+PLAN+250101:1200+7'UNH+1+BAPLIE:D:95B:UN'X+++++++++++++++++++++++++++++++++++++++++++++++++++++++++++++++'UNT+3+1'UNZ+1+7'",
-            1,
-        ),
-        (
-            "64 components",
-            b"UNB+UNOA:2+SHIP+PLAN+250101:1200+7'UNH+1+BAPLIE:D:95B:UN'X+:::::::::::::::::::::::::::::::::::::::::::::::::::::::::::::::'UNT+3+1'UNZ+1+7'",
-            1,
-        ),
-        (
-            "a group inside the message",
-            b"UNB+UNOA:2+SHIP+PLAN+250101:1200+7'UNH+1+BAPLIE:D:95B:UN'UNG'UNE'UNB'UNH'UNT+6+1'UNZ+1+7'",
-            4,
-        ),
-        (
-            "a fifth component of the type",
-            b"UNB+UNOA:2+SHIP+PLAN+250101:1200+7'UNH+1+BAPLIE:D:95B:UN:SMDG20'UNT+2+1:2'UNZ+1:9+7'",
-            0,
-        ),
-        (
-            "lines",
-            b"UNB+UNOA:2+SHIP+PLAN+250101:1200+7'\r\nUNH+1+BAPLIE:D:95B:UN:AB12'\r\nLOC+147+030082::5'\r\nMEA+WT++KGM:20000'\r\nMEA+VGM++KGM:20499.2'\r\nEQD+CN+AB?+CD'\r\nUNT+6+1'\r\nUNZ+1+7'\r\n",
-            4,
-        ),
-    ];
-    for (name, text, count) in cases {
-        assert_eq!(rt; judged(text, Kind::Baplie), Ok(count), "{name}");
+    for (name, text, count) in &PLANS {
+        assert_eq!(rt; judged(text, Kind::Baplie), Ok(*count), "{name}");
     }
     assert!(rt; open(EMPTY_PLAN, Kind::Movins).is_err());
     one_reading();

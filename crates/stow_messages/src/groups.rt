@@ -1,15 +1,17 @@
-ghost use Rattle.std.specs.Prelude.{◌≡◌};
-ghost use Rattle.edifact_text.specs.Views.{numbered_view};
-ghost use Rattle.stow_messages.specs.Entries.{cell_at, id_at, id_of, kg_at, item_of};
-ghost use Rattle.stow_messages.specs.Groups.{has, is_location, is_handling, is_equipment, is_verified, is_gross, noted, started};
+ghost use Rattle.std.specs.Prelude.{◌≡◌, ◌≢◌, Ok, Err, IfErr, OnOk};
+ghost use Rattle.std.specs.Str.{bytes_eq};
+ghost use Rattle.edifact_text.specs.Views.{meant, numbered_view};
+ghost use Rattle.stow_messages.specs.Entries.{cell_at, id_at, id_of, kg_at, item_of, with_entry};
+ghost use Rattle.stow_messages.specs.Groups.{has, noted, started};
+ghost use Rattle.stow_messages.specs.Kinds.{kind_of, measurement_of};
 ghost use Rattle.stow_messages.specs.Lifts.{names_a_container};
 ghost use Rattle.stow_messages.specs.Views.{found_view};
 
-use crate::faults::{StowCode, StowFault};
+use crate::faults::{NO_MEMORY, StowCode, StowFault};
 use crate::items::Item;
 use crate::weights::kilograms;
 use arrayvec::ArrayVec;
-use edifact_text::Segment;
+use edifact_text::{Raw, Segment};
 use units_core::{Cell, Kg};
 
 /// What counts of a group of segments: the location of the cell that begins it, and the first container,
@@ -30,36 +32,66 @@ pub fn has(segment: &Segment<'_>, i: usize, j: usize, text: &[u8]) -> bool
     segment.component(i, j).is(text)
 }
 
-/// The segment is the location of a cell, and so begins a group.
-pub fn is_location(segment: &Segment<'_>) -> bool
-    ensures { result ≡ is_location (numbered_view segment.now) }
-{
-    has(segment, 0, 0, b"LOC") && has(segment, 1, 0, b"147")
+/// What a segment is in a message.
+#[derive(Clone, Copy, Debug, PartialEq, Eq)]
+pub enum SegmentKind {
+    /// The location of a cell, which begins a group.
+    Location,
+    /// What is done with the containers of the groups behind it.
+    Handling,
+    /// A container.
+    Equipment,
+    /// A container's verified gross mass.
+    Verified,
+    /// A container's gross mass.
+    Gross,
+    /// Nothing that is looked at.
+    Other,
 }
 
-/// The segment is a handling: what is done with the containers of the groups behind it.
-pub fn is_handling(segment: &Segment<'_>) -> bool
-    ensures { result ≡ is_handling (numbered_view segment.now) }
+/// The component is this text.
+#[tactic(auto, using(crate::proofs::Texts::told))]
+fn reads(component: Raw<'_>, text: &[u8]) -> bool
+    ensures { result ≡ bytes_eq (meant component.entry) text.now }
 {
-    has(segment, 0, 0, b"HAN")
+    component.is(text)
 }
 
-fn is_equipment(segment: &Segment<'_>) -> bool
-    ensures { result ≡ is_equipment (numbered_view segment.now) }
+/// What the segment is, by its tag and, where that asks for it, by its qualifier.
+pub fn kind_of(segment: &Segment<'_>) -> SegmentKind
+    ensures { result ≡ kind_of (numbered_view segment.now) }
 {
-    has(segment, 0, 0, b"EQD")
+    let tag = segment.tag();
+    if reads(tag, b"LOC") {
+        if has(segment, 1, 0, b"147") {
+            return SegmentKind::Location;
+        }
+        return SegmentKind::Other;
+    }
+    if reads(tag, b"HAN") {
+        return SegmentKind::Handling;
+    }
+    if reads(tag, b"EQD") {
+        return SegmentKind::Equipment;
+    }
+    if reads(tag, b"MEA") {
+        return measurement_of(segment);
+    }
+    SegmentKind::Other
 }
 
-fn is_verified(segment: &Segment<'_>) -> bool
-    ensures { result ≡ is_verified (numbered_view segment.now) }
+/// What a measurement is, by its qualifier.
+fn measurement_of(segment: &Segment<'_>) -> SegmentKind
+    ensures { result ≡ measurement_of (numbered_view segment.now) }
 {
-    has(segment, 0, 0, b"MEA") && has(segment, 1, 0, b"VGM")
-}
-
-fn is_gross(segment: &Segment<'_>) -> bool
-    ensures { result ≡ is_gross (numbered_view segment.now) }
-{
-    has(segment, 0, 0, b"MEA") && has(segment, 1, 0, b"WT")
+    let qualifier = segment.component(1, 0);
+    if reads(qualifier, b"VGM") {
+        SegmentKind::Verified
+    } else if reads(qualifier, b"WT") {
+        SegmentKind::Gross
+    } else {
+        SegmentKind::Other
+    }
 }
 
 /// A fault found at a segment.
@@ -76,7 +108,7 @@ pub fn fault_at(code: StowCode, segment: &Segment<'_>) -> StowFault
 fn cell_at(segment: &Segment<'_>) -> Result<Cell, StowFault>
     ensures { result ≡ cell_at (numbered_view segment.now) }
 {
-    let mut digits: ArrayVec<u8, 35> = ArrayVec::new();
+    let mut digits: ArrayVec<u8, 7> = ArrayVec::new();
     if !segment.component(2, 0).literal_into(&mut digits) {
         return Err(fault_at(StowCode::BadCell, segment));
     }
@@ -90,12 +122,8 @@ fn cell_at(segment: &Segment<'_>) -> Result<Cell, StowFault>
 fn id_at(segment: &Segment<'_>) -> Result<ArrayVec<u8, 17>, StowFault>
     ensures { result ≡ id_at (numbered_view segment.now) }
 {
-    let mut text: ArrayVec<u8, 35> = ArrayVec::new();
-    let mut id = ArrayVec::new();
-    if !segment.component(2, 0).literal_into(&mut text) {
-        return Err(fault_at(StowCode::IdTooLong, segment));
-    }
-    if id.try_extend_from_slice(text.as_slice()).is_err() {
+    let mut id: ArrayVec<u8, 17> = ArrayVec::new();
+    if !segment.component(2, 0).literal_into(&mut id) {
         return Err(fault_at(StowCode::IdTooLong, segment));
     }
     Ok(id)
@@ -114,34 +142,54 @@ fn kg_at(segment: &Segment<'_>, mark: u8) -> Result<Kg, StowFault>
     }
 }
 
+/// Puts one more entry behind the others, if there is one; so many are the most.
+pub fn put<X: Drop>(
+    entries: &mut Vec<X>,
+    most: usize,
+    location: &Segment<'_>,
+    entry: Option<X>,
+) -> Result<(), StowFault>
+    ensures ok { OnOk result (with_entry most entries.old.items (numbered_view location.now) entry ≡ Ok entries.new.items) }
+    ensures refused { IfErr result (λ e. e.code ≢ StowCode.NoMemory →
+        with_entry most entries.old.items (numbered_view location.now) entry ≡ Err e) }
+{
+    let entry = match entry {
+        Some(entry) => entry,
+        None => return Ok(()),
+    };
+    if entries.len() >= most {
+        return Err(fault_at(StowCode::TooMany, location));
+    }
+    if entries.push(entry).is_err() {
+        return Err(NO_MEMORY);
+    }
+    Ok(())
+}
+
 impl<'a> Group<'a> {
     /// The group that a location begins.
-    pub fn at(location: Segment<'a>) -> Group<'a>
-        ensures { found_view result ≡ started (numbered_view location.entry) }
+    pub fn at(location: &Segment<'a>) -> Group<'a>
+        ensures { found_view result ≡ started (numbered_view location.now) }
     {
         Group {
-            location,
+            location: *location,
             equipment: None,
             verified: None,
             gross: None,
         }
     }
 
-    /// The group with one more segment: the first of each kind counts.
-    pub fn with(self, segment: Segment<'a>) -> Group<'a>
-        ensures { found_view result ≡ noted (found_view self.entry) (numbered_view segment.entry) }
+    /// Takes one more segment of this kind into the group: the first of each kind counts.
+    pub fn note(&mut self, kind: SegmentKind, segment: &Segment<'a>)
+        requires { kind ≡ kind_of (numbered_view segment.now) }
+        ensures { found_view self.new ≡ noted (found_view self.old) (numbered_view segment.now) }
     {
-        let mut group = self;
-        if group.equipment.is_none() && is_equipment(&segment) {
-            group.equipment = Some(segment);
+        match kind {
+            SegmentKind::Equipment if self.equipment.is_none() => self.equipment = Some(*segment),
+            SegmentKind::Verified if self.verified.is_none() => self.verified = Some(*segment),
+            SegmentKind::Gross if self.gross.is_none() => self.gross = Some(*segment),
+            _ => {}
         }
-        if group.verified.is_none() && is_verified(&segment) {
-            group.verified = Some(segment);
-        }
-        if group.gross.is_none() && is_gross(&segment) {
-            group.gross = Some(segment);
-        }
-        group
     }
 
     /// The cell of the group.

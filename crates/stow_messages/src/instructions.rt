@@ -3,8 +3,8 @@ ghost use Rattle.edifact_text.specs.Views.{numbered_view};
 ghost use Rattle.stow_messages.specs.Lifts.{handling_at, lift_of, lift_in, lifts_from, movement_instruction, ordered};
 ghost use Rattle.stow_messages.specs.Views.{found_view, parts_left};
 
-use crate::faults::{NO_MEMORY, StowCode, StowFault};
-use crate::groups::{Group, fault_at, has};
+use crate::faults::{StowCode, StowFault};
+use crate::groups::{Group, fault_at, has, put};
 use crate::lifts::{Handling, Lift};
 use crate::parts::{Part, Parts};
 use arrayvec::ArrayVec;
@@ -80,17 +80,8 @@ fn add(
     ensures ok { OnOk result (ordered mark handling lifts.old.items (found_view group.now) ≡ Ok lifts.new.items) }
     ensures refused { IfErr result (λ e. e.code ≢ StowCode.NoMemory → ordered mark handling lifts.old.items (found_view group.now) ≡ Err e) }
 {
-    let lift = match lift_in(group, handling, mark)? {
-        Some(lift) => lift,
-        None => return Ok(()),
-    };
-    if lifts.len() >= MAX_LIFTS {
-        return Err(fault_at(StowCode::TooMany, &group.location));
-    }
-    if lifts.push(lift).is_err() {
-        return Err(NO_MEMORY);
-    }
-    Ok(())
+    let lift = lift_in(group, handling, mark)?;
+    put(lifts, MAX_LIFTS, &group.location, lift)
 }
 
 /// The lifts of a message's parts.

@@ -3,9 +3,10 @@ ghost use Rattle.std.specs.Iterator.{YieldsFirstBy, item_count};
 ghost use Rattle.edifact_text.specs.Interchange.{Numbered};
 ghost use Rattle.edifact_text.specs.Views.{numbered_view, left_of};
 ghost use Rattle.stow_messages.specs.Groups.{begins, noted_part, part_at, parts_of};
+ghost use Rattle.stow_messages.specs.Kinds.{kind_of};
 ghost use Rattle.stow_messages.specs.Views.{part_view, parts_from, parts_left};
 
-use crate::groups::{Group, is_handling, is_location};
+use crate::groups::{Group, SegmentKind, kind_of};
 use edifact_text::{Segment, Segments};
 
 /// A part of a message.
@@ -15,18 +16,6 @@ pub enum Part<'a> {
     Handled(Segment<'a>),
     /// A location of a cell, with what stands behind it.
     Located(Group<'a>),
-}
-
-impl<'a> Part<'a> {
-    /// The part with one more segment behind it.
-    fn with(self, segment: Segment<'a>) -> Part<'a>
-        ensures { part_view result ≡ noted_part (part_view self.entry) (numbered_view segment.entry) }
-    {
-        match self {
-            Part::Handled(handling) => Part::Handled(handling),
-            Part::Located(group) => Part::Located(group.with(segment)),
-        }
-    }
 }
 
 /// The parts of a message that are left, in their order. This is the one walk over the segments, for a bay plan and
@@ -50,41 +39,50 @@ impl<'a> Parts<'a> {
         }
     }
 
-    /// The part that a segment begins, if it begins one.
-    fn begun_by(&self, segment: Segment<'a>) -> Option<Part<'a>>
-        ensures { MatchOption result (begins self.now.handles (numbered_view segment.entry) ≡ false)
-            (λ part. (begins self.now.handles (numbered_view segment.entry) ≡ true) × (part_view part ≡ part_at (numbered_view segment.entry) [])) }
+    /// The part that a segment of this kind begins, if it begins one.
+    fn begun_by(&self, kind: SegmentKind, segment: &Segment<'a>) -> Option<Part<'a>>
+        requires { kind ≡ kind_of (numbered_view segment.now) }
+        ensures { MatchOption result (begins self.now.handles (numbered_view segment.now) ≡ false)
+            (λ part. (begins self.now.handles (numbered_view segment.now) ≡ true) × (part_view part ≡ part_at (numbered_view segment.now) [])) }
     {
-        if is_location(&segment) {
-            return Some(Part::Located(Group::at(segment)));
+        match kind {
+            SegmentKind::Location => Some(Part::Located(Group::at(segment))),
+            SegmentKind::Handling if self.handles => Some(Part::Handled(*segment)),
+            _ => None,
         }
-        if self.handles && is_handling(&segment) {
-            return Some(Part::Handled(segment));
-        }
-        None
     }
 
     /// Takes one more segment, and gives the part that it completes, if it does.
-    fn advance(&mut self, segment: Segment<'a>) -> Option<Part<'a>>
+    fn advance(&mut self, segment: &Segment<'a>) -> Option<Part<'a>>
         ensures left { (self.new.left ≡ self.old.left) × (self.new.handles ≡ self.old.handles) }
         ensures parts { (rest : List Numbered) → MatchOption result
-            (parts_from self.old.handles (option_map part_view self.old.begun) (numbered_view segment.entry ∷ rest)
+            (parts_from self.old.handles (option_map part_view self.old.begun) (numbered_view segment.now ∷ rest)
             ≡ parts_from self.old.handles (option_map part_view self.new.begun) rest)
-            (λ part. parts_from self.old.handles (option_map part_view self.old.begun) (numbered_view segment.entry ∷ rest)
+            (λ part. parts_from self.old.handles (option_map part_view self.old.begun) (numbered_view segment.now ∷ rest)
             ≡ part_view part ∷ parts_from self.old.handles (option_map part_view self.new.begun) rest) }
     {
-        match self.begun_by(segment) {
+        let kind = kind_of(segment);
+        match self.begun_by(kind, segment) {
             Some(part) => {
                 let complete = self.begun;
                 self.begun = Some(part);
                 complete
             }
             None => {
-                if let Some(begun) = self.begun {
-                    self.begun = Some(begun.with(segment));
-                }
+                self.note(kind, segment);
                 None
             }
+        }
+    }
+
+    /// Takes a segment that begins no part into the one that was begun.
+    fn note(&mut self, kind: SegmentKind, segment: &Segment<'a>)
+        requires { kind ≡ kind_of (numbered_view segment.now) }
+        ensures left { (self.new.left ≡ self.old.left) × (self.new.handles ≡ self.old.handles) }
+        ensures begun { option_map part_view self.new.begun ≡ option_map (λ p. noted_part p (numbered_view segment.now)) (option_map part_view self.old.begun) }
+    {
+        if let Some(Part::Located(group)) = &mut self.begun {
+            group.note(kind, segment);
         }
     }
 }
@@ -98,7 +96,7 @@ impl<'a> Iterator for Parts<'a> {
 
     fn next(&mut self) -> Option<Part<'a>> {
         while let Some(segment) = self.left.next() {
-            if let Some(complete) = self.advance(segment) {
+            if let Some(complete) = self.advance(&segment) {
                 return Some(complete);
             }
         }

@@ -2,8 +2,8 @@ ghost use Rattle.std.specs.Prelude.{◌≡◌, ◌≢◌, ◌≤◌, [], length,
 ghost use Rattle.stow_messages.specs.Items.{added, bay_plan, item_in, items_from};
 ghost use Rattle.stow_messages.specs.Views.{found_view, parts_left};
 
-use crate::faults::{NO_MEMORY, StowCode, StowFault};
-use crate::groups::{Group, fault_at};
+use crate::faults::{StowCode, StowFault};
+use crate::groups::{Group, put};
 use crate::items::Item;
 use crate::parts::{Part, Parts};
 use edifact_text::{Kind, open};
@@ -26,17 +26,8 @@ fn add(items: &mut Vec<Item>, group: &Group<'_>, mark: u8) -> Result<(), StowFau
     ensures ok { OnOk result (added mark items.old.items (found_view group.now) ≡ Ok items.new.items) }
     ensures refused { IfErr result (λ e. e.code ≢ StowCode.NoMemory → added mark items.old.items (found_view group.now) ≡ Err e) }
 {
-    let item = match item_in(group, mark)? {
-        Some(item) => item,
-        None => return Ok(()),
-    };
-    if items.len() >= MAX_ITEMS {
-        return Err(fault_at(StowCode::TooMany, &group.location));
-    }
-    if items.push(item).is_err() {
-        return Err(NO_MEMORY);
-    }
-    Ok(())
+    let item = item_in(group, mark)?;
+    put(items, MAX_ITEMS, &group.location, item)
 }
 
 /// The items of a message's parts.

@@ -69,26 +69,15 @@ fn within(low: u32, high: u32, number: i64) -> Option<u32>
     }
 }
 
-/// The name of a tank, 1 to 16 bytes as they stand.
-fn name_of(text: &[u8]) -> Option<ArrayVec<u8, 16>>
-    ensures { result ≡ text_of 1 16 text.now }
+/// The text as it stands, where it has `least` to `MOST` bytes.
+fn text_of<const MOST: usize>(least: usize, text: &[u8]) -> Option<ArrayVec<u8, MOST>>
+    ensures { result ≡ text_of least MOST text.now }
 {
-    let mut name = ArrayVec::new();
-    if text.is_empty() || name.try_extend_from_slice(text).is_err() {
+    let mut copy = ArrayVec::new();
+    if text.len() < least || copy.try_extend_from_slice(text).is_err() {
         return None;
     }
-    Some(name)
-}
-
-/// The identification of a container, at most 17 bytes as they stand.
-fn id_of(text: &[u8]) -> Option<ArrayVec<u8, 17>>
-    ensures { result ≡ text_of 0 17 text.now }
-{
-    let mut id = ArrayVec::new();
-    if id.try_extend_from_slice(text).is_err() {
-        return None;
-    }
-    Some(id)
+    Some(copy)
 }
 
 /// The number of a lift's record.
@@ -126,7 +115,7 @@ fn tank_row(first: &[u8], second: &[u8], third: &[u8]) -> Result<StepRow, StepsC
         Some(number) => within(0, MAX_TANK_KG, number),
         None => None,
     };
-    match (name_of(first), kg, third.is_empty()) {
+    match (text_of::<16>(1, first), kg, third.is_empty()) {
         (Some(name), Some(kg), true) => Ok(StepRow::Tank { name, kg }),
         _ => Err(StepsCode::BadField),
     }
@@ -137,7 +126,11 @@ fn restow_row(first: &[u8], second: &[u8], third: &[u8]) -> Result<StepRow, Step
     ensures value { result ≡ restow_row first.now second.now third.now }
     ensures within { (lifts : ℕ) → IfOk result (λ row. IsWithin lifts row) }
 {
-    match (Cell::read(first), Cell::read(second), id_of(third)) {
+    match (
+        Cell::read(first),
+        Cell::read(second),
+        text_of::<17>(0, third),
+    ) {
         (Some(from), Some(to), Some(id)) => Ok(StepRow::Restow { from, to, id }),
         _ => Err(StepsCode::BadField),
     }

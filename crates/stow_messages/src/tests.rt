@@ -166,7 +166,7 @@ fn long_weights(rt: HostRuntime) -> Result<(), Fail> {
 }
 
 #[test]
-fn groups_and_identifications(rt: HostRuntime) -> Result<(), Fail> {
+fn groups_of_segments(rt: HostRuntime) -> Result<(), Fail> {
     check(
         &rt,
         &[
@@ -197,6 +197,15 @@ fn groups_and_identifications(rt: HostRuntime) -> Result<(), Fail> {
             ),
             ("LOC+147+0030082 EQD+CN+AB", "M6 segment 2"),
             ("LOC+147+0030082 EQD+CN+AB MEA+AAE++KGM:7", "M6 segment 2"),
+        ],
+    )
+}
+
+#[test]
+fn identifications(rt: HostRuntime) -> Result<(), Fail> {
+    check(
+        &rt,
+        &[
             (
                 "LOC+147+0030082 EQD+CN+ABCDEFGHIJKLMNOPQ MEA+WT++KGM:7",
                 "ABCDEFGHIJKLMNOPQ@0030082=7 ",

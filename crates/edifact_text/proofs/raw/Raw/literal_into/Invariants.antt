@@ -3,7 +3,7 @@ use Rattle.edifact_text.specs.Views.{meant}
 use Rattle.edifact_text.proofs.raw.Raw.literal_into.Given as goal
 
 abbrev pub invariant-loop-byte : goal.invariant-loop-byte
-invariant-loop-byte l = record { so_far : meant l.self ≡ l.out.items ++ meant l.left; room : length l.out.items ≤ 35 }
+invariant-loop-byte g l = record { so_far : meant l.self ≡ l.out.items ++ meant l.left; room : length l.out.items ≤ g.row.MOST }
 
 abbrev pub decreases-loop-byte : goal.decreases-loop-byte
-decreases-loop-byte l = length l.left.bytes.now
+decreases-loop-byte g l = length l.left.bytes.now
