@@ -1,0 +1,9 @@
+pub mod Examples
+pub mod MeaningLemmas
+pub mod NameLemmas
+pub mod OutcomeLemmas
+pub mod PlaceLemmas
+pub mod ReadLemmas
+pub mod RowLemmas
+pub mod SoundLemmas
+pub mod ValueLemmas

@@ -1,0 +1,5 @@
+pub mod Extents
+pub mod Gathering
+pub mod Outcome
+pub mod Record
+pub mod Tables

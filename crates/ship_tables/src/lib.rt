@@ -1,0 +1,29 @@
+//! The tables of a ship's profile, as six files of comma-separated values write them: the cells and where containers in them
+//! stand, the hydrostatic table, the righting levers, the Bonjean curves, the tanks, and the least metacentric heights of a
+//! ship that has such limits. [`Tables::read`] gives all of them or the first fault of the files; what it gives never changes, and
+//! the look-ups take no memory.
+#![tactic(auto)]
+
+mod curves;
+mod extents;
+mod faults;
+mod forms;
+mod hydrostatics;
+mod layouts;
+#[cfg(test)]
+mod limit_tests;
+mod places;
+mod reading;
+mod rows;
+mod table_set;
+mod tanks;
+#[cfg(test)]
+mod tests;
+mod texts;
+
+pub use curves::Curves;
+pub use extents::Extent;
+pub use faults::{File, TableFault};
+pub use hydrostatics::Hydro;
+pub use table_set::Tables;
+pub use texts::TableTexts;

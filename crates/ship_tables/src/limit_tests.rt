@@ -1,0 +1,430 @@
+use crate::faults::File;
+use crate::tests::{
+    BONJEAN, CELLS, HYDRO, LEAST_GM, LEVERS, TANKS, check_prefixes, refusal, refusal_within, widest,
+};
+use std::alloc::Global;
+use std::process::Abort;
+use std::test::Fail;
+
+static CELLS_PREFIXES: [(usize, &str); 18] = [
+    (1, "P13 cells.csv"),
+    // the heading, cut before its last field and in it
+    (11, "P4 cells.csv 1"),
+    (17, "P13 cells.csv"),
+    // each row, cut before its last field, before that field's first digit, and after it
+    (38, "P4 cells.csv 2"),
+    (39, "P5 cells.csv 2"),
+    (44, ""),
+    (65, "P4 cells.csv 3"),
+    (66, "P5 cells.csv 3"),
+    (71, ""),
+    (92, "P4 cells.csv 4"),
+    (93, "P5 cells.csv 4"),
+    (98, ""),
+    (122, "P4 cells.csv 5"),
+    (123, "P5 cells.csv 5"),
+    (128, ""),
+    (149, "P4 cells.csv 6"),
+    (150, "P5 cells.csv 6"),
+    (155, ""),
+];
+
+#[test]
+fn every_prefix_of_cells_csv(rt: HostRuntime) -> Result<(), Fail> {
+    check_prefixes(&rt, File::Cells, CELLS, &CELLS_PREFIXES)
+}
+
+static HYDRO_PREFIXES: [(usize, &str); 12] = [
+    (1, "P13 hydro.csv"),
+    (23, "P4 hydro.csv 1"),
+    (28, "P13 hydro.csv"),
+    (58, "P4 hydro.csv 2"),
+    (59, "P5 hydro.csv 2"),
+    (68, "P13 hydro.csv"),
+    (98, "P4 hydro.csv 3"),
+    (99, "P5 hydro.csv 3"),
+    (108, ""),
+    (138, "P4 hydro.csv 4"),
+    (139, "P5 hydro.csv 4"),
+    (148, ""),
+];
+
+#[test]
+fn every_prefix_of_hydro_csv(rt: HostRuntime) -> Result<(), Fail> {
+    check_prefixes(&rt, File::Hydro, HYDRO, &HYDRO_PREFIXES)
+}
+
+static LEVERS_PREFIXES: [(usize, &str); 12] = [
+    (1, "P13 kn.csv"),
+    (37, "P4 kn.csv 1"),
+    (41, "P13 kn.csv"),
+    (104, "P4 kn.csv 2"),
+    (105, "P5 kn.csv 2"),
+    (110, "P13 kn.csv"),
+    (173, "P4 kn.csv 3"),
+    (174, "P5 kn.csv 3"),
+    (179, ""),
+    (243, "P4 kn.csv 4"),
+    (244, "P5 kn.csv 4"),
+    (249, ""),
+];
+
+#[test]
+fn every_prefix_of_kn_csv(rt: HostRuntime) -> Result<(), Fail> {
+    check_prefixes(&rt, File::Levers, LEVERS, &LEVERS_PREFIXES)
+}
+
+static BONJEAN_PREFIXES: [(usize, &str); 9] = [
+    (1, "P13 bonjean.csv"),
+    (28, "P4 bonjean.csv 1"),
+    (36, "P13 bonjean.csv"),
+    (45, "P4 bonjean.csv 2"),
+    (46, "P5 bonjean.csv 2"),
+    (48, "P13 bonjean.csv"),
+    (84, "P4 bonjean.csv 3"),
+    (85, "P5 bonjean.csv 3"),
+    (93, ""),
+];
+
+#[test]
+fn every_prefix_of_bonjean_csv(rt: HostRuntime) -> Result<(), Fail> {
+    check_prefixes(&rt, File::Bonjean, BONJEAN, &BONJEAN_PREFIXES)
+}
+
+static TANKS_PREFIXES: [(usize, &str); 9] = [
+    // no record: no tank
+    (1, ""),
+    (19, "P4 tanks.csv 1"),
+    (24, ""),
+    (44, "P4 tanks.csv 2"),
+    (45, "P5 tanks.csv 2"),
+    (47, "P13 tanks.csv"),
+    (75, "P4 tanks.csv 3"),
+    (76, "P5 tanks.csv 3"),
+    (87, ""),
+];
+
+#[test]
+fn every_prefix_of_tanks_csv(rt: HostRuntime) -> Result<(), Fail> {
+    check_prefixes(&rt, File::Tanks, TANKS, &TANKS_PREFIXES)
+}
+
+static LEAST_GM_PREFIXES: [(usize, &str); 9] = [
+    (1, "P13 gm.csv"),
+    (3, "P4 gm.csv 1"),
+    (7, "P13 gm.csv"),
+    (14, "P4 gm.csv 2"),
+    (15, "P5 gm.csv 2"),
+    (20, "P13 gm.csv"),
+    (28, "P4 gm.csv 3"),
+    (29, "P5 gm.csv 3"),
+    (34, ""),
+];
+
+#[test]
+fn every_prefix_of_gm_csv(rt: HostRuntime) -> Result<(), Fail> {
+    check_prefixes(&rt, File::LeastGm, LEAST_GM, &LEAST_GM_PREFIXES)
+}
+
+/// Reads a column at both ends of its range, and one past each: what stands before its field and behind it, and the ends.
+fn check_ranges(
+    rt: &(impl Abort + AllocGlobal),
+    file: File,
+    within: &str,
+    beyond: &str,
+    ranges: &[(&str, &str, i64, i64)],
+) -> Result<(), Fail> {
+    for (before, after, low, high) in ranges {
+        for (value, want) in [
+            (*low, within),
+            (*high, within),
+            (low.saturating_sub(1), beyond),
+            (high.saturating_add(1), beyond),
+        ] {
+            let text = format!(in rt.alloc(); "{before}{value}{after}")?;
+            let refused = refusal_within(rt.alloc(), &widest()?, file, text.as_bytes())?;
+            assert_eq!(rt; refused.as_str(), want, "{text}");
+        }
+    }
+    Ok(())
+}
+
+static CELLS_RANGES: [(&str, &str, i64, i64); 4] = [
+    ("h,h,h,h,h\n0030082,", ",5,5,0", -1_000_000, 1_000_000),
+    ("h,h,h,h,h\n0030082,5,", ",5,5", -1_000_000, 1_000_000),
+    ("h,h,h,h,h\n0030082,5,5,", ",5", -1_000_000, 1_000_000),
+    ("h,h,h,h,h\n0030082,0,5,5,", "", 0, 1_000_000),
+];
+
+#[test]
+fn number_ranges_of_cells_csv(rt: HostRuntime) -> Result<(), Fail> {
+    check_ranges(&rt, File::Cells, "", "P6 cells.csv 2", &CELLS_RANGES)
+}
+
+static HYDRO_RANGES: [(&str, &str, i64, i64); 6] = [
+    ("h,h,h,h,h,h\n", ",5,5,5,5,5", 1, 1_000_000_000),
+    ("h,h,h,h,h,h\n5,", ",5,5,5,5", 0, 100_000),
+    ("h,h,h,h,h,h\n5,5,", ",5,5,5", 0, 1_000_000),
+    ("h,h,h,h,h,h\n5,5,5,", ",5,5", -1_000_000, 1_000_000),
+    ("h,h,h,h,h,h\n5,5,5,5,", ",5", -1_000_000, 1_000_000),
+    ("h,h,h,h,h,h\n5,5,5,5,5,", "", 1, 1_000_000_000),
+];
+
+#[test]
+fn number_ranges_of_hydro_csv(rt: HostRuntime) -> Result<(), Fail> {
+    check_ranges(
+        &rt,
+        File::Hydro,
+        "P13 hydro.csv",
+        "P6 hydro.csv 2",
+        &HYDRO_RANGES,
+    )
+}
+
+static BONJEAN_RANGES: [(&str, &str, i64, i64); 6] = [
+    ("h,h,h,h,h,h\n", ",5,5,5,5,5", 0, 100_000),
+    ("h,h,h,h,h,h\n5,", ",5,5,5,5", 0, 100_000_000),
+    ("h,h,h,h,h,h\n5,5,", ",5,5,5", 0, 100_000_000),
+    ("h,h,h,h,h,h\n5,5,5,", ",5,5", 0, 100_000_000),
+    ("h,h,h,h,h,h\n5,5,5,5,", ",5", 0, 100_000_000),
+    ("h,h,h,h,h,h\n5,5,5,5,5,", "", 0, 100_000_000),
+];
+
+#[test]
+fn number_ranges_of_bonjean_csv(rt: HostRuntime) -> Result<(), Fail> {
+    check_ranges(
+        &rt,
+        File::Bonjean,
+        "P13 bonjean.csv",
+        "P6 bonjean.csv 2",
+        &BONJEAN_RANGES,
+    )
+}
+
+static LEAST_GM_RANGES: [(&str, &str, i64, i64); 2] = [
+    ("h,h\n", ",5", 1, 1_000_000_000),
+    ("h,h\n5,", "", 0, 1_000_000),
+];
+
+#[test]
+fn number_ranges_of_gm_csv(rt: HostRuntime) -> Result<(), Fail> {
+    check_ranges(
+        &rt,
+        File::LeastGm,
+        "P13 gm.csv",
+        "P6 gm.csv 2",
+        &LEAST_GM_RANGES,
+    )
+}
+
+static TANKS_RANGES: [(&str, &str, i64, i64); 6] = [
+    ("h,h,h,h,h,h,h\nA,", ",5,5,5,5,5", 0, 1_000_000_000),
+    ("h,h,h,h,h,h,h\nA,5,", ",5,5,0,5", -1_000_000, 1_000_000),
+    ("h,h,h,h,h,h,h\nA,5,5,", ",5,5,5", -1_000_000, 1_000_000),
+    ("h,h,h,h,h,h,h\nA,5,5,5,", ",5,5", -1_000_000, 1_000_000),
+    ("h,h,h,h,h,h,h\nA,5,0,5,5,", ",5", 0, 1_000_000),
+    ("h,h,h,h,h,h,h\nA,5,5,5,5,5,", "", 0, 1_000_000_000_000),
+];
+
+#[test]
+fn number_ranges_of_tanks_csv(rt: HostRuntime) -> Result<(), Fail> {
+    check_ranges(
+        &rt,
+        File::Tanks,
+        "P13 tanks.csv",
+        "P6 tanks.csv 2",
+        &TANKS_RANGES,
+    )
+}
+
+/// The displacement, and each of the 13 levers.
+#[test]
+fn number_ranges_of_kn_csv(rt: HostRuntime) -> Result<(), Fail> {
+    for place in 0..14usize {
+        let mut before = String::from_str(rt.alloc(), "h,h,h,h,h,h,h,h,h,h,h,h,h,h\n")?;
+        let mut after = String::new(rt.alloc());
+        for _ in 0..place {
+            before.push_str("5,")?;
+        }
+        for _ in place..13 {
+            after.push_str(",5")?;
+        }
+        let (low, high) = if place == 0 {
+            (1, 1_000_000_000)
+        } else {
+            (0, 1_000_000)
+        };
+        for (value, want) in [
+            (low, "P13 kn.csv"),
+            (high, "P13 kn.csv"),
+            (low - 1, "P6 kn.csv 2"),
+            (high + 1, "P6 kn.csv 2"),
+        ] {
+            let text = format!(in rt.alloc(); "{before}{value}{after}")?;
+            let refused = refusal(rt.alloc(), File::Levers, text.as_bytes())?;
+            assert_eq!(rt; refused.as_str(), want, "{text}");
+        }
+    }
+    Ok(())
+}
+
+/// A heading, so many rows that begin with their number, and a last row.
+fn rows(alloc: Global, heading: &str, count: u32, tail: &str, last: &str) -> Result<String, Fail> {
+    let mut text = String::from_str(alloc, heading)?;
+    for number in 0..count {
+        write!(text, "{:07}{tail}\n", number + 1)?;
+    }
+    text.push_str(last)?;
+    Ok(text)
+}
+
+static MOST_ROWS: [(File, u32, &str, &str, &str); 5] = [
+    (
+        File::Cells,
+        30_000,
+        "h,h,h,h,h\n",
+        ",4,2,3,4",
+        "P6 cells.csv 30002",
+    ),
+    (
+        File::Hydro,
+        200,
+        "h,h,h,h,h,h\n",
+        ",2,3,4,5,6",
+        "P6 hydro.csv 202",
+    ),
+    (
+        File::Levers,
+        64,
+        "h,h,h,h,h,h,h,h,h,h,h,h,h,h\n",
+        ",1,2,3,4,5,6,7,8,9,10,11,12,13",
+        "P6 kn.csv 66",
+    ),
+    (
+        File::Bonjean,
+        64,
+        "h,h,h,h,h,h\n",
+        ",1,2,3,4,5",
+        "P6 bonjean.csv 66",
+    ),
+    (File::LeastGm, 200, "h,h\n", ",1", "P6 gm.csv 202"),
+];
+
+#[test]
+fn greatest_number_of_rows(rt: HostRuntime) -> Result<(), Fail> {
+    for (file, most, heading, tail, beyond) in &MOST_ROWS {
+        let full = rows(rt.alloc(), heading, *most, tail, "")?;
+        let taken = refusal(rt.alloc(), *file, full.as_bytes())?;
+        assert_eq!(rt; taken.as_str(), "");
+        let over = rows(rt.alloc(), heading, *most + 1, tail, "")?;
+        let refused = refusal(rt.alloc(), *file, over.as_bytes())?;
+        assert_eq!(rt; refused.as_str(), *beyond);
+    }
+    Ok(())
+}
+
+/// A row too many is found after its own fields, and before the rule and the stations.
+static LAST_ROWS: [(File, u32, &str, &str, &str, &str); 6] = [
+    (
+        File::Hydro,
+        200,
+        "h,h,h,h,h,h\n",
+        ",2,3,4,5,6",
+        "1,2,3,4,5",
+        "P4 hydro.csv 202",
+    ),
+    (
+        File::Hydro,
+        200,
+        "h,h,h,h,h,h\n",
+        ",2,3,4,5,6",
+        "x,2,3,4,5,6",
+        "P5 hydro.csv 202",
+    ),
+    (
+        File::Hydro,
+        200,
+        "h,h,h,h,h,h\n",
+        ",2,3,4,5,6",
+        "1,2,3,4,5,6",
+        "P6 hydro.csv 202",
+    ),
+    (
+        File::Cells,
+        30_000,
+        "h,h,h,h,h\n",
+        ",4,2,3,4",
+        "0000001,4,2,3,x",
+        "P5 cells.csv 30002",
+    ),
+    (
+        File::Cells,
+        30_000,
+        "h,h,h,h,h\n",
+        ",4,2,3,4",
+        "0000001,4,2,3,4",
+        "P6 cells.csv 30002",
+    ),
+    (
+        File::Cells,
+        30_000,
+        "h,h,h,h,h\n",
+        ",4,2,3,4",
+        "9000001,0,2,3,4",
+        "P6 cells.csv 30002",
+    ),
+];
+
+#[test]
+fn row_too_many(rt: HostRuntime) -> Result<(), Fail> {
+    for (file, most, heading, tail, last, want) in &LAST_ROWS {
+        let text = rows(rt.alloc(), heading, *most, tail, last)?;
+        let refused = refusal(rt.alloc(), *file, text.as_bytes())?;
+        assert_eq!(rt; refused.as_str(), *want, "{last}");
+    }
+    Ok(())
+}
+
+/// A heading, so many tanks of so many rows, and a last row.
+fn tank_rows(alloc: Global, tanks: u32, count: u32, last: &str) -> Result<String, Fail> {
+    let mut text = String::from_str(alloc, "h,h,h,h,h,h,h\n")?;
+    for tank in 0..tanks {
+        for row in 0..count {
+            write!(text, "T{tank},{row},5,0,0,5,0\n")?;
+        }
+    }
+    text.push_str(last)?;
+    Ok(text)
+}
+
+static TANK_LIMITS: [(u32, u32, &str, &str); 16] = [
+    (200, 2, "", ""),
+    (2, 64, "", ""),
+    (200, 64, "", ""),
+    // a tank's 65th row, after its own fields and before its order and place
+    (2, 65, "", "P6 tanks.csv 66"),
+    (1, 64, "T0,1,5,0,0,5,x", "P5 tanks.csv 66"),
+    (1, 64, "T0,1,5,0,0,5,0", "P6 tanks.csv 66"),
+    (1, 64, "T0,64,0,0,0,5,0", "P6 tanks.csv 66"),
+    // a name that comes back with 64 rows, and with fewer
+    (2, 64, "T0,64,5,0,0,5,0", "P6 tanks.csv 130"),
+    (2, 63, "T0,64,5,0,0,5,0", "P7 tanks.csv 128"),
+    (2, 63, "T0,64,0,0,0,5,0", "P7 tanks.csv 128"),
+    // with 200 tanks a new name, one that comes back, and the last one's
+    (200, 2, "T200,0,5,0,0,5,0", "P6 tanks.csv 402"),
+    (200, 2, "T200,0,0,0,0,5,0", "P6 tanks.csv 402"),
+    (200, 2, "T0,9,5,0,0,5,0", "P7 tanks.csv 402"),
+    (200, 2, "T199,9,5,0,0,5,0", ""),
+    (199, 2, "T200,0,5,0,0,5,0\nT200,1,5,0,0,5,0", ""),
+    (199, 2, "T200,0,5,0,0,5,0", "P13 tanks.csv"),
+];
+
+#[test]
+fn greatest_numbers_of_tanks(rt: HostRuntime) -> Result<(), Fail> {
+    for (tanks, count, last, want) in &TANK_LIMITS {
+        let text = tank_rows(rt.alloc(), *tanks, *count, last)?;
+        let refused = refusal(rt.alloc(), File::Tanks, text.as_bytes())?;
+        assert_eq!(rt; refused.as_str(), *want, "{tanks} {count} {last}");
+    }
+    Ok(())
+}

@@ -1,0 +1,101 @@
+ghost use Rattle.std.specs.Prelude.{◌≡◌, ◌≢◌, Ok, Err, IfOk, IfErr, All, map, slice_get, ◌≤◌, ◌^◌, unsigned_abs};
+ghost use Rattle.std.specs.Map.{lookup};
+ghost use Rattle.units_core.specs.Cells.{cell_eq};
+ghost use Rattle.ship_tables.specs.Record.{IsPlace, place_at, places_in};
+
+use crate::extents::Extent;
+use crate::faults::TableFault;
+use crate::forms::cells_layout;
+use crate::reading::read_file;
+use crate::rows::Row;
+use indexmap::IndexSet;
+use std::alloc::Global;
+use std::marker::Model;
+use units_core::{Cell, Mm, Place};
+
+/// The cells of a ship in the order of their file, each with where a container in it stands.
+#[derive(Debug, Drop)]
+pub struct CellPlaces {
+    cells: IndexSet<Cell>,
+    places: Vec<Place>,
+}
+
+impl Model for CellPlaces {
+    ghost use Rattle.std.specs.Prelude.{List, zip};
+    ghost use Rattle.units_core.specs.declared.cells.Cell.{Cell};
+    ghost use Rattle.units_core.specs.declared.bodies.Place.{Place};
+
+    ghost Value = { List (Cell × Place) };
+
+    ghost view = { λ c. zip c.cells.keys c.places.items };
+}
+
+/// The place at an index.
+fn place_number(places: &[Place], index: usize) -> Option<Place>
+    ensures { result ≡ slice_get places.now index }
+{
+    if index < places.len() {
+        Some(places[index])
+    } else {
+        None
+    }
+}
+
+impl CellPlaces {
+    /// Where a container in a cell stands, in constant time; `None` for a cell that the ship hasn't.
+    pub fn get(&self, cell: Cell) -> Option<Place>
+        ensures { result ≡ lookup (cell_eq cell) self.now }
+    {
+        let index = self.cells.get_index_of(&cell)?;
+        place_number(self.places.as_slice(), index)
+    }
+}
+
+/// The length of so many millimetres.
+pub fn length(mm: i64) -> Mm
+    requires { unsigned_abs mm ≤ 10 ^ 6 }
+    ensures { result ≡ mm }
+{
+    Mm::new(mm as i32).unwrap()
+}
+
+/// Where the container of a row stands.
+fn place_at(row: &Row) -> Place
+    requires { IsPlace (place_at row.now) }
+    ensures { result ≡ place_at row.now }
+{
+    Place {
+        x: length(row.number(1)),
+        y: length(row.number(2)),
+        z: length(row.number(3)),
+        half: length(row.number(4)),
+    }
+}
+
+/// Where the containers of rows stand.
+fn places(alloc: Global, rows: &[Row]) -> Result<Vec<Place>, TableFault>
+    requires { All (λ r. IsPlace (place_at r)) rows.now }
+    ensures ok { IfOk result (λ v. v.items ≡ map place_at rows.now) }
+    ensures memory { IfErr result (λ e. e ≡ TableFault.NoMemory) }
+{
+    let mut places = Vec::new(alloc);
+    for row in rows {
+        if places.push(place_at(row)).is_err() {
+            return Err(TableFault::NoMemory);
+        }
+    }
+    Ok(places)
+}
+
+/// The cells that the text of `cells.csv` writes, for a ship of this extent.
+pub fn read_places(alloc: Global, extent: &Extent, text: &[u8]) -> Result<CellPlaces, TableFault>
+    ensures ok { IfOk result (λ c. places_in extent.now text.now ≡ Ok c) }
+    ensures refused { IfErr result (λ e. e ≢ TableFault.NoMemory → places_in extent.now text.now ≡ Err e) }
+{
+    let read = read_file(alloc, &cells_layout(*extent), text)?;
+    let places = places(alloc, read.rows.as_slice())?;
+    Ok(CellPlaces {
+        cells: read.cells,
+        places,
+    })
+}
