@@ -4,6 +4,7 @@
 
 mod command_line;
 mod files;
+mod folders;
 mod serving;
 mod stops;
 

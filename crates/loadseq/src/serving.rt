@@ -1,38 +1,12 @@
 ghost use Rattle.std.specs.Prelude.{◌≤◌, IfOk};
 
 use crate::command_line::{Line, read_line};
-use crate::files::{Readers, Unopened, whole};
+use crate::files::Readers;
+use crate::folders::{bytes_of, read_folder};
 use crate::stops::Stop;
 use seq_report::{Inputs, Through, report};
-use ship_profile::ProfileBytes;
 use std::alloc::Global;
 use std::io::Write;
-
-/// The bytes of the file of this name.
-fn bytes_of<R: Readers>(alloc: Global, files: &mut R, name: &str) -> Result<Vec<u8>, Stop> {
-    let read = match files.file(name) {
-        Ok(file) => whole(alloc, file),
-        Err(unopened) => Err(unopened),
-    };
-    match read {
-        Ok(bytes) => Ok(bytes),
-        Err(Unopened::NoMemory) => Err(Stop::NoMemory),
-        Err(Unopened::Missing | Unopened::Failed) => {
-            Err(Stop::Read(String::from_str(alloc, name)?))
-        }
-    }
-}
-
-/// The bytes of a file of the profile's folder.
-fn bytes_in<R: Readers>(
-    alloc: Global,
-    files: &mut R,
-    folder: &str,
-    name: &str,
-) -> Result<Vec<u8>, Stop> {
-    let path = format!(in alloc; "{folder}/{name}")?;
-    bytes_of(alloc, files, path.as_str())
-}
 
 /// The exit status of a run that writes its whole report: 0, or 1 where a step fails.
 fn check<R: Readers, O: Write>(
@@ -43,16 +17,10 @@ fn check<R: Readers, O: Write>(
 ) -> Result<u8, Stop>
     ensures { IfOk result (λ status. status ≤ 1) }
 {
-    let ship = bytes_in(alloc, files, line.folder, "ship.toml")?;
-    let cells = bytes_in(alloc, files, line.folder, "cells.csv")?;
-    let hydro = bytes_in(alloc, files, line.folder, "hydro.csv")?;
+    let folder = read_folder(alloc, files, line.folder)?;
     let baplie = bytes_of(alloc, files, line.baplie)?;
     let inputs = Inputs {
-        profile: ProfileBytes {
-            ship: &ship,
-            cells: &cells,
-            hydro: &hydro,
-        },
+        profile: folder.texts(),
         baplie: &baplie,
     };
     let mut sink = Through::new(out);

@@ -7,15 +7,24 @@ use std::io::{ErrorKind, Read, Write};
 use std::process::Abort;
 
 const SHIP: &[u8] =
-    b"[[blocks]]\nkg = 8200000\nx_mm = 50000\ny_mm = 0\nz_mm = 6000\nhalf_mm = 50000\n";
+    b"lbp_mm = 100000\ndownflooding_deg = 60\ndraught_max_mm = 6100\ntrim_max_mm = 500\nlist_max = 500\nclosing_max_kg = 5000\nstations_mm = [0, 100000]\n[[frames]]\nx_mm = 0\nshear_max_kg = 1\nhog_max_kgmm = 1\nsag_max_kgmm = 1\n[[blocks]]\nkg = 8200000\nx_mm = 50000\ny_mm = 0\nz_mm = 6000\nhalf_mm = 50000\n";
 
 const HEAVY: &[u8] =
-    b"[[blocks]]\nkg = 12300001\nx_mm = 50000\ny_mm = 0\nz_mm = 6000\nhalf_mm = 50000\n";
+    b"lbp_mm = 100000\ndownflooding_deg = 60\ndraught_max_mm = 6100\ntrim_max_mm = 500\nlist_max = 500\nclosing_max_kg = 5000\nstations_mm = [0, 100000]\n[[frames]]\nx_mm = 0\nshear_max_kg = 1\nhog_max_kgmm = 1\nsag_max_kgmm = 1\n[[blocks]]\nkg = 12300001\nx_mm = 50000\ny_mm = 0\nz_mm = 6000\nhalf_mm = 50000\n";
 
 const CELLS: &[u8] = b"cell,x,y,z,half\n0030082,50000,0,10000,3029\n";
 
 const HYDRO: &[u8] =
     b"kg,draught,kmt,lcb,lcf,mct\n4100000,2000,17667,50000,50000,17000000\n8200000,4000,10333,50000,50000,17000000\n12300000,6000,8556,50000,50000,17000000\n";
+
+const LEVERS: &[u8] =
+    b"kg,0,5,10,15,20,25,30,35,40,45,50,55,60\n4100000,0,900,1790,2650,3470,4230,4900,5400,5750,5980,6110,6150,6110\n12300000,0,900,1790,2650,3470,4230,4900,5400,5750,5980,6110,6150,6110\n";
+
+const BONJEAN: &[u8] = b"draught,0,100000\n0,0,0\n8000,1600000,1600000\n";
+
+const TANKS: &[u8] = b"tank,kg,x,y,z,half,fsm\n";
+
+const LEAST_GM: &[u8] = b"kg,gm\n4100000,150\n12300000,150\n";
 
 const PLAN: &[u8] = b"UNB+UNOA:2+SHIP+PLAN+250101:1200+7'UNH+1+BAPLIE:D:95B:UN'UNT+2+1'UNZ+1+7'";
 
@@ -126,12 +135,16 @@ impl Write for Full {
 const WORDS: [&str; 4] = ["check", "box", "plan.edi", "moves.edi"];
 
 /// The files of the box ship, with one of them replaced.
-fn with<'a>(name: &'a str, content: Content) -> [(&'a str, Content); 5] {
+fn with<'a>(name: &'a str, content: Content) -> [(&'a str, Content); 9] {
     [
         (name, content),
         ("box/ship.toml", Content::Bytes(SHIP)),
         ("box/cells.csv", Content::Bytes(CELLS)),
         ("box/hydro.csv", Content::Bytes(HYDRO)),
+        ("box/kn.csv", Content::Bytes(LEVERS)),
+        ("box/bonjean.csv", Content::Bytes(BONJEAN)),
+        ("box/tanks.csv", Content::Bytes(TANKS)),
+        ("box/gm.csv", Content::Bytes(LEAST_GM)),
         ("plan.edi", Content::Bytes(PLAN)),
     ]
 }
@@ -182,7 +195,7 @@ fn statuses(rt: HostRuntime) {
 #[test]
 fn refusals(rt: HostRuntime) {
     for (name, text, line) in [
-        ("box/ship.toml", b"".as_slice(), "refused F1 P2 blocks\n"),
+        ("box/ship.toml", b"".as_slice(), "refused F1 P2 lbp_mm\n"),
         ("box/ship.toml", b"\x00\xff".as_slice(), "refused F1 P1\n"),
         ("box/ship.toml", CELLS, "refused F1 P1\n"),
         (
@@ -196,8 +209,19 @@ fn refusals(rt: HostRuntime) {
             b"kg\n".as_slice(),
             "refused F1 P4 hydro.csv 1\n",
         ),
+        ("box/kn.csv", HYDRO, "refused F1 P4 kn.csv 1\n"),
+        (
+            "box/tanks.csv",
+            b"tank,kg,x,y,z,half,fsm\nDB1,0,0,0,0,1,0\n".as_slice(),
+            "refused F1 P10 tanks.csv 2\n",
+        ),
+        (
+            "box/gm.csv",
+            b"kg,gm\n4100000,150\n".as_slice(),
+            "refused F1 P13 gm.csv\n",
+        ),
         ("plan.edi", b"".as_slice(), "refused F2 M1 E1 at 0\n"),
-        ("plan.edi", SHIP, "refused F2 M1 E1 at 74\n"),
+        ("plan.edi", SHIP, "refused F2 M1 E1 at 286\n"),
         (
             "plan.edi",
             b"UNB+UNOA:2+S+P+1:1+7'UNH+1+BAPLIE:D:95B:UN'LOC+147+0990082'MEA+WT++KGM:1'UNT+4+1'UNZ+1+7'".as_slice(),
@@ -237,26 +261,23 @@ fn words(rt: HostRuntime) {
     }
 }
 
+/// The files in the order of reading, each with the line of a run that can't read it.
+static FILES: [(&str, &str); 8] = [
+    ("box/ship.toml", "read fault box/ship.toml\n"),
+    ("box/cells.csv", "read fault box/cells.csv\n"),
+    ("box/hydro.csv", "read fault box/hydro.csv\n"),
+    ("box/kn.csv", "read fault box/kn.csv\n"),
+    ("box/bonjean.csv", "read fault box/bonjean.csv\n"),
+    ("box/tanks.csv", "read fault box/tanks.csv\n"),
+    ("box/gm.csv", "read fault box/gm.csv\n"),
+    ("plan.edi", "read fault plan.edi\n"),
+];
+
 // The files are read in their order before anything is checked; the first that isn't read ends the run.
 #[test]
 fn unread_files(rt: HostRuntime) {
-    for name in [
-        "box/ship.toml",
-        "box/cells.csv",
-        "box/hydro.csv",
-        "plan.edi",
-    ] {
-        let line = match name {
-            "box/ship.toml" => "read fault box/ship.toml\n",
-            "box/cells.csv" => "read fault box/cells.csv\n",
-            "box/hydro.csv" => "read fault box/hydro.csv\n",
-            _ => "read fault plan.edi\n",
-        };
-        for content in [
-            Content::Broken,
-            Content::Closed(Unopened::Missing),
-            Content::Closed(Unopened::Failed),
-        ] {
+    for (name, line) in &FILES {
+        for content in [Content::Broken, Content::Closed(Unopened::Failed)] {
             check(&rt, &with(name, content), &WORDS, 5, "", line);
         }
         check(
@@ -270,6 +291,19 @@ fn unread_files(rt: HostRuntime) {
     }
     let bad_ship = [("box/ship.toml", Content::Bytes(b"="))];
     check(&rt, &bad_ship, &WORDS, 5, "", "read fault box/cells.csv\n");
+}
+
+// Only the table of least metacentric heights may be missing.
+#[test]
+fn missing_files(rt: HostRuntime) {
+    for (name, line) in &FILES {
+        let files = with(name, Content::Closed(Unopened::Missing));
+        if *name == "box/gm.csv" {
+            check(&rt, &files, &WORDS, 0, REPORT, "");
+        } else {
+            check(&rt, &files, &WORDS, 5, "", line);
+        }
+    }
 }
 
 #[test]

@@ -1,3 +1,3 @@
-pub mod Arrivals
 pub mod Headers
 pub mod Totals
+pub mod Lengths

@@ -3,7 +3,7 @@
 use Rattle.std.specs.Prelude.{ℕ, ℤ, ◌+ℤ◌, Option, Some, None, option_map, Result, Ok, Err}
 use Rattle.units_core.specs.Ratio.{Ratio, ◌over◌, ◌⊖◌, floor_of}
 use Rattle.units_core.specs.Interpolation.{interval, reading}
-use Rattle.ship_profile.specs.Record.{HydroTable}
+use Rattle.ship_tables.specs.Record.{HydroTable}
 use Rattle.seq_report.specs.declared.sums.Sum.{Sum}
 use Rattle.seq_report.specs.declared.floating.Figures.{Figures}
 use Rattle.seq_report.specs.declared.floating.Outside.{Outside}

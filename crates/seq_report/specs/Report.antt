@@ -3,7 +3,7 @@ use Rattle.std.specs.Prelude.{ℕ, ℤ, List, [], ◌∷◌, ◌++◌, map, flat
 use Rattle.std.specs.Fmt.{decimal, signed_decimal}
 use Rattle.std.specs.Option.{option_or}
 use Rattle.units_core.specs.Bodies.{Mass}
-use Rattle.ship_profile.specs.Record.{ShipRecord}
+use Rattle.ship_profile.specs.Record.{ProfileRecord}
 use Rattle.seq_report.specs.declared.floating.Figures.{Figures}
 use Rattle.seq_report.specs.declared.floating.Outside.{Outside}
 use Rattle.seq_report.specs.declared.floating.Outside.TheVariants.{Hydro}
@@ -74,11 +74,11 @@ first_of [] = None
 first_of (l ∷ more) = option_or (failure_of l) (first_of more)
 
 -- the line of a step, by adding up everything aboard
-abbrev pub step_line : ShipRecord → ℕ → List Mass → StepLine
-step_line ship step bodies = record { step = step; kg = (sum_of bodies).kg; figures = figures_of ship.hydro (sum_of bodies) }
+abbrev pub step_line : ProfileRecord → ℕ → List Mass → StepLine
+step_line ship step bodies = record { step = step; kg = (sum_of bodies).kg; figures = figures_of ship.tables.hydro (sum_of bodies) }
 
 -- the lines of a run: the condition on arrival
-abbrev pub lines_of : ShipRecord → List Mass → List StepLine
+abbrev pub lines_of : ProfileRecord → List Mass → List StepLine
 lines_of ship arrival = step_line ship 0 arrival ∷ []
 
 abbrev pub report_of : List StepLine → List ℕ

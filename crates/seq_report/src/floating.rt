@@ -1,7 +1,7 @@
 ghost use Rattle.std.specs.Prelude.{◌≡◌, ℕ, ◌+◌, ◌*◌, ◌^◌, ◌≤◌, pos, ◌≤ℤ◌, ◌<ℤ◌, unsigned_abs, length, Ok, Err, MatchOption, None, Some};
 ghost use Rattle.units_core.specs.Interpolation.{at, reading, Encloses, IsWithin, Rises};
 ghost use Rattle.units_core.specs.Ratio.{Ratio, ◌over◌};
-ghost use Rattle.ship_profile.specs.Record.{IsHydroTable};
+ghost use Rattle.ship_tables.specs.Record.{IsHydroTable};
 ghost use Rattle.seq_report.specs.Floating.{Waterline, waterline, waterline_in, gm, figures_of};
 
 use crate::sums::Sum;

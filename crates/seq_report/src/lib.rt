@@ -2,7 +2,6 @@
 //! a sink, with every refusal in a fixed order.
 #![tactic(auto)]
 
-mod arrival;
 mod faults;
 mod floating;
 mod lines;
@@ -10,7 +9,6 @@ mod runs;
 mod sink;
 mod sums;
 
-pub use arrival::{SeqCode, SeqFault};
 pub use faults::RunFault;
 pub use floating::Outside;
 pub use lines::Criterion;

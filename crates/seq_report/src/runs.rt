@@ -2,14 +2,14 @@ ghost use Rattle.std.specs.Prelude.{◌≡◌, ◌≢◌, ℕ, ◌<◌, ◌≤�
 ghost use Rattle.std.specs.Io.KnownBytes.{Appends};
 ghost use Rattle.units_core.specs.Bodies.{Mass};
 ghost use Rattle.seq_report.specs.Report.{lines_of, report_of, first_of};
-ghost use Rattle.seq_report.specs.Refusal.{Outcome, outcome_on, outcome_of, ship_in, items_in, bodies_in, is_write, is_write_fault, is_refusal, TellsMemory};
+ghost use Rattle.seq_report.specs.Refusal.{Outcome, outcome_on, outcome_with, outcome_for, outcome_of, ship_in, items_in, bodies_in, is_write, is_write_fault, is_refusal, TellsMemory};
 
-use crate::arrival::{SeqCode, arrival_bodies};
 use crate::faults::RunFault;
 use crate::floating::figures_of;
 use crate::lines::{Criterion, StepLine, write_header, write_line};
 use crate::sink::{Sink, put_all};
 use crate::sums::sum_of;
+use lift_sequence::{Arrival, SeqCode};
 use ship_profile::{Profile, ProfileBytes, ProfileFault};
 use std::alloc::{AllocError, Global};
 use stow_messages::{Item, StowCode, baplie};
@@ -63,16 +63,16 @@ fn items(alloc: Global, inputs: &Inputs<'_>) -> Result<Vec<Item>, RunFault>
     }
 }
 
-fn bodies(alloc: Global, profile: &Profile, items: &[Item]) -> Result<Vec<Body>, RunFault>
-    requires { length items.now ≤ 30000 }
-    ensures ok { IfOk result (λ bodies. bodies_in profile.now items.now ≡ Ok bodies.items) }
-    ensures refused { IfErr result (λ e. e ≢ RunFault.NoMemory → bodies_in profile.now items.now ≡ Err e) }
+fn arrival(alloc: Global, profile: &Profile, items: Vec<Item>) -> Result<Arrival, RunFault>
+    requires { length items.items ≤ 30000 }
+    ensures ok { IfOk result (λ a. bodies_in profile.now items.items ≡ Ok a.bodies) }
+    ensures refused { IfErr result (λ e. e ≢ RunFault.NoMemory → bodies_in profile.now items.items ≡ Err e) }
     ensures memory { IfErr result TellsMemory }
     ensures silent { is_write result ≡ false }
-    ensures few { IfOk result (λ bodies. length bodies.items ≤ 30200) }
+    ensures few { IfOk result (λ a. length a.bodies ≤ 30400) }
 {
-    match arrival_bodies(alloc, profile, items) {
-        Ok(bodies) => Ok(bodies),
+    match Arrival::new(alloc, profile, items, profile.fills()) {
+        Ok(arrival) => Ok(arrival),
         Err(fault) if fault.code == SeqCode::NoMemory => Err(RunFault::NoMemory),
         Err(fault) => Err(RunFault::Arrival(fault)),
     }
@@ -80,7 +80,7 @@ fn bodies(alloc: Global, profile: &Profile, items: &[Item]) -> Result<Vec<Body>,
 
 /// The report on what is aboard.
 fn report_on_bodies(alloc: Global, profile: &Profile, bodies: &[Body]) -> Result<Text, AllocError>
-    requires { length bodies.now ≤ 30200 }
+    requires { length bodies.now ≤ 30400 }
     ensures { IfOk result (λ made. record { text = string_bytes made.text; summary = made.summary } ≡ outcome_on (lines_of profile.now bodies.now)) }
 {
     let sum = sum_of(bodies);
@@ -99,6 +99,32 @@ fn report_on_bodies(alloc: Global, profile: &Profile, bodies: &[Body]) -> Result
     Ok(Text { text, summary })
 }
 
+/// The report on a ship with the items of a bay plan, or why they can't all be aboard.
+fn report_on_items(alloc: Global, profile: &Profile, items: Vec<Item>) -> Result<Text, RunFault>
+    requires { length items.items ≤ 30000 }
+    ensures ok { IfOk result (λ made. outcome_with profile.now items.items ≡ Ok (record { text = string_bytes made.text; summary = made.summary })) }
+    ensures refused { IfErr result (λ e. e ≢ RunFault.NoMemory → outcome_with profile.now items.items ≡ Err e) }
+    ensures memory { IfErr result TellsMemory }
+    ensures silent { is_write result ≡ false }
+{
+    let arrival = arrival(alloc, profile, items)?;
+    match report_on_bodies(alloc, profile, arrival.bodies()) {
+        Ok(made) => Ok(made),
+        Err(AllocError) => Err(RunFault::NoMemory),
+    }
+}
+
+/// The report on a ship, or the first refusal of the other inputs.
+fn report_on_ship(alloc: Global, profile: &Profile, inputs: &Inputs<'_>) -> Result<Text, RunFault>
+    ensures ok { IfOk result (λ made. outcome_for profile.now inputs.now ≡ Ok (record { text = string_bytes made.text; summary = made.summary })) }
+    ensures refused { IfErr result (λ e. e ≢ RunFault.NoMemory → outcome_for profile.now inputs.now ≡ Err e) }
+    ensures memory { IfErr result TellsMemory }
+    ensures silent { is_write result ≡ false }
+{
+    let items = items(alloc, inputs)?;
+    report_on_items(alloc, profile, items)
+}
+
 /// The report on the inputs, or the first refusal.
 fn report_on_inputs(alloc: Global, inputs: &Inputs<'_>) -> Result<Text, RunFault>
     ensures ok { IfOk result (λ made. outcome_of inputs.now ≡ Ok (record { text = string_bytes made.text; summary = made.summary })) }
@@ -107,12 +133,7 @@ fn report_on_inputs(alloc: Global, inputs: &Inputs<'_>) -> Result<Text, RunFault
     ensures silent { is_write result ≡ false }
 {
     let profile = ship(alloc, inputs)?;
-    let items = items(alloc, inputs)?;
-    let bodies = bodies(alloc, &profile, &items)?;
-    match report_on_bodies(alloc, &profile, &bodies) {
-        Ok(made) => Ok(made),
-        Err(AllocError) => Err(RunFault::NoMemory),
-    }
+    report_on_ship(alloc, &profile, inputs)
 }
 
 /// Writes the report on the inputs to a sink that has not failed. What is written follows from the input bytes

@@ -6,15 +6,28 @@ use std::io::{ErrorKind, Write};
 use std::process::Abort;
 use std::test::Fail;
 
-/// The box ship: one block, five cells and three rows of hydrostatics.
+/// What the box ship's `ship.toml` says before her block.
+const LIMITS: &str =
+    "lbp_mm = 100000\ndownflooding_deg = 60\ndraught_max_mm = 6100\ntrim_max_mm = 500\nlist_max = 500\nclosing_max_kg = 5000\nstations_mm = [0, 25000, 50000, 75000, 100000]\n[[frames]]\nx_mm = 50000\nshear_max_kg = 100000\nhog_max_kgmm = 1000000000\nsag_max_kgmm = 1000000000\n";
+
+/// The box ship: one block, one frame, five cells, three rows of hydrostatics and one tank, which is empty.
 const SHIP: &str =
-    "[[blocks]]\nkg = 8200000\nx_mm = 50000\ny_mm = 0\nz_mm = 6000\nhalf_mm = 50000\n";
+    "lbp_mm = 100000\ndownflooding_deg = 60\ndraught_max_mm = 6100\ntrim_max_mm = 500\nlist_max = 500\nclosing_max_kg = 5000\nstations_mm = [0, 25000, 50000, 75000, 100000]\n[[blocks]]\nkg = 8200000\nx_mm = 50000\ny_mm = 0\nz_mm = 6000\nhalf_mm = 50000\n[[frames]]\nx_mm = 50000\nshear_max_kg = 100000\nhog_max_kgmm = 1000000000\nsag_max_kgmm = 1000000000\n";
 
 const CELLS: &[u8] =
     b"cell,x,y,z,half\n0010082,75000,0,10000,3029\n0020082,62500,0,10000,6096\n0030082,50000,0,10000,3029\n0030782,50000,8000,10000,3029\n0050082,25000,0,10000,3029\n";
 
 const HYDRO: &[u8] =
     b"kg,draught,kmt,lcb,lcf,mct\n4100000,2000,17667,50000,50000,17000000\n8200000,4000,10333,50000,50000,17000000\n12300000,6000,8556,50000,50000,17000000\n";
+
+const LEVERS: &[u8] =
+    b"kg,0,5,10,15,20,25,30,35,40,45,50,55,60\n4100000,0,900,1790,2650,3470,4230,4900,5400,5750,5980,6110,6150,6110\n12300000,0,900,1790,2650,3470,4230,4900,5400,5750,5980,6110,6150,6110\n";
+
+const BONJEAN: &[u8] =
+    b"draught,0,25000,50000,75000,100000\n0,0,0,0,0,0\n8000,1600000,1600000,1600000,1600000,1600000\n";
+
+const TANKS: &[u8] =
+    b"tank,kg,x,y,z,half,fsm\nDB1,0,50000,0,0,5000,0\nDB1,500000,50000,0,1000,5000,2050000000\n";
 
 const EMPTY: &[u8] = b"UNB+UNOA:2+SHIP+PLAN+250101:1200+7'UNH+1+BAPLIE:D:95B:UN'UNT+2+1'UNZ+1+7'";
 
@@ -48,6 +61,10 @@ fn inputs<'a>(ship: &'a str, baplie: &'a [u8]) -> Inputs<'a> {
             ship: ship.as_bytes(),
             cells: CELLS,
             hydro: HYDRO,
+            kn: LEVERS,
+            bonjean: BONJEAN,
+            tanks: TANKS,
+            gm: None,
         },
         baplie,
     }
@@ -79,7 +96,7 @@ fn check_block(
     summary: Summary,
 ) -> Result<(), Fail> {
     let ship = format!(in rt.alloc();
-        "[[blocks]]\nkg = {kg}\nx_mm = 50000\ny_mm = 0\nz_mm = {z}\nhalf_mm = 50000\n"
+        "{LIMITS}[[blocks]]\nkg = {kg}\nx_mm = 50000\ny_mm = 0\nz_mm = {z}\nhalf_mm = 50000\n"
     )?;
     let (outcome, text) = written(rt.alloc(), &inputs(ship.as_str(), EMPTY));
     let expected = format!(in rt.alloc(); "STEP LIFT KG GM MEAN\n{line}\n")?;
@@ -138,6 +155,25 @@ fn items_are_aboard(rt: HostRuntime) -> Result<(), Fail> {
     Ok(())
 }
 
+/// The box ship with so many kg in her tank.
+fn filled(alloc: Global, kg: u32) -> Result<String, Fail> {
+    Ok(format!(in alloc; "{SHIP}[[fills]]\ntank = \"DB1\"\nkg = {kg}\n")?)
+}
+
+// What a tank holds is aboard, and its free surface raises the centre of gravity.
+#[test]
+fn tank_fill(rt: HostRuntime) -> Result<(), Fail> {
+    let ship = filled(rt.alloc(), 500_000)?;
+    let (outcome, text) = written(rt.alloc(), &inputs(ship.as_str(), EMPTY));
+    assert_eq!(rt;
+        text.as_slice(),
+        b"STEP LIFT KG GM MEAN\n0 - 8700000 4168 4243\n".as_slice()
+    );
+    assert_eq!(rt; outcome, Ok(ALL_PASS));
+    let over = filled(rt.alloc(), 500_001)?;
+    check_refusal(&rt, over.as_str(), EMPTY, "F3 S6 fill 1")
+}
+
 /// These inputs are refused so, and nothing is written.
 fn check_refusal(
     rt: &(impl Abort + AllocGlobal),
@@ -163,8 +199,11 @@ fn first_refusal(rt: HostRuntime) -> Result<(), Fail> {
         b"UNB+UNOA:2+SHIP+PLAN+250101:1200+7'UNH+1+BAPLIE:D:95B:UN'LOC+147+0030782'MEA+WT++KGM:1'LOC+147+030782'MEA+WT++KGM:1'UNT+6+1'UNZ+1+7'";
     let unknown =
         b"UNB+UNOA:2+SHIP+PLAN+250101:1200+7'UNH+1+BAPLIE:D:95B:UN'LOC+147+0990082'MEA+WT++KGM:1'LOC+147+0990082'MEA+WT++KGM:1'UNT+6+1'UNZ+1+7'";
-    check_refusal(&rt, "blocks = 1", b"", "F1 P3 blocks")?;
-    check_refusal(&rt, "", taken_twice, "F1 P2 blocks")?;
+    let overlapping =
+        b"UNB+UNOA:2+SHIP+PLAN+250101:1200+7'UNH+1+BAPLIE:D:95B:UN'LOC+147+0010082'MEA+WT++KGM:1'LOC+147+0020082'MEA+WT++KGM:1'UNT+6+1'UNZ+1+7'";
+    check_refusal(&rt, "lbp_mm = true", b"", "F1 P3 lbp_mm")?;
+    check_refusal(&rt, "", taken_twice, "F1 P2 lbp_mm")?;
+    check_refusal(&rt, SHIP, overlapping, "F3 S3 item 2 cell 0010082")?;
     check_refusal(&rt, SHIP, b"", "F2 M1 E1 at 0")?;
     check_refusal(
         &rt,

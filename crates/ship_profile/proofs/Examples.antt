@@ -1,62 +1,61 @@
--- The definitions on small texts, computed.
-use Rattle.std.proofs.Common.{◌≡◌, codes, pos, neg_ℤ, [], ◌∷◌, Some, None, Ok, Err, refl}
-use Rattle.csv.proofs.OnLiterals.{csv_on_literals}
+-- The definitions on small documents, computed.
+use Rattle.std.proofs.Common.{◌≡◌, codes, pos, [], ◌∷◌, Ok, Err, refl}
+use Rattle.toml.proofs.OnLiterals.{toml_on_literals}
+use Rattle.toml.specs.Parse.{parse_document}
 use Rattle.ship_profile.specs.declared.faults.File.TheVariants as file
-use Rattle.ship_profile.specs.declared.faults.ProfileFault.TheVariants.{BadCsv, OutOfLimits, NotRising, DoubleCell, TooFewRows}
-use Rattle.ship_profile.specs.Numbers.{number_in}
-use Rattle.ship_profile.specs.Record.{places_in, hydro_in}
+use Rattle.ship_profile.specs.declared.faults.Key.TheVariants as key
+use Rattle.ship_profile.specs.declared.faults.ProfileFault.TheVariants.{BadToml, MissingKey, BadKey, OutOfLimits, NotRising, FrameNotStation, OutsideStations, Downflooding, TooFewRows}
+use Rattle.ship_profile.specs.Outcome.{◌>>=◌, or_fault}
+use Rattle.ship_profile.specs.Ship.{ship_of, stations_of, blocks_of, frames_of, named_fills_of}
 
--- spaces at both ends, a minus, leading zeros
-spaced : number_in (codes "  -005 ") ≡ Some (neg_ℤ (pos 5))
-spaced = refl
+-- no document, and one without keys
+no_document : or_fault BadToml (parse_document (codes "lbp_mm = ")) >>= ship_of ≡ Err BadToml
+unfolding toml_on_literals
+no_document = refl
 
--- 18 digits, and one more
-longest : number_in (codes "999999999999999999") ≡ Some (pos 999999999999999999)
-longest = refl
+no_keys : or_fault BadToml (parse_document (codes "")) >>= ship_of ≡ Err (MissingKey key.Lbp)
+unfolding toml_on_literals
+no_keys = refl
 
-too_long : number_in (codes "0000000000000000001") ≡ None
-too_long = refl
+-- an angle of down-flooding, found before the next key
+small_angle : or_fault BadToml (parse_document (codes "lbp_mm = 1\ndownflooding_deg = 39\ndraught_max_mm = 0")) >>= ship_of ≡ Err (Downflooding 39)
+unfolding toml_on_literals
+small_angle = refl
 
--- no plus, no space inside, no empty text
-plus : number_in (codes "+5") ≡ None
-plus = refl
+-- each station against the one before it, and then their number
+equal_stations : or_fault BadToml (parse_document (codes "stations_mm = [5, 5, 'x']")) >>= stations_of ≡ Err (NotRising file.Ship 0)
+unfolding toml_on_literals
+equal_stations = refl
 
-split : number_in (codes "- 5") ≡ None
-split = refl
+one_station : or_fault BadToml (parse_document (codes "stations_mm = [5]")) >>= stations_of ≡ Err (TooFewRows file.Ship)
+unfolding toml_on_literals
+one_station = refl
 
-empty : number_in (codes "  ") ≡ None
-empty = refl
+two_stations : or_fault BadToml (parse_document (codes "stations_mm = [5, 6]")) >>= stations_of ≡ Ok (pos 5 ∷ pos 6 ∷ [])
+unfolding toml_on_literals
+two_stations = refl
 
--- a text without records, and one that is cut in its second record
-no_records : hydro_in (codes "") ≡ Err (TooFewRows file.Hydro)
-unfolding csv_on_literals
-no_records = refl
+-- a block that ends at the last station, and one that ends beyond it
+inside : or_fault BadToml (parse_document (codes "blocks = [{kg = 7, x_mm = 5, y_mm = 1, z_mm = 2, half_mm = 4}]")) >>= blocks_of (record { aft = pos 0; fore = pos 9 })
+    ≡ Ok (record { kg = 7; place = record { x = pos 5; y = pos 1; z = pos 2; half = pos 4 }; fsm = pos 0 } ∷ [])
+unfolding toml_on_literals
+inside = refl
 
-cut : hydro_in (codes "kg,draught,kmt,lcb,lcf,mct\n4100000,2000,17667") ≡ Err (BadCsv file.Hydro 2)
-unfolding csv_on_literals
-cut = refl
+outside : or_fault BadToml (parse_document (codes "blocks = [{kg = 7, x_mm = 5, y_mm = 1, z_mm = 2, half_mm = 4}]")) >>= blocks_of (record { aft = pos 0; fore = pos 8 })
+    ≡ Err (OutsideStations file.Ship 1)
+unfolding toml_on_literals
+outside = refl
 
--- a cell that stands twice, once in six digits
-double : places_in (codes "h,h,h,h,h\n0030082,1,2,3,4\n030082,1,2,3,4") ≡ Err (DoubleCell 3)
-unfolding csv_on_literals
-double = refl
+-- a frame between the stations
+between : or_fault BadToml (parse_document (codes "frames = [{x_mm = 6, shear_max_kg = 0, hog_max_kgmm = 0, sag_max_kgmm = 0}]")) >>= frames_of (pos 5 ∷ pos 7 ∷ []) ≡ Err (FrameNotStation 1)
+unfolding toml_on_literals
+between = refl
 
--- a number out of its limits before one that is none
-first_fault : places_in (codes "h,h,h,h,h\n0030082,1000001,x,3,4") ≡ Err (OutOfLimits file.Cells 2)
-unfolding csv_on_literals
-first_fault = refl
+-- fills, which may be missing
+no_fills : or_fault BadToml (parse_document (codes "")) >>= named_fills_of ≡ Ok []
+unfolding toml_on_literals
+no_fills = refl
 
--- a displacement that doesn't rise, and one that rises too far
-falls : hydro_in (codes "h,h,h,h,h,h\n2,2,3,4,5,6\n1,2,3,4,5,6") ≡ Err (NotRising file.Hydro 3)
-unfolding csv_on_literals
-falls = refl
-
-too_far : hydro_in (codes "h,h,h,h,h,h\n1,2,3,4,5,6\n100000002,2,3,4,5,6") ≡ Err (OutOfLimits file.Hydro 3)
-unfolding csv_on_literals
-too_far = refl
-
--- a table of two rows
-two_rows : hydro_in (codes "h,h,h,h,h,h\n1,2,3,4,5,6\n2,3,4,5,6,7")
-    ≡ Ok (record { kg = pos 1 ∷ pos 2 ∷ []; draught = pos 2 ∷ pos 3 ∷ []; kmt = pos 3 ∷ pos 4 ∷ []; lcb = pos 4 ∷ pos 5 ∷ []; lcf = pos 5 ∷ pos 6 ∷ []; mct = pos 6 ∷ pos 7 ∷ [] })
-unfolding csv_on_literals
-two_rows = refl
+one_fill : or_fault BadToml (parse_document (codes "fills = [{tank = 'DB1', kg = 5}]")) >>= named_fills_of ≡ Ok (record { tank = codes "DB1"; kg = 5 } ∷ [])
+unfolding toml_on_literals
+one_fill = refl

@@ -1,10 +1,9 @@
+pub mod ArrayLemmas
 pub mod Examples
+pub mod FillLemmas
+pub mod KeyLemmas
+pub mod ListLemmas
 pub mod MeaningLemmas
-pub mod NumberLemmas
 pub mod OutcomeLemmas
-pub mod PlaceLemmas
-pub mod ReadingLemmas
-pub mod RowLemmas
-pub mod ShipLemmas
-pub mod SoundLemmas
-pub mod TableLemmas
+pub mod ProfileLemmas
+pub mod WrittenLemmas

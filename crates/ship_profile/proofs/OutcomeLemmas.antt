@@ -1,75 +1,56 @@
--- What each of some items gives, one item at a time.
-use Rattle.std.proofs.Common.{◌≡◌, ◌∙◌, ℕ, ◌+◌, ◌<◌, List, [], ◌∷◌, ◌++◌, zero, suc, length, drop, get_or, zip, option_map, IsSome, Bor, add-one, Option, Some, None, Result, Ok, Err, IfOk, IfErr, refl, ap, sym, append_assoc, arith}
-use Rattle.std.proofs.lemmas.List.{append-nil}
-use Rattle.csv.specs.Records.{field_at}
+-- Results that stop at the first fault: what follows from one that went on.
+use Rattle.std.proofs.Common.{◌≡◌, ◌∙◌, ℕ, ◌+◌, ◌≤◌, nat_le, Bool, true, false, ◌&&◌, if◌then◌else◌, ℤ, ◌≤ℤ◌, int_le, List, [], ◌∷◌, ◌++◌, length, length-append, Option, None, Some, Result, Ok, Err, IfOk, refl, arith}
+use Rattle.std.proofs.lemmas.Bool.{and_parts}
+use Rattle.std.proofs.lemmas.Bool.Decides.{nat_tests}
+use Rattle.std.proofs.lemmas.Int.{ints}
+use Rattle.std.specs.List.{AllByRecursion}
 use Rattle.ship_profile.specs.declared.faults.ProfileFault.{ProfileFault}
-use Rattle.ship_profile.specs.Outcome.{◌>>=◌, each, in_turn}
+use Rattle.ship_profile.specs.Outcome.{◌>>=◌, or_fault, demand, within, one_by_one}
 
-module _ {B : Type 0} where
-  -- what comes after those that are done
-  abbrev pub prepend : List B → Result (List B) ProfileFault → Result (List B) ProfileFault
-  prepend done r = r >>= (λ more. Ok (done ++ more))
+-- a result that went on
+pub went_on : {A B : Type 0} (r : Result A ProfileFault) (f : A → Result B ProfileFault) (b : B) → r >>= f ≡ Ok b → (a : A) × (r ≡ Ok a) × (f a ≡ Ok b)
+went_on (Ok a) f b e = (a, refl, e)
+went_on (Err x) f b e = cc
 
-  prepend-push : (done : List B) (y : B) (r : Result (List B) ProfileFault) → prepend done (r >>= (λ ys. Ok (y ∷ ys))) ≡ prepend (done ++ y ∷ []) r
-  prepend-push done y (Ok ys) = ap Ok (sym (append_assoc done (y ∷ []) ys))
-  prepend-push done y (Err e) = refl
+pub same_ok : {A : Type 0} (a b : A) → ◌≡◌ {A = Result A ProfileFault} (Ok a) (Ok b) → a ≡ b
+same_ok a b e = cc
 
-  -- none is done
-  pub prepend-nil : (r : Result (List B) ProfileFault) → r ≡ prepend [] r
-  prepend-nil (Ok ys) = refl
-  prepend-nil (Err e) = refl
+-- what was there
+pub was_there : {A : Type 0} (x : ProfileFault) (o : Option A) (a : A) → or_fault x o ≡ Ok a → o ≡ Some a
+was_there x None a e = cc
+was_there x (Some b) a e = cc
 
-module _ {A B : Type 0} where
-  -- one more is done
-  pub each-more : (f : A → Result B ProfileFault) (x : A) (xs : List A) (done : List B) (y : B) → f x ≡ Ok y
-      → prepend done (each f (x ∷ xs)) ≡ prepend (done ++ y ∷ []) (each f xs)
-  each-more f x xs done y e = rw e (prepend-push done y (each f xs))
+-- a test that was passed
+pub passed : {A : Type 0} (x : ProfileFault) (t : Bool) (a b : A) → demand x t a ≡ Ok b → (t ≡ true) × (a ≡ b)
+passed x true a b e = (refl, cc)
+passed x false a b e = cc
 
-  -- the first fault
-  pub each-stop : (f : A → Result B ProfileFault) (x : A) (xs : List A) (done : List B) (e : ProfileFault) → f x ≡ Err e → prepend done (each f (x ∷ xs)) ≡ Err e
-  each-stop f x xs done e h = rw h refl
+-- a number within its limits
+pub within-limits : (x : ProfileFault) (low high z y : ℤ) → within x low high z ≡ Ok y → (z ≡ y) × (low ≤ℤ y) × (y ≤ℤ high)
+within-limits x low high z y e =
+    let p = passed x (int_le low z && int_le z high) z y e in
+    let parts = and_parts (int_le low z) (int_le z high) p.0 in
+    (p.1, rw (← p.1) (grind (arith, ints, parts)), rw (← p.1) (grind (arith, ints, parts)))
 
-  -- all are done
-  pub each-end : (f : A → Result B ProfileFault) (done : List B) → prepend done (each f []) ≡ Ok done
-  each-end f done = ap Ok (append-nil done)
-
-  -- one more in turn, the first fault in turn
-  pub in_turn-more : (add : B → A → Result B ProfileFault) (done more : B) (x : A) (xs rest : List A) → rest ≡ x ∷ xs → add done x ≡ Ok more
-      → in_turn add done rest ≡ in_turn add more xs
-  in_turn-more add done more x xs rest e h = rw (e, h) refl
-
-  pub in_turn-stop : (add : B → A → Result B ProfileFault) (done : B) (x : A) (xs rest : List A) (e : ProfileFault) → rest ≡ x ∷ xs → add done x ≡ Err e
-      → in_turn add done rest ≡ Err e
-  in_turn-stop add done x xs rest e is h = rw (is, h) refl
-
--- the pairs of two lists from a place on
-zip-drop_suc : {X : Type 0} (xs : List X) (ys : List (List ℕ)) (i : ℕ) (d : X) (y : List ℕ) → i < length xs → field_at ys i ≡ Some y
-    → zip (drop i xs) (drop i ys) ≡ (get_or xs i d, y) ∷ zip (drop (suc i) xs) (drop (suc i) ys)
-unfolding field_at
-zip-drop_suc [] ys i d y h e = absurd (omega arith)
-zip-drop_suc (x ∷ xs) [] i d y h e = cc
-zip-drop_suc (x ∷ xs) (z ∷ ys) zero d y h e = cc
-zip-drop_suc (x ∷ xs) (z ∷ ys) (suc i) d y h e = zip-drop_suc xs ys i d y (omega arith) e
-
-pub zip-drop : {X : Type 0} (xs : List X) (ys : List (List ℕ)) (i : ℕ) (d : X) (y : List ℕ) → i < length xs → field_at ys i ≡ Some y
-    → zip (drop i xs) (drop i ys) ≡ (get_or xs i d, y) ∷ zip (drop (i + 1) xs) (drop (i + 1) ys)
-zip-drop xs ys i d y h e = rw add-one (zip-drop_suc xs ys i d y h e)
-
--- what is found of a field that a record has
-pub field_there : (ys : List (List ℕ)) (i : ℕ) (o : Option (Bor (List ℕ))) → i < length ys → option_map (λ s. s.now) o ≡ field_at ys i → IsSome o
-unfolding field_at
-field_there [] i o h e = absurd (omega arith)
-field_there (y ∷ ys) zero (Some b) h e = refl
-field_there (y ∷ ys) zero None h e = cc
-field_there (y ∷ ys) (suc i) o h e = field_there ys i o (omega arith) e
-
-pub field_is : (f : Option (List ℕ)) (o : Option (Bor (List ℕ))) (b : Bor (List ℕ)) → option_map (λ s. s.now) o ≡ f → o ≡ Some b → f ≡ Some b.now
-field_is f o b e is = sym e ∙ ap (option_map (λ (s : Bor (List ℕ)). s.now)) is
-
+-- what follows from what was read
 pub lift_ok : {T E : Type 0} {P Q : T → Type 0} (r : Result T E) → IfOk r P → ((v : T) → P v → Q v) → IfOk r Q
 lift_ok (Ok v) p f = f v p
 lift_ok (Err e) p f = tt
 
-pub lift_err : {T E : Type 0} {P Q : E → Type 0} (r : Result T E) → IfErr r P → ((e : E) → P e → Q e) → IfErr r Q
-lift_err (Ok v) p f = tt
-lift_err (Err e) p f = f e p
+module _ {A B : Type 0} (next : List B → A → Result B ProfileFault) where
+  -- what holds of those that are done, and is kept by each further one of which Q holds, holds of all
+  pub one_by_one-keeps : (P : List B → Type 0) (Q : A → Type 0) → ((done : List B) (x : A) (y : B) → P done → Q x → next done x ≡ Ok y → P (done ++ y ∷ []))
+      → (done : List B) (xs : List A) (all : List B) → P done → AllByRecursion Q xs → one_by_one next done xs ≡ Ok all → P all
+  one_by_one-keeps P Q keeps done [] all p q e = rw (← same_ok done all e) p
+  one_by_one-keeps P Q keeps done (x ∷ xs) all p q e =
+      let one = went_on (next done x) (λ y. one_by_one next (done ++ y ∷ []) xs) all e in
+      one_by_one-keeps P Q keeps (done ++ one.0 ∷ []) xs all (keeps done x one.0 p q.0 one.1) q.1 one.2
+
+  -- there are as many as were asked for
+  pub one_by_one-length : (done : List B) (xs : List A) (all : List B) → one_by_one next done xs ≡ Ok all → length all ≡ length done + length xs
+  one_by_one-length done [] all e = rw (← same_ok done all e) (omega arith)
+  one_by_one-length done (x ∷ xs) all e =
+      let one = went_on (next done x) (λ y. one_by_one next (done ++ y ∷ []) xs) all e in
+      let len = length-append done (one.0 ∷ []) in
+      let more = one_by_one-length (done ++ one.0 ∷ []) xs all one.2 in
+      omega (arith, len, more)

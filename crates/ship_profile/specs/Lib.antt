@@ -1,6 +1,6 @@
-pub mod Numbers
+pub mod Keys
 pub mod Outcome
-pub mod Reading
 pub mod Record
 pub mod Ship
-pub mod Tables
+pub mod TableFaults
+pub mod Written

@@ -1,5 +1,5 @@
 -- Results that stop at the first fault.
-use Rattle.std.specs.Prelude.{List, [], ◌∷◌, Option, None, Some, Result, Ok, Err}
+use Rattle.std.specs.Prelude.{ℤ, int_le, Bool, ◌&&◌, if◌then◌else◌, List, [], ◌∷◌, ◌++◌, Option, None, Some, Result, Ok, Err}
 use Rattle.ship_profile.specs.declared.faults.ProfileFault.{ProfileFault}
 
 -- what follows, where there was no fault
@@ -13,17 +13,15 @@ abbrev pub or_fault : {A : Type 0} → ProfileFault → Option A → Result A Pr
 or_fault e None = Err e
 or_fault e (Some a) = Ok a
 
--- this, unless there is a fault
-abbrev pub unless : {A : Type 0} → Option ProfileFault → A → Result A ProfileFault
-unless None a = Ok a
-unless (Some e) a = Err e
+-- this where the test is passed, or this fault
+abbrev pub demand : {A : Type 0} → ProfileFault → Bool → A → Result A ProfileFault
+demand e passed a = if passed then Ok a else Err e
 
--- what each of these gives, or the first fault
-abbrev pub each : {A B : Type 0} → (A → Result B ProfileFault) → List A → Result (List B) ProfileFault
-each f [] = Ok []
-each f (x ∷ xs) = f x >>= (λ y. each f xs >>= (λ ys. Ok (y ∷ ys)))
+-- a number within its limits
+abbrev pub within : ProfileFault → ℤ → ℤ → ℤ → Result ℤ ProfileFault
+within e low high z = demand e (int_le low z && int_le z high) z
 
--- each of these added in turn to what came before it, or the first fault
-abbrev pub in_turn : {A B : Type 0} → (B → A → Result B ProfileFault) → B → List A → Result B ProfileFault
-in_turn add done [] = Ok done
-in_turn add done (x ∷ xs) = add done x >>= (λ more. in_turn add more xs)
+-- what each of these stands for after those before it, or the first fault; some are done
+abbrev pub one_by_one : {A B : Type 0} → (List B → A → Result B ProfileFault) → List B → List A → Result (List B) ProfileFault
+one_by_one next done [] = Ok done
+one_by_one next done (x ∷ xs) = next done x >>= (λ y. one_by_one next (done ++ y ∷ []) xs)

@@ -1,146 +1,108 @@
--- The profile of a ship: the record that its files write, where every rule of them holds, or else the first fault in the order of
--- the files.
-use Rattle.std.specs.Prelude.{◌≡◌, ℕ, ◌<◌, ◌≤◌, ◌^◌, ℤ, pos, neg_ℤ, ◌≤ℤ◌, unsigned_abs, List, [], ◌∷◌, map, zip, length, All, Option, Result, Ok}
-use Rattle.std.specs.List.{IsDistinct}
-use Rattle.std.specs.Map.{keys_of, lookup}
+-- The profile of a ship: the record that her files write, where every rule of them holds, or else the first fault in the order of the
+-- files: `ship.toml` whole, the tables one after another, and then the tanks of the fills.
+use Rattle.std.specs.Prelude.{◌≡◌, ℕ, ◌+◌, ◌<◌, ◌≤◌, ◌^◌, Bool, not, nat_eq, List, [], length, map, All, Option, Result, Ok, Err, option_map}
+use Rattle.std.specs.List.{list_any, IsDistinct}
+use Rattle.toml.specs.Data.{Members}
 use Rattle.units_core.specs.declared.bodies.Place.{Place}
 use Rattle.units_core.specs.declared.cells.Cell.{Cell}
 use Rattle.units_core.specs.Bodies.{Mass}
-use Rattle.units_core.specs.Cells.{cell_eq}
-use Rattle.units_core.specs.Interpolation.{at, Rises, IsWithin, IsPositive}
-use Rattle.ship_profile.specs.declared.faults.File.TheVariants as file
+use Rattle.ship_tables.specs.declared.faults.TableFault.{TableFault}
+use Rattle.ship_tables.specs.Record as tables
+use Rattle.ship_profile.specs.declared.faults.Key.TheVariants as key
 use Rattle.ship_profile.specs.declared.faults.ProfileFault.{ProfileFault}
-use Rattle.ship_profile.specs.declared.layouts.Column.{Column}
-use Rattle.ship_profile.specs.declared.layouts.Column.TheVariants as column
-use Rattle.ship_profile.specs.declared.layouts.Rule.TheVariants as rule
-use Rattle.ship_profile.specs.Outcome.{◌>>=◌}
-use Rattle.ship_profile.specs.Ship.{blocks_in}
-use Rattle.ship_profile.specs.Tables.{Form, Row, number_at, cells_in, table_in}
+use Rattle.ship_profile.specs.declared.faults.ProfileFault.TheVariants as fault
+use Rattle.ship_profile.specs.declared.fills.TankFill.{TankFill}
+use Rattle.ship_profile.specs.declared.profiles.ProfileBytes.{ProfileBytes}
+use Rattle.ship_profile.specs.Keys.{document_in}
+use Rattle.ship_profile.specs.Outcome.{◌>>=◌, or_fault, demand, one_by_one}
+use Rattle.ship_profile.specs.TableFaults.{as_profile_fault}
+use Rattle.ship_profile.specs.Ship.{ShipRecord, ship_of, IsSoundShip, extent_of, NamedFill, named_fills_of}
 
--- a length in mm, of at most 10^6 either way
-abbrev pub length_column : Column
-length_column = column.Number (neg_ℤ (pos 1000000)) (pos 1000000)
+-- the texts of a profile's files
+pub record Texts : Type 0 where
+  pub ship : List ℕ
+  pub tables : tables.Texts
 
--- `cells.csv`: the cell, then x, y, z and half of the container that stands in it
-abbrev pub cells_form : Form
-cells_form = record {
-  file = file.Cells;
-  columns = column.Cell ∷ length_column ∷ length_column ∷ length_column ∷ column.Number (pos 0) (pos 1000000) ∷ [];
-  least = 1;
-  most = 30000;
-  rule = rule.Distinct;
+abbrev pub texts_of : ProfileBytes → Texts
+texts_of b = record {
+  ship = b.ship.now;
+  tables = record {
+    cells = b.cells.now;
+    hydro = b.hydro.now;
+    levers = b.kn.now;
+    bonjean = b.bonjean.now;
+    tanks = b.tanks.now;
+    least_gm = option_map (λ t. t.now) b.gm;
+  };
 }
 
--- `hydro.csv`: displacement in kg, mean draught, height of the transverse metacentre, longitudinal centres of buoyancy and of flotation
--- in mm, and the moment in kg mm that changes the trim by 1 mm
-abbrev pub hydro_form : Form
-hydro_form = record {
-  file = file.Hydro;
-  columns = column.Number (pos 1) (pos 1000000000) ∷ column.Number (pos 0) (pos 100000) ∷ column.Number (pos 0) (pos 1000000)
-      ∷ length_column ∷ length_column ∷ column.Number (pos 1) (pos 1000000000) ∷ [];
-  least = 2;
-  most = 200;
-  rule = rule.Rising (pos 100000000);
-}
+-- what a profile is: what `ship.toml` says of the ship, her tables, and the tanks that are filled
+pub record ProfileRecord : Type 0 where
+  pub ship : ShipRecord
+  pub tables : tables.TablesRecord
+  pub fills : List TankFill
 
--- where the container of a row of `cells.csv` stands
-abbrev pub place_at : Row → Place
-place_at row = record { x = number_at row 1; y = number_at row 2; z = number_at row 3; half = number_at row 4 }
+-- what was read, or its fault as one of the profile
+abbrev pub from_tables : {A : Type 0} → Result A TableFault → Result A ProfileFault
+from_tables (Ok a) = Ok a
+from_tables (Err e) = Err (as_profile_fault e)
 
--- the cells that the text of `cells.csv` writes, each with where its container stands
-abbrev pub places_in : List ℕ → Result (List (Cell × Place)) ProfileFault
-places_in text = table_in cells_form text >>= (λ rows. Ok (zip (cells_in rows) (map place_at rows)))
+-- the tables of a ship of these stations
+abbrev pub tables_in : ShipRecord → tables.Texts → Result tables.TablesRecord ProfileFault
+tables_in ship texts = from_tables (tables.tables_of (extent_of ship.stations) (length ship.stations) texts)
 
--- the hydrostatic table, column by column
-pub record HydroTable : Type 0 where
-  pub kg : List ℤ
-  pub draught : List ℤ
-  pub kmt : List ℤ
-  pub lcb : List ℤ
-  pub lcf : List ℤ
-  pub mct : List ℤ
+-- one of these fills is of this tank
+abbrev pub is_filled : List TankFill → ℕ → Bool
+is_filled fills tank = list_any (λ f. nat_eq f.tank tank) fills
 
--- the numbers of a column, row by row
-abbrev pub numbers_of : ℕ → List Row → List ℤ
-numbers_of k rows = map (λ row. number_at row k) rows
+-- a fill in its tank: the tank is there, and wasn't filled before; it is named by its number, the first being 1
+abbrev pub fill_in : tables.TablesRecord → List TankFill → NamedFill → Result TankFill ProfileFault
+fill_in ts before named =
+    or_fault (fault.UnknownTank (length before + 1)) (tables.tank_of ts named.tank) >>= (λ tank.
+    demand (fault.BadKey key.Fills) (not (is_filled before tank)) (record { tank = tank; kg = named.kg }))
 
-abbrev pub hydro_table : List Row → HydroTable
-hydro_table rows = record {
-  kg = numbers_of 0 rows;
-  draught = numbers_of 1 rows;
-  kmt = numbers_of 2 rows;
-  lcb = numbers_of 3 rows;
-  lcf = numbers_of 4 rows;
-  mct = numbers_of 5 rows;
-}
+-- the fills in their tanks, in the order of `ship.toml`
+abbrev pub fills_in : tables.TablesRecord → List NamedFill → Result (List TankFill) ProfileFault
+fills_in ts named = one_by_one (fill_in ts) [] named
 
--- the hydrostatic table that the text of `hydro.csv` writes
-abbrev pub hydro_in : List ℕ → Result HydroTable ProfileFault
-hydro_in text = table_in hydro_form text >>= (λ rows. Ok (hydro_table rows))
+-- the profile of a document and of the texts of the tables
+abbrev pub profile_of : Members → tables.Texts → Result ProfileRecord ProfileFault
+profile_of ms texts =
+    ship_of ms >>= (λ ship.
+    named_fills_of ms >>= (λ named.
+    tables_in ship texts >>= (λ ts.
+    fills_in ts named >>= (λ fills.
+    Ok (record { ship = ship; tables = ts; fills = fills })))))
 
--- what a profile is: the blocks of the light ship, the cells in the order of their file, and the hydrostatic table
-pub record ShipRecord : Type 0 where
-  pub blocks : List Mass
-  pub cells : List (Cell × Place)
-  pub hydro : HydroTable
-
--- the profile that the texts of `ship.toml`, `cells.csv` and `hydro.csv` write
-abbrev pub record_of : List ℕ → List ℕ → List ℕ → Result ShipRecord ProfileFault
-record_of ship cells hydro =
-    blocks_in ship >>= (λ bs. places_in cells >>= (λ ps. hydro_in hydro >>= (λ h. Ok (record { blocks = bs; cells = ps; hydro = h }))))
+-- the profile that the texts of the files write
+abbrev pub record_of : Texts → Result ProfileRecord ProfileFault
+record_of texts = document_in texts.ship >>= (λ ms. profile_of ms texts.tables)
 
 -- where a container in a cell stands
-abbrev pub place_of : ShipRecord → Cell → Option Place
-place_of r cell = lookup (cell_eq cell) r.cells
+abbrev pub place_of : ProfileRecord → Cell → Option Place
+place_of r cell = tables.place_of r.tables cell
 
--- each number of the column is at least this
-abbrev pub IsAtLeast : ℤ → List ℤ → Type 0
-IsAtLeast low xs = (k : ℕ) → k < length xs → low ≤ℤ at xs k
+-- the number of the tank of a name
+abbrev pub tank_of : ProfileRecord → List ℕ → Option ℕ
+tank_of r name = tables.tank_of r.tables name
 
--- the table can be read by its first column: 2 to 200 rows, displacements that rise by at most 10^8 kg, and each number within its limits
-pub record IsHydroTable (h : HydroTable) : Type 0 where
-  pub rows : 2 ≤ length h.kg
-  pub most : length h.kg ≤ 200
-  pub draught_rows : length h.draught ≡ length h.kg
-  pub kmt_rows : length h.kmt ≡ length h.kg
-  pub lcb_rows : length h.lcb ≡ length h.kg
-  pub lcf_rows : length h.lcf ≡ length h.kg
-  pub mct_rows : length h.mct ≡ length h.kg
-  pub rises : Rises (10 ^ 8) h.kg
-  pub kg_positive : IsPositive h.kg
-  pub kg_within : IsWithin (10 ^ 9) h.kg
-  pub draught_least : IsAtLeast (pos 0) h.draught
-  pub draught_within : IsWithin (10 ^ 5) h.draught
-  pub kmt_least : IsAtLeast (pos 0) h.kmt
-  pub kmt_within : IsWithin (10 ^ 6) h.kmt
-  pub lcb_within : IsWithin (10 ^ 6) h.lcb
-  pub lcf_within : IsWithin (10 ^ 6) h.lcf
-  pub mct_positive : IsPositive h.mct
-  pub mct_within : IsWithin (10 ^ 9) h.mct
+-- a tank that holds so many kg, as a body
+abbrev pub tank_body : ProfileRecord → ℕ → ℕ → Option Mass
+tank_body r tank kg = tables.tank_body r.tables tank kg
 
--- a place within 10^6 mm of the origin either way, its half no less than 0
-pub record IsPlace (p : Place) : Type 0 where
-  pub x_within : unsigned_abs p.x ≤ 10 ^ 6
-  pub y_within : unsigned_abs p.y ≤ 10 ^ 6
-  pub z_within : unsigned_abs p.z ≤ 10 ^ 6
-  pub half_least : pos 0 ≤ℤ p.half
-  pub half_within : unsigned_abs p.half ≤ 10 ^ 6
+-- a fill of a tank that is there
+pub record IsFill (ts : tables.TablesRecord) (f : TankFill) : Type 0 where
+  pub tank : f.tank < length ts.tanks
+  pub kg_most : f.kg ≤ 10 ^ 9
 
--- a block of the light ship: 1 to 10^9 kg at a place, with no free surface
-pub record IsBlock (m : Mass) : Type 0 where
-  pub kg_least : 1 ≤ m.kg
-  pub kg_most : m.kg ≤ 10 ^ 9
-  pub place : IsPlace m.place
-  pub still : m.fsm ≡ pos 0
+-- at most 200 fills, each of a tank that is there, and none of a tank that was filled before
+pub record AreFills (ts : tables.TablesRecord) (fs : List TankFill) : Type 0 where
+  pub few : length fs ≤ 200
+  pub each : All (IsFill ts) fs
+  pub distinct : IsDistinct nat_eq (map (λ f. f.tank) fs)
 
--- what every profile keeps: 1 to 200 blocks, 1 to 30,000 cells of which none stands twice, each within its limits, and a hydrostatic
--- table that can be read
-pub record IsSound (r : ShipRecord) : Type 0 where
-  pub some_blocks : 1 ≤ length r.blocks
-  pub few_blocks : length r.blocks ≤ 200
-  pub blocks : All IsBlock r.blocks
-  pub some_cells : 1 ≤ length r.cells
-  pub few_cells : length r.cells ≤ 30000
-  pub cells : All (λ c. IsPlace c.1) r.cells
-  pub distinct : IsDistinct cell_eq (keys_of r.cells)
-  pub hydro : IsHydroTable r.hydro
+-- what every profile keeps: each number of `ship.toml` within its limits, tables that can be read, and fills of its tanks
+pub record IsSound (p : ProfileRecord) : Type 0 where
+  pub ship : IsSoundShip p.ship
+  pub tables : tables.IsSound (extent_of p.ship.stations) (length p.ship.stations) p.tables
+  pub fills : AreFills p.tables p.fills

@@ -1,22 +1,22 @@
-//! A ship's profile: the blocks of the light ship, the cells and where containers in them stand, and the hydrostatic table,
-//! as the files `ship.toml`, `cells.csv` and `hydro.csv` write them. [`Profile::read`] gives the whole profile or the first
-//! fault of the files; what it gives never changes, and the look-ups take no memory.
+//! A ship's profile, as her owner writes it once: her limits, stations, blocks, frames and fills in `ship.toml`, and her six
+//! tables. [`Profile::read`] gives the whole profile or the first fault of its files; what it gives never changes, and the
+//! look-ups take no memory.
 #![tactic(auto)]
 
+mod arrays;
 mod blocks;
 mod faults;
-mod forms;
-mod hydrostatics;
-mod layouts;
-mod numbers;
-mod places;
+mod fills;
+mod frames;
+mod keys;
 mod profiles;
-mod records;
-mod rows;
-mod tables;
+mod ships;
+mod stations;
 #[cfg(test)]
 mod tests;
 
 pub use faults::{File, Key, ProfileFault};
-pub use hydrostatics::Hydro;
+pub use fills::TankFill;
+pub use frames::{Frame, Frames};
 pub use profiles::{Profile, ProfileBytes};
+pub use ship_tables::{Curves, Hydro};

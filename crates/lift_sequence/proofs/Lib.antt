@@ -1,0 +1,4 @@
+pub mod Listings
+pub mod Overlaps
+pub mod States
+pub mod Totals

@@ -1,0 +1,169 @@
+-- Every body that is aboard, listed by what is held, and by the ship's tanks and cells.
+use Rattle.std.proofs.Common.{◌≡◌, ℕ, suc, zero, ◌+◌, ◌≤◌, ◌<◌, List, [], ◌∷◌, ◌++◌, map, flat_map, length, Option, None, Some, Bool, true, false, cond, nat_eq, nat_lt, ℤ, pos, ◌+ℤ◌, refl, sym, ap, ◌∙◌, arith, eqb-true, rules}
+use Rattle.std.specs.Prelude.{find, slice_get}
+use Rattle.std.specs.Cmp.{unsigned_Decides}
+use Rattle.std.specs.List.{IsDistinct, AllByRecursion, range_with_len}
+use Rattle.std.specs.Map.{keys_of, lookup}
+use Rattle.std.specs.Option.{is_some, option_map, option_to_list}
+use Rattle.std.proofs.lemmas.Bool.Decides.{Decides-and}
+use Rattle.std.proofs.lemmas.Int.{ints}
+use Rattle.std.proofs.lemmas.List.{length-append}
+use Rattle.std.proofs.lemmas.List.FromFn.{length-range_with_len}
+use Rattle.std.proofs.lemmas.Option.{slice_get_past}
+use Rattle.units_core.specs.declared.bodies.Place.{Place}
+use Rattle.units_core.specs.declared.cells.Cell.{Cell}
+use Rattle.units_core.specs.Bodies.{Mass}
+use Rattle.units_core.specs.Cells.{cell_eq}
+use Rattle.ship_profile.specs.Record.{ProfileRecord, place_of, tank_body}
+use Rattle.lift_sequence.specs.declared.containers.Container.{Container}
+use Rattle.lift_sequence.specs.Aboard.{Aboard, with_cell}
+use Rattle.lift_sequence.specs.Legal.{overlap, standing, stand_fault}
+use Rattle.lift_sequence.specs.Bodies.{body_in, filling_in, bodies_in_tanks, bodies_in_cells}
+use Rattle.lift_sequence.specs.Totals.{total}
+use Rattle.lift_sequence.proofs.Overlaps.{find_at, find_none}
+use Rattle.lift_sequence.proofs.Totals.{element, given, listed, one_more, ones, total-append}
+
+-- numbers and cells by their tests
+pub cells_same : (a b : Cell) → cell_eq a b ≡ true → a ≡ b
+cells_same a b h =
+    let parts = (Decides-and _ _ (unsigned_Decides a.bay b.bay) (Decides-and _ _ (unsigned_Decides a.row b.row) (unsigned_Decides a.tier b.tier))).0 h in
+    λ i. record { bay = parts.0 i; row = parts.1.0 i; tier = parts.1.1 i }
+
+nat_turn : (a b : ℕ) → nat_eq a b ≡ nat_eq b a
+nat_turn a b = grind arith
+
+cell_turn : (a b : Cell) → cell_eq a b ≡ cell_eq b a
+cell_turn a b = rw (nat_turn a.bay b.bay, nat_turn a.row b.row, nat_turn a.tier b.tier) refl
+
+apart_from : (k a n : ℕ) → k < a → AllByRecursion (λ y. nat_eq k y ≡ false) (map (λ t. t) (range_with_len a n))
+apart_from k a zero h = tt
+apart_from k a (suc n) h = (grind arith, apart_from k (a + 1) n (omega arith))
+
+distinct_range : (a n : ℕ) → IsDistinct nat_eq (map (λ t. t) (range_with_len a n))
+unfolding IsDistinct
+distinct_range a zero = tt
+distinct_range a (suc n) = (apart_from a (a + 1) n (omega arith), distinct_range (a + 1) n)
+
+same_lists : {X Y : Type 0} (g h : X → List Y) → ((x : X) → g x ≡ h x) → (xs : List X) → flat_map g xs ≡ flat_map h xs
+same_lists g h e xs = λ i. flat_map (λ x. e x i) xs
+
+module _ (ship : ProfileRecord) where
+  -- a tank's filling, by its number in the table or straight
+  tank_row : ℕ → Option ℕ → List Mass
+  tank_row tank held = option_to_list (filling_in ship tank held)
+
+  tank_given : (k kg : ℕ) (b : Bool) → nat_lt k (length ship.tables.tanks) ≡ b
+      → given (λ (t : ℕ). t) nat_eq (λ a b h. eqb-true a b h) (λ t held. option_to_list (filling_in ship t held)) (λ t. refl)
+      (element (λ (t : ℕ). t) nat_eq (λ a b h. eqb-true a b h) (λ t held. option_to_list (filling_in ship t held)) (λ t. refl) (range_with_len 0 (length ship.tables.tanks)) k) kg
+      ≡ option_to_list (tank_body ship k kg)
+  tank_given k kg true e =
+      let at = find_at (λ t. nat_eq k t) 0 (length ship.tables.tanks) k (grind (arith, e)) (λ b low high. grind arith) (grind arith) in
+      let is : find (λ t. nat_eq k t) (range_with_len 0 (length ship.tables.tanks)) ≡ Some k = at ∙ ap (λ m. Some m) (omega arith) in
+      rw is refl
+  tank_given k kg false e =
+      let is : find (λ t. nat_eq k t) (range_with_len 0 (length ship.tables.tanks)) ≡ None = find_none (λ t. nat_eq k t) 0 (length ship.tables.tanks) (λ b low high. grind (arith, e)) in
+      let past : slice_get ship.tables.tanks k ≡ None = slice_get_past ship.tables.tanks k (grind (arith, e)) in
+      rw (is, past) refl
+
+  pub fillings : (f : Mass → ℤ) (es : List (ℕ × ℕ)) → IsDistinct nat_eq (keys_of es)
+      → total f (flat_map (λ (e : ℕ × ℕ). option_to_list (tank_body ship e.0 e.1)) es) ≡ total f (bodies_in_tanks ship (λ q. lookup (nat_eq q) es))
+  fillings f es apart =
+      ap (total f) (sym (same_lists _ _ (λ (e : ℕ × ℕ). tank_given e.0 e.1 (nat_lt e.0 (length ship.tables.tanks)) refl) es))
+      ∙ sym (listed (λ (t : ℕ). t) nat_eq (λ a b h. eqb-true a b h) (λ t held. option_to_list (filling_in ship t held)) (λ t. refl) f nat_turn
+      (range_with_len 0 (length ship.tables.tanks)) (distinct_range 0 (length ship.tables.tanks)) es apart)
+
+  found : (k : Cell) (cells : List (Cell × Place)) → lookup (cell_eq k) cells ≡ option_map (λ (e : Cell × Place). e.1) (find (λ (e : Cell × Place). cell_eq k e.0) cells)
+  found k [] = refl
+  found k (e ∷ cells) = by_cases (cell_eq k e.0) (found k cells) where
+    by_cases : (b : Bool) → lookup (cell_eq k) cells ≡ option_map (λ (e : Cell × Place). e.1) (find (λ (e : Cell × Place). cell_eq k e.0) cells)
+        → cond b (Some e.1) (lookup (cell_eq k) cells) ≡ option_map (λ (e : Cell × Place). e.1) (cond b (Some e) (find (λ (e : Cell × Place). cell_eq k e.0) cells))
+    by_cases true h = refl
+    by_cases false h = h
+
+  cell_given : (v : Container) (o : Option (Cell × Place))
+      → given (λ (e : Cell × Place). e.0) cell_eq cells_same (λ e held. option_to_list (body_in (Some e.1) held)) (λ e. refl) o v
+      ≡ option_to_list (body_in (option_map (λ (e : Cell × Place). e.1) o) (Some v))
+  cell_given v None = refl
+  cell_given v (Some e) = refl
+
+  pub containers : (f : Mass → ℤ) (es : List (Cell × Container)) → IsDistinct cell_eq (keys_of es) → IsDistinct cell_eq (keys_of ship.tables.cells)
+      → total f (flat_map (λ (e : Cell × Container). option_to_list (body_in (place_of ship e.0) (Some e.1))) es)
+      ≡ total f (bodies_in_cells ship (λ q. lookup (cell_eq q) es))
+  containers f es apart tidy =
+      ap (total f) (same_lists _ _ (λ (e : Cell × Container). ap (λ o. option_to_list (body_in o (Some e.1))) (found e.0 ship.tables.cells)
+      ∙ sym (cell_given e.1 (find (λ (x : Cell × Place). cell_eq e.0 x.0) ship.tables.cells))) es)
+      ∙ sym (listed (λ (e : Cell × Place). e.0) cell_eq cells_same (λ e held. option_to_list (body_in (Some e.1) held)) (λ e. refl) f cell_turn
+      ship.tables.cells tidy es apart)
+
+-- how many they are
+at_most_one : {X Y : Type 0} (g : X → Option Y) (x : X) (o : Option Y) → g x ≡ o → length (option_to_list (g x)) ≤ 1
+at_most_one g x None e = rw e (omega arith)
+at_most_one g x (Some y) e = rw e (omega arith)
+
+pub few_options : {X Y : Type 0} (g : X → Option Y) (xs : List X) → length (flat_map (λ x. option_to_list (g x)) xs) ≤ length xs
+few_options g [] = omega arith
+few_options g (x ∷ xs) =
+    omega (arith, length-append (option_to_list (g x)) (flat_map (λ x. option_to_list (g x)) xs), at_most_one g x (g x) refl, few_options g xs)
+
+-- the blocks, the fillings and the containers, listed one behind another
+pub sum_parts : (f : Mass → ℤ) (all some first blocks fs cs ts ks : List Mass) → all ≡ some ++ cs → some ≡ first ++ fs → first ≡ blocks → total f fs ≡ total f ts
+    → total f cs ≡ total f ks → total f all ≡ total f (blocks ++ (ts ++ ks))
+sum_parts f all some first blocks fs cs ts ks a b d p q =
+    omega (
+      arith,
+      ints,
+      ap (total f) a,
+      ap (total f) b,
+      ap (total f) d,
+      total-append f some cs,
+      total-append f first fs,
+      total-append f blocks (ts ++ ks),
+      total-append f ts ks,
+      p,
+      q,
+    )
+
+pub few_parts : {X Y : Type 0} (all blocks : List Mass) (g : X → Option Mass) (xs : List X) (h : Y → Option Mass) (ys : List Y)
+    → ((f : Mass → ℤ) → total f all ≡ total f (blocks ++ (flat_map (λ x. option_to_list (g x)) xs ++ flat_map (λ y. option_to_list (h y)) ys)))
+    → length blocks ≤ 200 → length xs ≤ 200 → length ys ≤ 30000 → length all ≤ 30400
+few_parts all blocks g xs h ys sums b x y =
+    let ts = flat_map (λ x. option_to_list (g x)) xs in
+    let ks = flat_map (λ y. option_to_list (h y)) ys in
+    omega (arith, ints, sums (λ m. pos 1), ones all, ones (blocks ++ (ts ++ ks)), length-append blocks (ts ++ ks), length-append ts ks, few_options g xs, few_options h ys, b, x, y)
+
+-- a container that can be put into a cell has a place, and nothing stands there
+stood : (o : Option Place) (taken : Bool) (rival : Option Cell) → standing o taken rival ≡ None → ((p : Place) × (o ≡ Some p)) × (taken ≡ false)
+stood None taken rival h = absurd (cc)
+stood (Some p) true rival h = absurd (cc)
+stood (Some p) false rival h = ((p, refl), refl)
+
+is_free : (o : Option Container) → is_some o ≡ false → o ≡ None
+is_free None h = refl
+is_free (Some c) h = absurd (cc)
+
+-- so each that is put aboard is one body more in the ship's cells
+pub stowed_more : (ship : ProfileRecord) (now next : Aboard) (cell : Cell) (v : Container) (n : ℕ) → IsDistinct cell_eq (keys_of ship.tables.cells)
+    → pos n ≡ total (λ body. pos 1) (bodies_in_cells ship now.cells) → stand_fault ship now.cells cell ≡ None → next ≡ with_cell now cell (Some v)
+    → pos (n + 1) ≡ total (λ body. pos 1) (bodies_in_cells ship next.cells)
+stowed_more ship now next cell v n tidy so_far legal moves =
+    let f : Mass → ℤ = λ body. pos 1 in
+    let s = stood (place_of ship cell) (is_some (now.cells cell)) (overlap now.cells cell) legal in
+    let one = one_more (λ (e : Cell × Place). e.0) cell_eq cells_same (λ e held. option_to_list (body_in (Some e.1) held)) (λ e. refl) f now.cells cell v ship.tables.cells
+    (is_free (now.cells cell) s.1) tidy in
+    let body : given (λ (e : Cell × Place). e.0) cell_eq cells_same (λ e held. option_to_list (body_in (Some e.1) held)) (λ e. refl)
+    (find (λ (x : Cell × Place). cell_eq cell x.0) ship.tables.cells) v ≡ option_to_list (body_in (Some s.0.0) (Some v))
+    = cell_given ship v (find (λ (x : Cell × Place). cell_eq cell x.0) ship.tables.cells)
+    ∙ ap (λ o. option_to_list (body_in o (Some v))) (sym (found ship cell ship.tables.cells) ∙ s.0.1) in
+    omega (arith, ints, so_far, one, ap (total f) body, ap (λ (a : Aboard). total f (bodies_in_cells ship a.cells)) moves)
+
+-- and there are no more of them than cells
+pub stowed_few : (ship : ProfileRecord) (now : Aboard) (n : ℕ) → length ship.tables.cells ≤ 30000 → pos n ≡ total (λ body. pos 1) (bodies_in_cells ship now.cells) → n ≤ 30000
+stowed_few ship now n few so_far =
+    omega (arith, ints, so_far, ones (bodies_in_cells ship now.cells), few_options (λ (e : Cell × Place). body_in (Some e.1) (now.cells e.0)) ship.tables.cells, few)
+
+nothing_there : (cells : List (Cell × Place)) → flat_map (λ (e : Cell × Place). option_to_list (body_in (Some e.1) None)) cells ≡ []
+nothing_there [] = refl
+nothing_there (e ∷ cells) = nothing_there cells
+
+pub nothing_stands : (ship : ProfileRecord) → bodies_in_cells ship (λ cell. None) ≡ []
+nothing_stands ship = nothing_there ship.tables.cells

@@ -1,0 +1,83 @@
+-- Adding up what stands at each key of a table.
+use Rattle.std.proofs.Common.{◌≡◌, ℕ, suc, ◌+◌, ◌≤◌, List, [], ◌∷◌, ◌++◌, map, flat_map, length, Option, None, Some, Bool, true, false, cond, ℤ, pos, ◌+ℤ◌, refl, sym, ap, ◌∙◌, subst, arith}
+use Rattle.std.specs.Prelude.{find}
+use Rattle.std.specs.List.{IsDistinct, AllByRecursion}
+use Rattle.std.specs.Map.{keys_of, lookup, update}
+use Rattle.std.proofs.lemmas.Int.{ints}
+use Rattle.lift_sequence.specs.Totals.{total}
+
+pub total-append : {X : Type 0} (f : X → ℤ) (xs ys : List X) → total f (xs ++ ys) ≡ total f xs +ℤ total f ys
+total-append f [] ys = omega (arith, ints)
+total-append f (x ∷ xs) ys = omega (arith, ints, total-append f xs ys)
+
+-- a list's length is its sum of ones
+pub ones : {X : Type 0} (xs : List X) → total (λ x. pos 1) xs ≡ pos (length xs)
+ones [] = refl
+ones (x ∷ xs) = omega (arith, ints, ones xs)
+
+-- Elements of a table, each with its key; what each gives, by what stands at its key; nothing where nothing stands there.
+module _ {E K V B : Type 0} (key : E → K) (eq : K → K → Bool) (same : (a b : K) → eq a b ≡ true → a ≡ b) (h : E → Option V → List B) (none : (x : E) → h x None ≡ []) where
+  abbrev pub rows : (K → Option V) → List E → List B
+  rows at es = flat_map (λ (x : E). h x (at (key x))) es
+
+  -- the element of a key
+  abbrev pub element : List E → K → Option E
+  element es k = find (λ (x : E). eq k (key x)) es
+
+  abbrev pub given : Option E → V → List B
+  given None v = []
+  given (Some x) v = h x (Some v)
+
+  empty_rows : (es : List E) → rows (λ k. None) es ≡ []
+  empty_rows [] = refl
+  empty_rows (x ∷ es) = λ i. none x i ++ empty_rows es i
+
+  unchanged : (at : K → Option V) (k : K) (w : Option V) (es : List E) → AllByRecursion (λ y. eq k y ≡ false) (map key es) → rows (update eq at k w) es ≡ rows at es
+  unchanged at k w [] apart = refl
+  unchanged at k w (x ∷ es) apart =
+      let here : h x (cond (eq k (key x)) w (at (key x))) ≡ h x (at (key x)) = ap (λ b. h x (cond b w (at (key x)))) apart.0 in
+      λ i. here i ++ unchanged at k w es apart.1 i
+
+  -- something comes to a key at which nothing stood
+  pub one_more : (f : B → ℤ) (at : K → Option V) (k : K) (v : V) (es : List E) → at k ≡ None → IsDistinct eq (map key es)
+      → total f (rows (update eq at k (Some v)) es) ≡ total f (rows at es) +ℤ total f (given (element es k) v)
+  unfolding IsDistinct
+  one_more f at k v [] free apart = omega (arith, ints)
+  one_more f at k v (x ∷ es) free apart =
+      elim (eq k (key x)) as (λ b. eq k (key x) ≡ b → total f (h x (cond b (Some v) (at (key x))) ++ rows (update eq at k (Some v)) es)
+      ≡ total f (rows at (x ∷ es)) +ℤ total f (given (cond b (Some x) (element es k)) v)) [
+        | true ↦ λ is.
+            let here : k ≡ key x = same k (key x) is in
+            let rest : rows (update eq at k (Some v)) es ≡ rows at es = unchanged at k (Some v) es (subst (λ y. AllByRecursion (λ z. eq y z ≡ false) (map key es)) (sym here) apart.0) in
+            let was : total f (h x (at (key x))) ≡ pos 0 = ap (λ y. total f (h x (at y))) (sym here) ∙ ap (λ o. total f (h x o)) free ∙ ap (total f) (none x) in
+            let a = total-append f (h x (Some v)) (rows (update eq at k (Some v)) es) in
+            let b = total-append f (h x (at (key x))) (rows at es) in
+            omega (arith, ints, a, b, was, ap (total f) rest)
+        | false ↦ λ is.
+            let a = total-append f (h x (at (key x))) (rows (update eq at k (Some v)) es) in
+            let b = total-append f (h x (at (key x))) (rows at es) in
+            omega (arith, ints, a, b, one_more f at k v es free apart.1)
+      ] refl
+
+  absent : (k : K) (es : List (K × V)) → AllByRecursion (λ y. eq k y ≡ false) (keys_of es) → lookup (eq k) es ≡ None
+  absent k [] apart = refl
+  absent k (e ∷ es) apart = ap (λ b. cond b (Some e.1) (lookup (eq k) es)) apart.0 ∙ absent k es apart.1
+
+  -- a list of what stands where, in any order, adds up to what the table's elements give
+  pub listed : (f : B → ℤ) → ((a b : K) → eq a b ≡ eq b a) → (table : List E) → IsDistinct eq (map key table) → (es : List (K × V)) → IsDistinct eq (keys_of es)
+      → total f (rows (λ q. lookup (eq q) es) table) ≡ total f (flat_map (λ (e : K × V). given (element table e.0) e.1) es)
+  unfolding IsDistinct
+  listed f turn table tidy [] apart = ap (total f) (empty_rows table)
+  listed f turn table tidy (e ∷ es) apart =
+      let at : K → Option V = λ q. lookup (eq q) es in
+      let is : ◌≡◌ {A = K → Option V} (λ q. lookup (eq q) (e ∷ es)) (update eq at e.0 (Some e.1)) = λ i q. cond (turn q e.0 i) (Some e.1) (lookup (eq q) es) in
+      let one = one_more f at e.0 e.1 table (absent e.0 es apart.0) tidy in
+      let rest = listed f turn table tidy es apart.1 in
+      omega (
+        arith,
+        ints,
+        ap (λ v. total f (rows v table)) is,
+        one,
+        rest,
+        total-append f (given (element table e.0) e.1) (flat_map (λ (e : K × V). given (element table e.0) e.1) es),
+      )

@@ -1,0 +1,12 @@
+use Rattle.std.proofs.Common.{◌≡◌, ◌+◌, ◌++◌, drop}
+use Rattle.lift_sequence.specs.Aboard.{held}
+use Rattle.lift_sequence.specs.Bodies.{steps_of}
+use Rattle.lift_sequence.specs.Sequence.{first_fault}
+use Rattle.lift_sequence.proofs.sequences.make_all.Given as goal
+
+abbrev pub invariant-loop-op : goal.invariant-loop-op
+invariant-loop-op l = record {
+  number_is : l.number ≡ l.op-index;
+  steps_are : steps_of l.profile (held l.fn.stowage) l.ops ≡ l.steps.items ++ steps_of l.profile (held l.stowage) (drop l.op-index l.ops);
+  legal : first_fault l.profile (held l.fn.stowage) 1 l.ops ≡ first_fault l.profile (held l.stowage) (l.op-index + 1) (drop l.op-index l.ops);
+}

@@ -1,0 +1,49 @@
+-- What is aboard: what stands in each cell, and how much each tank holds; and what one step makes of it.
+use Rattle.std.specs.Prelude.{ℕ, List, [], ◌∷◌, Option, None, Some, nat_eq}
+use Rattle.std.specs.Map.{update}
+use Rattle.indexmap.specs.IndexMap.{get}
+use Rattle.units_core.specs.declared.cells.Cell.{Cell}
+use Rattle.units_core.specs.Cells.{cell_eq}
+use Rattle.stow_messages.specs.declared.items.Item.{Item}
+use Rattle.stow_messages.specs.declared.lifts.Lift.TheVariants.{Load, Discharge}
+use Rattle.ship_profile.specs.Record.{ProfileRecord, tank_of}
+use Rattle.lift_sequence.specs.declared.containers.Container.{Container}
+use Rattle.lift_sequence.specs.declared.operations.Op as operation
+use Rattle.lift_sequence.specs.declared.operations.Op.TheVariants.{Lift, Fill, Restow}
+use Rattle.lift_sequence.specs.declared.stowage.Stowage.{Stowage}
+
+-- the container in each cell, and the kg in each tank, or nothing
+pub record Aboard : Type 0 where
+  pub cells : Cell → Option Container
+  pub tanks : ℕ → Option ℕ
+
+abbrev pub nothing : Aboard
+nothing = record { cells = λ cell. None; tanks = λ tank. None }
+
+-- what the code's tables hold
+abbrev pub held : Stowage → Aboard
+held s = record { cells = get cell_eq s.cells; tanks = get nat_eq s.tanks }
+
+abbrev pub container_of : Item → Container
+container_of item = record { id = item.id; kg = item.kg }
+
+-- with this in a cell, or in a tank
+abbrev pub with_cell : Aboard → Cell → Option Container → Aboard
+with_cell at cell container = record { cells = update cell_eq at.cells cell container; tanks = at.tanks }
+
+abbrev pub with_tank : Aboard → Option ℕ → ℕ → Aboard
+with_tank at None kg = at
+with_tank at (Some tank) kg = record { cells = at.cells; tanks = update nat_eq at.tanks tank (Some kg) }
+
+-- What is aboard after a step: a load puts its container into its cell, a discharge empties its cell, a fill leaves so many kg in its
+-- tank, and a restow takes what stands in the one cell to the other.
+abbrev pub moved : ProfileRecord → Aboard → operation.Op → Aboard
+moved ship at (Lift (Load item)) = with_cell at item.cell (Some (container_of item))
+moved ship at (Lift (Discharge cell id)) = with_cell at cell None
+moved ship at (Fill name kg) = with_tank at (tank_of ship name.items) kg
+moved ship at (Restow from to id) = with_cell (with_cell at from None) to (at.cells from)
+
+-- what is aboard after some steps, one after another
+abbrev pub after_all : ProfileRecord → Aboard → List operation.Op → Aboard
+after_all ship at [] = at
+after_all ship at (op ∷ more) = after_all ship (moved ship at op) more

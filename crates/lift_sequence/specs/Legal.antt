@@ -1,0 +1,75 @@
+-- Which steps can be done with what is aboard, and why a step can't.
+use Rattle.std.specs.Prelude.{ℕ, ◌+◌, ◌≤◌, nat_le, List, [], ◌∷◌, Option, None, Some, option_map, Bool, true, false, not, ◌&&◌, if◌then◌else◌, find}
+use Rattle.std.specs.List.{range_with_len}
+use Rattle.std.specs.Option.{is_some, is_none, option_or}
+use Rattle.std.specs.Str.{bytes_eq}
+use Rattle.units_core.specs.declared.bodies.Place.{Place}
+use Rattle.units_core.specs.declared.cells.Cell.{Cell}
+use Rattle.units_core.specs.Bodies.{Mass}
+use Rattle.units_core.specs.Cells.{span_of}
+use Rattle.stow_messages.specs.declared.lifts.Lift.TheVariants.{Load, Discharge}
+use Rattle.ship_profile.specs.Record.{ProfileRecord, place_of, tank_of, tank_body}
+use Rattle.lift_sequence.specs.declared.containers.Container.{Container}
+use Rattle.lift_sequence.specs.declared.faults.SeqCode.{SeqCode}
+use Rattle.lift_sequence.specs.declared.faults.SeqCode.TheVariants.{UnknownCell, CellTaken, Overlap, CellEmpty, WrongContainer, TankOver, UnknownTank}
+use Rattle.lift_sequence.specs.declared.operations.Op as operation
+use Rattle.lift_sequence.specs.declared.operations.Op.TheVariants.{Lift, Fill, Restow}
+use Rattle.lift_sequence.specs.Aboard.{Aboard, with_cell}
+
+-- the 20-foot bays that two bays stand over meet
+abbrev pub meet : ℕ → ℕ → Bool
+meet a b = nat_le (span_of a).0 (span_of b).1 && nat_le (span_of b).0 (span_of a).1
+
+-- the cell of another bay, of the same row and tier
+abbrev pub in_bay : Cell → ℕ → Cell
+in_bay cell bay = record { bay = bay; row = cell.row; tier = cell.tier }
+
+-- the taken cell of another bay wants the room of this one
+abbrev pub is_rival : (Cell → Option Container) → Cell → ℕ → Bool
+is_rival cells cell bay = is_some (cells (in_bay cell bay)) && meet bay cell.bay
+
+-- The taken cell that wants the room of this one, and of several the one of least bay. Bays have three digits.
+unfoldable pub overlap : (Cell → Option Container) → Cell → Option Cell
+overlap cells cell = option_map (in_bay cell) (find (is_rival cells cell) (range_with_len 0 1000))
+
+-- why a container can't be put into a cell: the ship hasn't the cell, it is taken, or another wants its room
+abbrev pub standing : Option Place → Bool → Option Cell → Option SeqCode
+standing None taken rival = Some UnknownCell
+standing (Some place) true rival = Some CellTaken
+standing (Some place) false rival = option_map Overlap rival
+
+abbrev pub stand_fault : ProfileRecord → (Cell → Option Container) → Cell → Option SeqCode
+stand_fault ship cells cell = standing (place_of ship cell) (is_some (cells cell)) (overlap cells cell)
+
+-- two identifications that differ; an empty one fits any
+abbrev pub is_empty : List ℕ → Bool
+is_empty [] = true
+is_empty (b ∷ bs) = false
+
+abbrev pub differ : List ℕ → List ℕ → Bool
+differ a b = not (is_empty a) && (not (is_empty b) && not (bytes_eq a b))
+
+-- why the container of this identification can't be taken out of a cell: the ship hasn't the cell, it is empty, or another stands there
+abbrev pub hold_fault : List ℕ → Option Container → Option SeqCode
+hold_fault id None = Some CellEmpty
+hold_fault id (Some container) = if differ id container.id.items then Some WrongContainer else None
+
+abbrev pub take_fault : ProfileRecord → (Cell → Option Container) → Cell → List ℕ → Option SeqCode
+take_fault ship cells cell id = if is_none (place_of ship cell) then Some UnknownCell else hold_fault id (cells cell)
+
+-- why a tank can't hold so many kg: its table hasn't that mass, or the ship hasn't the tank
+abbrev pub over_fault : Option Mass → Option SeqCode
+over_fault None = Some TankOver
+over_fault (Some body) = None
+
+abbrev pub fill_fault : ProfileRecord → Option ℕ → ℕ → Option SeqCode
+fill_fault ship None kg = Some UnknownTank
+fill_fault ship (Some tank) kg = over_fault (tank_body ship tank kg)
+
+-- Why a step can't be done. A restow takes its container out first, so what it leaves is no rival of the place it goes to.
+abbrev pub fault_of : ProfileRecord → Aboard → operation.Op → Option SeqCode
+fault_of ship at (Lift (Load item)) = stand_fault ship at.cells item.cell
+fault_of ship at (Lift (Discharge cell id)) = take_fault ship at.cells cell id.items
+fault_of ship at (Fill name kg) = fill_fault ship (tank_of ship name.items) kg
+fault_of ship at (Restow from to id) =
+    option_or (take_fault ship at.cells from id.items) (stand_fault ship (with_cell at from None).cells to)

@@ -1,0 +1,6 @@
+pub mod Aboard
+pub mod Arrival
+pub mod Bodies
+pub mod Legal
+pub mod Sequence
+pub mod Totals

@@ -1,0 +1,52 @@
+-- A sequence of steps: what the planner orders, in his order, and the first step that can't be done.
+use Rattle.std.specs.Prelude.{◌≡◌, ℕ, zero, suc, ◌+◌, List, [], ◌∷◌, length, map, filter_map, Option, None, Some, option_map, slice_get, nat_lt, if◌then◌else◌}
+use Rattle.std.specs.Option.{option_or}
+use Rattle.stow_messages.specs.declared.lifts.Lift as lift
+use Rattle.stow_messages.specs.declared.step_rows.StepRow.{StepRow}
+use Rattle.stow_messages.specs.declared.step_rows.StepRow.TheVariants as row
+use Rattle.ship_profile.specs.Record.{ProfileRecord}
+use Rattle.lift_sequence.specs.declared.faults.SeqFault.{SeqFault}
+use Rattle.lift_sequence.specs.declared.faults.SeqCode.TheVariants.{TooManySteps}
+use Rattle.lift_sequence.specs.declared.operations.Op as operation
+use Rattle.lift_sequence.specs.declared.operations.Op.TheVariants.{Lift, Fill, Restow}
+use Rattle.lift_sequence.specs.declared.steps.Step.{Step}
+use Rattle.lift_sequence.specs.Aboard.{Aboard, moved}
+use Rattle.lift_sequence.specs.Arrival.{ArrivalRecord, arrival_fault, arrival_bodies, fault_at}
+use Rattle.lift_sequence.specs.Legal.{fault_of}
+
+-- the lift of a number, the first being 1
+abbrev pub lift_at : List lift.Lift → ℕ → Option lift.Lift
+lift_at lifts zero = None
+lift_at lifts (suc n) = slice_get lifts n
+
+-- the step that a row of a steps file orders
+abbrev pub op_of : List lift.Lift → StepRow → Option operation.Op
+op_of lifts (row.Lift n) = option_map Lift (lift_at lifts n)
+op_of lifts (row.Tank name kg) = Some (Fill name kg)
+op_of lifts (row.Restow from to id) = Some (Restow from to id)
+
+-- the steps: those of the rows, where there is a steps file, and else the lifts in their order
+abbrev pub ops_of : List lift.Lift → Option (List StepRow) → List operation.Op
+ops_of lifts None = map Lift lifts
+ops_of lifts (Some rows) = filter_map (op_of lifts) rows
+
+-- the first step that can't be done with what the steps before it leave aboard
+abbrev pub first_fault : ProfileRecord → Aboard → ℕ → List operation.Op → Option SeqFault
+first_fault ship at number [] = None
+first_fault ship at number (op ∷ more) =
+    option_or (option_map (fault_at number) (fault_of ship at op)) (first_fault ship (moved ship at op) (number + 1) more)
+
+-- a sequence has at most 120,000 steps
+abbrev pub sequence_fault : ProfileRecord → Aboard → List operation.Op → Option SeqFault
+sequence_fault ship at ops =
+    if nat_lt 120000 (length ops) then Some (fault_at 120001 TooManySteps) else first_fault ship at 1 ops
+
+-- what a sequence is
+pub record SequenceRecord : Type 0 where
+  pub ops : List operation.Op
+  pub steps : List Step
+
+-- the arrival was made with this profile
+pub record IsOf (ship : ProfileRecord) (arrival : ArrivalRecord) : Type 0 where
+  pub legal : arrival_fault ship arrival.items arrival.fills ≡ None
+  pub bodies : arrival.bodies ≡ arrival_bodies ship arrival.items arrival.fills

@@ -1,0 +1,189 @@
+ghost use Rattle.std.specs.Prelude.{◌≡◌, ◌≢◌, ◌≤◌, ◌^◌, ◌++◌, [], length, map, filter_map, nat_eq, OnOk, IfOk, IfErr, Some, None};
+ghost use Rattle.ship_profile.specs.Record.{IsSound, place_of, tank_body};
+ghost use Rattle.lift_sequence.specs.Aboard.{held, nothing, with_cell, container_of};
+ghost use Rattle.lift_sequence.specs.Arrival.{arrival_bodies, arrival_fault, fills_fault, items_fault, with_items, with_fills, on_arrival};
+ghost use Rattle.lift_sequence.specs.Bodies.{body_in};
+ghost use Rattle.lift_sequence.specs.Legal.{stand_fault};
+
+use crate::containers::container_of;
+use crate::faults::{NO_MEMORY, SeqCode, SeqFault, fault_at};
+use crate::stowage::Stowage;
+use ship_profile::{Profile, TankFill};
+use std::alloc::{AllocError, Global};
+use std::marker::Model;
+use stow_messages::Item;
+use units_core::Body;
+
+/// The condition on arrival: the containers of the bay plan in their cells, and the fillings in their tanks.
+#[derive(Debug, Drop)]
+pub struct Arrival {
+    items: Vec<Item>,
+    fills: Vec<TankFill>,
+    bodies: Vec<Body>,
+}
+
+impl Model for Arrival {
+    ghost use Rattle.lift_sequence.specs.Arrival.{ArrivalRecord};
+
+    ghost Value = { ArrivalRecord };
+
+    ghost view = { λ a. record { items = a.items.items; fills = a.fills.items; bodies = a.bodies.items } };
+}
+
+/// Puts an item aboard, where it can stand.
+fn stow_item(stowage: &mut Stowage, profile: &Profile, item: &Item) -> Result<Body, SeqCode>
+    ensures legal { OnOk result (stand_fault profile.now (held stowage.old).cells item.now.cell ≡ None) }
+    ensures moved { OnOk result (held stowage.new ≡ with_cell (held stowage.old) item.now.cell (Some (container_of item.now))) }
+    ensures body { IfOk result (λ b. body_in (place_of profile.now item.now.cell) (Some (container_of item.now)) ≡ Some b) }
+    ensures refused { IfErr result (λ e. e ≢ SeqCode.NoMemory → stand_fault profile.now (held stowage.old).cells item.now.cell ≡ Some e) }
+{
+    stowage.stow(profile, item.cell, container_of(item))
+}
+
+/// Puts the items aboard, each of which can stand where those before it do, and gives their bodies.
+fn stow_items(
+    profile: &Profile,
+    stowage: &mut Stowage,
+    items: &[Item],
+    bodies: &mut Vec<Body>,
+) -> Result<(), SeqFault>
+    requires sound { IsSound profile.now }
+    requires nothing { held stowage.old ≡ nothing }
+    requires none { bodies.old.items ≡ [] }
+    ensures legal { OnOk result (items_fault profile.now nothing 1 items.now ≡ None) }
+    ensures bodies { OnOk result (bodies.new.items ≡ filter_map (λ item. body_in (place_of profile.now item.cell) (Some (container_of item))) items.now) }
+    ensures refused { IfErr result (λ e. e.code ≢ SeqCode.NoMemory → items_fault profile.now nothing 1 items.now ≡ Some e) }
+{
+    let mut number = 0;
+    for item in items {
+        number += 1;
+        let body = match stow_item(stowage, profile, item) {
+            Ok(body) => body,
+            Err(code) => return Err(fault_at(number, code)),
+        };
+        if bodies.push(body).is_err() {
+            return Err(NO_MEMORY);
+        }
+    }
+    Ok(())
+}
+
+/// The bodies of the items, where they can all stand.
+fn item_bodies(alloc: Global, profile: &Profile, items: &[Item]) -> Result<Vec<Body>, SeqFault>
+    requires { IsSound profile.now }
+    ensures legal { OnOk result (items_fault profile.now nothing 1 items.now ≡ None) }
+    ensures bodies { IfOk result (λ b. b.items ≡ filter_map (λ item. body_in (place_of profile.now item.cell) (Some (container_of item))) items.now) }
+    ensures refused { IfErr result (λ e. e.code ≢ SeqCode.NoMemory → items_fault profile.now nothing 1 items.now ≡ Some e) }
+{
+    let mut stowage = Stowage::empty(alloc);
+    let mut bodies = Vec::new(alloc);
+    stow_items(profile, &mut stowage, items, &mut bodies)?;
+    Ok(bodies)
+}
+
+/// The bodies of the fills, each of which its tank can hold.
+fn fill_bodies(alloc: Global, profile: &Profile, fills: &[TankFill]) -> Result<Vec<Body>, SeqFault>
+    requires { length fills.now ≤ 200 }
+    ensures legal { OnOk result (fills_fault profile.now 1 fills.now ≡ None) }
+    ensures bodies { IfOk result (λ b. b.items ≡ filter_map (λ fill. tank_body profile.now fill.tank fill.kg) fills.now) }
+    ensures refused { IfErr result (λ e. e.code ≢ SeqCode.NoMemory → fills_fault profile.now 1 fills.now ≡ Some e) }
+{
+    let mut bodies = Vec::new(alloc);
+    let mut number = 0;
+    for fill in fills {
+        number += 1;
+        let Some(body) = profile.tank_item(fill.tank, fill.kg) else {
+            return Err(fault_at(number, SeqCode::TankOver));
+        };
+        if bodies.push(body).is_err() {
+            return Err(NO_MEMORY);
+        }
+    }
+    Ok(bodies)
+}
+
+/// Three lists of bodies, one behind another.
+fn joined(
+    alloc: Global,
+    first: &[Body],
+    second: &[Body],
+    third: &[Body],
+) -> Result<Vec<Body>, AllocError>
+    ensures { IfOk result (λ b. b.items ≡ first.now ++ (second.now ++ third.now)) }
+{
+    let mut bodies = Vec::new(alloc);
+    bodies.extend_from_slice(first)?;
+    bodies.extend_from_slice(second)?;
+    bodies.extend_from_slice(third)?;
+    Ok(bodies)
+}
+
+impl Arrival {
+    /// The condition of a ship on arrival with these items of her bay plan and these fills. The first fault is answered: item by item
+    /// [`SeqCode::UnknownCell`], `CellTaken` and `Overlap`, then fill by fill `TankOver`, with the number of the item or the fill, from 1.
+    pub fn new(
+        alloc: Global,
+        profile: &Profile,
+        items: Vec<Item>,
+        fills: &[TankFill],
+    ) -> Result<Arrival, SeqFault>
+        requires { length fills.now ≤ 200 }
+        ensures legal { OnOk result (arrival_fault profile.now items.items fills.now ≡ None) }
+        ensures items { IfOk result (λ a. a.items ≡ items.items) }
+        ensures fills { IfOk result (λ a. a.fills ≡ fills.now) }
+        ensures bodies { IfOk result (λ a. a.bodies ≡ arrival_bodies profile.now items.items fills.now) }
+        ensures refused { IfErr result (λ e. e.code ≢ SeqCode.NoMemory → arrival_fault profile.now items.items fills.now ≡ Some e) }
+    {
+        let blocks = profile.blocks();
+        let stowed = item_bodies(alloc, profile, &items)?;
+        let filled = fill_bodies(alloc, profile, fills)?;
+        let Ok(bodies) = joined(alloc, blocks, &filled, &stowed) else {
+            return Err(NO_MEMORY);
+        };
+        let Ok(fills) = fills.to_vec(alloc) else {
+            return Err(NO_MEMORY);
+        };
+        Ok(Arrival {
+            items,
+            fills,
+            bodies,
+        })
+    }
+
+    /// The bodies aboard: the blocks of the light ship, the fillings, the containers.
+    pub fn bodies(&self) -> &[Body]
+        ensures { result.now ≡ self.now.bodies }
+    {
+        self.bodies.as_slice()
+    }
+
+    /// What is aboard, to go on from.
+    pub fn stowage(&self, alloc: Global) -> Result<Stowage, AllocError>
+        ensures { IfOk result (λ s. held s ≡ on_arrival self.now.items self.now.fills) }
+    {
+        let mut stowage = Stowage::empty(alloc);
+        stow_all(&mut stowage, &self.items)?;
+        fill_all(&mut stowage, &self.fills)?;
+        Ok(stowage)
+    }
+}
+
+/// Puts items into their cells.
+fn stow_all(stowage: &mut Stowage, items: &[Item]) -> Result<(), AllocError>
+    ensures { OnOk result (held stowage.new ≡ with_items (held stowage.old) items.now) }
+{
+    for item in items {
+        stowage.cells.insert(item.cell, container_of(item))?;
+    }
+    Ok(())
+}
+
+/// Puts fills into their tanks.
+fn fill_all(stowage: &mut Stowage, fills: &[TankFill]) -> Result<(), AllocError>
+    ensures { OnOk result (held stowage.new ≡ with_fills (held stowage.old) fills.now) }
+{
+    for fill in fills {
+        stowage.tanks.insert(fill.tank, fill.kg)?;
+    }
+    Ok(())
+}

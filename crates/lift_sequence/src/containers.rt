@@ -1,0 +1,30 @@
+ghost use Rattle.std.specs.Prelude.{◌≡◌, ◌↔◌, IsTrue};
+ghost use Rattle.lift_sequence.specs.Aboard.{container_of};
+ghost use Rattle.lift_sequence.specs.Legal.{differ, is_empty};
+
+use arrayvec::ArrayVec;
+use stow_messages::Item;
+use units_core::Kg;
+
+/// A container aboard: its identification, which may be empty, and its gross mass.
+#[derive(Debug, Drop, PartialEq, Eq)]
+pub struct Container {
+    pub id: ArrayVec<u8, 17>,
+    pub kg: Kg,
+}
+
+/// The container that an item is.
+pub fn container_of(item: &Item) -> Container
+    ensures { result ≡ container_of item.now }
+{
+    let mut id = ArrayVec::new();
+    let _ = id.try_extend_from_slice(item.id.as_slice());
+    Container { id, kg: item.kg }
+}
+
+/// Two identifications differ, and none of them is empty: an empty one fits any container.
+pub fn differ(a: &[u8], b: &[u8]) -> bool
+    ensures { result ≡ differ a.now b.now }
+{
+    !a.is_empty() && !b.is_empty() && a != b
+}

@@ -1,0 +1,64 @@
+ghost use Rattle.std.specs.Prelude.{◌≡◌};
+ghost use Rattle.lift_sequence.specs.Arrival.{fault_at};
+
+use std::fmt;
+use units_core::Cell;
+
+/// Why an item, a fill or a step can't be. It prints as its code, S1 to S9.
+#[derive(Clone, Copy, Debug, PartialEq, Eq)]
+pub enum SeqCode {
+    /// The ship has no such cell.
+    UnknownCell,
+    /// A container stands in the cell.
+    CellTaken,
+    /// A container in this other cell wants the same room; it is the one of least bay.
+    Overlap(Cell),
+    /// No container stands in the cell.
+    CellEmpty,
+    /// Another container stands in the cell: both identifications are there, and they differ.
+    WrongContainer,
+    /// The table of the tank hasn't this mass.
+    TankOver,
+    /// More than 120,000 steps.
+    TooManySteps,
+    /// Want of memory.
+    NoMemory,
+    /// The ship has no tank of this name.
+    UnknownTank,
+}
+
+impl fmt::Display for SeqCode {
+    fn fmt<W: fmt::Write>(&self, f: &mut fmt::Formatter<W>) -> fmt::Result {
+        f.write_str(match self {
+            SeqCode::UnknownCell => "S1",
+            SeqCode::CellTaken => "S2",
+            SeqCode::Overlap(_) => "S3",
+            SeqCode::CellEmpty => "S4",
+            SeqCode::WrongContainer => "S5",
+            SeqCode::TankOver => "S6",
+            SeqCode::TooManySteps => "S7",
+            SeqCode::NoMemory => "S8",
+            SeqCode::UnknownTank => "S9",
+        })
+    }
+}
+
+/// The cause, and the number of the item, the fill or the step, each from 1; 0 for want of memory.
+#[derive(Clone, Copy, Debug, PartialEq, Eq)]
+pub struct SeqFault {
+    pub code: SeqCode,
+    pub at: u32,
+}
+
+/// Want of memory.
+pub const NO_MEMORY: SeqFault = SeqFault {
+    code: SeqCode::NoMemory,
+    at: 0,
+};
+
+/// The fault of a cause at a number. Want of memory has none.
+pub fn fault_at(at: u32, code: SeqCode) -> SeqFault
+    ensures { result ≡ fault_at at code }
+{
+    SeqFault { code, at }
+}

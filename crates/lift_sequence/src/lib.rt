@@ -1,0 +1,25 @@
+//! What is aboard, step by step: the condition on arrival, and a sequence of lifts, fillings of tanks and restows, each of which has
+//! to be possible where it comes.
+//!
+//! [`Arrival::new`] puts the items of a bay plan into the ship's cells and the fills into her tanks. [`Sequence::new`] goes through the
+//! steps that [`ops`] makes of a movement instruction and a steps file, and tells of each the body that it takes out and the one that it
+//! puts in. Both answer the first item, fill or step that can't be, and why. [`Stowage`] is what is aboard at one step, from which all
+//! bodies can be listed. A look-up takes constant time; so does the search for a cell that wants the same room.
+#![tactic(auto)]
+
+mod arrivals;
+mod containers;
+mod faults;
+mod operations;
+mod sequences;
+mod steps;
+mod stowage;
+#[cfg(test)]
+mod tests;
+
+pub use arrivals::Arrival;
+pub use faults::{SeqCode, SeqFault};
+pub use operations::{Op, ops};
+pub use sequences::Sequence;
+pub use steps::Step;
+pub use stowage::Stowage;

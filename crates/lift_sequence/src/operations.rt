@@ -1,0 +1,121 @@
+ghost use Rattle.std.specs.Prelude.{◌≡◌, IfOk, option_map, Some, None};
+ghost use Rattle.stow_messages.specs.declared.step_rows.StepRow.{StepRow};
+ghost use Rattle.lift_sequence.specs.Sequence.{lift_at, op_of, ops_of};
+
+use arrayvec::ArrayVec;
+use std::alloc::{AllocError, Global};
+use stow_messages::{Lift, StepRow};
+use units_core::Cell;
+
+/// A step of a sequence.
+#[derive(Debug, Drop, PartialEq, Eq)]
+pub enum Op {
+    /// A lift of the movement instruction.
+    Lift(Lift),
+    /// From now on the tank of this name holds so many kg.
+    Fill {
+        name: ArrayVec<u8, 16>,
+        kg: u32,
+    },
+    /// The container in the cell `from` is put into the cell `to`. An empty identification fits any container.
+    Restow {
+        from: Cell,
+        to: Cell,
+        id: ArrayVec<u8, 17>,
+    },
+}
+
+/// An equal text.
+fn copied<const MOST: usize>(text: &ArrayVec<u8, MOST>) -> ArrayVec<u8, MOST>
+    ensures { result ≡ text.now }
+{
+    let mut copy = ArrayVec::new();
+    let _ = copy.try_extend_from_slice(text.as_slice());
+    copy
+}
+
+impl Op {
+    /// An equal step.
+    pub fn copy(&self) -> Op
+        ensures { result ≡ self.now }
+    {
+        match self {
+            Op::Lift(lift) => Op::Lift(lift.copy()),
+            Op::Fill { name, kg } => Op::Fill {
+                name: copied(name),
+                kg: *kg,
+            },
+            Op::Restow { from, to, id } => Op::Restow {
+                from: *from,
+                to: *to,
+                id: copied(id),
+            },
+        }
+    }
+}
+
+/// The lift of a number, the first being 1.
+fn lift_at(lifts: &[Lift], number: u32) -> Option<Lift>
+    ensures { result ≡ lift_at lifts.now number }
+{
+    let place = number.checked_sub(1)?;
+    let lift = lifts.get(place as usize)?;
+    Some(lift.copy())
+}
+
+/// The step that a row orders; `None` for a lift that isn't there.
+fn op_of(lifts: &[Lift], row: &StepRow) -> Option<Op>
+    ensures { result ≡ op_of lifts.now row.now }
+{
+    match row {
+        StepRow::Lift(number) => {
+            let lift = lift_at(lifts, *number)?;
+            Some(Op::Lift(lift))
+        }
+        StepRow::Tank { name, kg } => Some(Op::Fill {
+            name: copied(name),
+            kg: *kg,
+        }),
+        StepRow::Restow { from, to, id } => Some(Op::Restow {
+            from: *from,
+            to: *to,
+            id: copied(id),
+        }),
+    }
+}
+
+/// The steps of rows.
+fn ops_of_rows(alloc: Global, lifts: &[Lift], rows: &[StepRow]) -> Result<Vec<Op>, AllocError>
+    ensures { IfOk result (λ ops. ops.items ≡ ops_of lifts.now (Some rows.now)) }
+{
+    let mut ops = Vec::new(alloc);
+    for row in rows {
+        if let Some(op) = op_of(lifts, row) {
+            ops.push(op)?;
+        }
+    }
+    Ok(ops)
+}
+
+/// The steps of lifts in their order.
+fn ops_of_lifts(alloc: Global, lifts: Vec<Lift>) -> Result<Vec<Op>, AllocError>
+    ensures { IfOk result (λ ops. ops.items ≡ ops_of lifts.items None) }
+{
+    lifts.into_iter().map(Op::Lift).collect(alloc)
+}
+
+/// The steps of a sequence: those that the rows of a steps file order, where there is one, and else the lifts of the movement
+/// instruction in their order. The rows are those that [`stow_messages::steps`] gave for these lifts; a row of a lift that isn't there
+/// orders nothing.
+pub fn ops(
+    alloc: Global,
+    lifts: Vec<Lift>,
+    rows: Option<Vec<StepRow>>,
+) -> Result<Vec<Op>, AllocError>
+    ensures { IfOk result (λ ops. ops.items ≡ ops_of lifts.items (option_map (λ r. r.items) rows)) }
+{
+    match rows {
+        Some(rows) => ops_of_rows(alloc, &lifts, &rows),
+        None => ops_of_lifts(alloc, lifts),
+    }
+}

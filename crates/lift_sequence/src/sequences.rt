@@ -1,0 +1,118 @@
+ghost use Rattle.std.specs.Prelude.{◌≡◌, ◌≢◌, ◌≤◌, ◌<◌, ◌-◌, ◌++◌, ◌∷◌, [], length, slice_get, option_map, OnOk, IfOk, IfErr, Some, None};
+ghost use Rattle.lift_sequence.specs.Arrival.{fault_at, on_arrival};
+ghost use Rattle.lift_sequence.specs.Aboard.{held, moved};
+ghost use Rattle.lift_sequence.specs.Bodies.{step_of, steps_of};
+ghost use Rattle.lift_sequence.specs.Legal.{fault_of};
+ghost use Rattle.lift_sequence.specs.Sequence.{IsOf, first_fault, sequence_fault};
+
+use crate::arrivals::Arrival;
+use crate::faults::{NO_MEMORY, SeqCode, SeqFault, fault_at};
+use crate::operations::Op;
+use crate::steps::Step;
+use crate::stowage::Stowage;
+use ship_profile::Profile;
+use std::alloc::Global;
+use std::marker::Model;
+
+/// The greatest number of steps.
+const MAX_STEPS: usize = 120_000;
+
+/// A sequence of steps, each of which can be done where it comes, with what each does to the bodies aboard.
+#[derive(Debug, Drop)]
+pub struct Sequence {
+    ops: Vec<Op>,
+    steps: Vec<Step>,
+}
+
+impl Model for Sequence {
+    ghost use Rattle.std.specs.Prelude.{◌≡◌, length};
+    ghost use Rattle.lift_sequence.specs.Sequence.{SequenceRecord};
+
+    ghost Value = { SequenceRecord };
+
+    ghost view = { λ s. record { ops = s.ops.items; steps = s.steps.items } };
+
+    ghost invariant = { λ s. length s.steps.items ≡ length s.ops.items };
+}
+
+/// Does all steps, and tells what each does.
+fn make_all(
+    alloc: Global,
+    profile: &Profile,
+    stowage: &mut Stowage,
+    ops: &[Op],
+) -> Result<Vec<Step>, SeqFault>
+    requires { length ops.now ≤ 120000 }
+    ensures legal { OnOk result (first_fault profile.now (held stowage.old) 1 ops.now ≡ None) }
+    ensures steps { IfOk result (λ s. s.items ≡ steps_of profile.now (held stowage.old) ops.now) }
+    ensures refused { IfErr result (λ e. e.code ≢ SeqCode.NoMemory → first_fault profile.now (held stowage.old) 1 ops.now ≡ Some e) }
+{
+    let mut steps = Vec::new(alloc);
+    let mut number = 0;
+    for op in ops {
+        number += 1;
+        let Step { out, put } = match stowage.make(profile, op) {
+            Ok(step) => step,
+            Err(code) => return Err(fault_at(number, code)),
+        };
+        if steps.push(Step { out, put }).is_err() {
+            return Err(NO_MEMORY);
+        }
+    }
+    Ok(steps)
+}
+
+impl Sequence {
+    /// The sequence of these steps from the condition on arrival, which was made with the same profile. The first fault is answered:
+    /// [`SeqCode::TooManySteps`] at 120,001 where there are more than 120,000; then step by step, from 1, of a load `UnknownCell`, `CellTaken`,
+    /// `Overlap`; of a discharge `UnknownCell`, `CellEmpty`, `WrongContainer`; of a filling `UnknownTank`, `TankOver`; of a restow those of a
+    /// discharge, and then those of a load into the other cell.
+    pub fn new(
+        alloc: Global,
+        profile: &Profile,
+        arrival: &Arrival,
+        ops: Vec<Op>,
+    ) -> Result<Sequence, SeqFault>
+        requires { IsOf profile.now arrival.now }
+        ensures legal { OnOk result (sequence_fault profile.now (on_arrival arrival.now.items arrival.now.fills) ops.items ≡ None) }
+        ensures ops { IfOk result (λ s. s.ops ≡ ops.items) }
+        ensures few { IfOk result (λ s. length s.ops ≤ 120000) }
+        ensures steps { IfOk result (λ s. s.steps ≡ steps_of profile.now (on_arrival arrival.now.items arrival.now.fills) ops.items) }
+        ensures refused { IfErr result (λ e. e.code ≢ SeqCode.NoMemory →
+            sequence_fault profile.now (on_arrival arrival.now.items arrival.now.fills) ops.items ≡ Some e) }
+    {
+        if ops.len() > MAX_STEPS {
+            return Err(fault_at(MAX_STEPS as u32 + 1, SeqCode::TooManySteps));
+        }
+        let Ok(mut stowage) = arrival.stowage(alloc) else {
+            return Err(NO_MEMORY);
+        };
+        let steps = make_all(alloc, profile, &mut stowage, &ops)?;
+        Ok(Sequence { ops, steps })
+    }
+
+    /// The number of steps.
+    pub fn len(&self) -> usize
+        ensures { result ≡ length self.now.ops }
+    {
+        self.ops.len()
+    }
+
+    /// What step `k` does to the bodies aboard, the first step being 1.
+    pub fn step(&self, k: usize) -> Step
+        requires first { 1 ≤ k }
+        requires last { k ≤ length self.now.ops }
+        ensures { slice_get self.now.steps (k - 1) ≡ Some result }
+    {
+        self.steps[k - 1]
+    }
+
+    /// What step `k` orders, the first step being 1.
+    pub fn lift(&self, k: usize) -> &Op
+        requires first { 1 ≤ k }
+        requires last { k ≤ length self.now.ops }
+        ensures { slice_get self.now.ops (k - 1) ≡ Some result.now }
+    {
+        &self.ops[k - 1]
+    }
+}

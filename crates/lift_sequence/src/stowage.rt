@@ -1,0 +1,284 @@
+ghost use Rattle.std.specs.Prelude.{◌≡◌, ◌≢◌, ◌++◌, ℕ, ℤ, ◌≤◌, length, flat_map, nat_eq, OnOk, IfOk, IfErr, Some, None, pos};
+ghost use Rattle.std.specs.Option.{is_some, option_or, option_to_list};
+ghost use Rattle.units_core.specs.declared.cells.Cell.{Cell as ACell};
+ghost use Rattle.lift_sequence.specs.declared.containers.Container.{Container as Aboard_};
+ghost use Rattle.indexmap.specs.IndexMap.{IsUnique};
+ghost use Rattle.units_core.specs.Bodies.{Mass};
+ghost use Rattle.units_core.specs.Cells.{cell_eq};
+ghost use Rattle.ship_profile.specs.Record.{place_of, tank_of, tank_body};
+ghost use Rattle.lift_sequence.specs.Aboard.{Aboard, held, moved, nothing, with_cell, with_tank};
+ghost use Rattle.lift_sequence.specs.Arrival.{on_arrival, with_items, with_fills};
+ghost use Rattle.lift_sequence.specs.Bodies.{bodies, body_of, body_in, filling_step, step_of};
+ghost use Rattle.lift_sequence.specs.Legal.{fault_of, fill_fault, hold_fault, in_bay, is_rival, overlap, stand_fault, take_fault};
+ghost use Rattle.lift_sequence.specs.Totals.{total};
+
+use crate::containers::{Container, container_of, differ};
+use crate::faults::SeqCode;
+use crate::operations::Op;
+use crate::steps::Step;
+use indexmap::IndexMap;
+use ship_profile::Profile;
+use std::alloc::{AllocError, Global};
+use stow_messages::Lift;
+use units_core::{Body, Cell, Kg, Place, conflicts};
+
+/// What is aboard: what stands in each cell, and how much each tank holds.
+#[derive(Debug, Drop)]
+pub struct Stowage {
+    pub(crate) cells: IndexMap<Cell, Container>,
+    pub(crate) tanks: IndexMap<u16, u32>,
+}
+
+/// Bays have three digits.
+const BAYS: u16 = 1_000;
+
+/// The cell of another bay, of the same row and tier.
+fn in_bay(cell: Cell, bay: u16) -> Cell
+    ensures { result ≡ in_bay cell bay }
+{
+    Cell {
+        bay,
+        row: cell.row,
+        tier: cell.tier,
+    }
+}
+
+/// A container at its cell's place. It has no free surface.
+fn body_of(place: Place, kg: Kg) -> Body
+    ensures { result ≡ record { kg = kg; place = place; fsm = pos 0 } }
+{
+    Body::new(kg.get(), place, 0).unwrap()
+}
+
+impl Stowage {
+    /// Nothing is aboard.
+    pub(crate) fn empty(alloc: Global) -> Stowage
+        ensures { held result ≡ nothing }
+    {
+        Stowage {
+            cells: IndexMap::new(alloc),
+            tanks: IndexMap::new(alloc),
+        }
+    }
+
+    /// Whether the cell of another bay is taken, and wants the room of a cell.
+    fn is_rival(&self, cell: Cell, bay: u16) -> bool
+        ensures { result ≡ is_rival (held self.now).cells cell bay }
+    {
+        let other = in_bay(cell, bay);
+        self.cells.contains_key(&other) && conflicts(other, cell)
+    }
+
+    /// The taken cell that wants the room of a cell, the one of least bay: no bay that is more than two away does.
+    fn overlap(&self, cell: Cell) -> Option<Cell>
+        ensures { result ≡ overlap (held self.now).cells cell }
+    {
+        let first = cell.bay.saturating_sub(2);
+        let end = cell.bay.saturating_add(3).min(BAYS);
+        for bay in first..end {
+            if self.is_rival(cell, bay) {
+                return Some(in_bay(cell, bay));
+            }
+        }
+        None
+    }
+
+    /// Whether a container stands in a cell.
+    fn is_taken(&self, cell: Cell) -> bool
+        ensures { result ≡ is_some ((held self.now).cells cell) }
+    {
+        self.cells.contains_key(&cell)
+    }
+
+    /// Why a container can't be put into a cell.
+    fn stand_fault(&self, profile: &Profile, cell: Cell) -> Option<SeqCode>
+        ensures { result ≡ stand_fault profile.now (held self.now).cells cell }
+    {
+        if profile.cell(cell).is_none() {
+            return Some(SeqCode::UnknownCell);
+        }
+        if self.is_taken(cell) {
+            return Some(SeqCode::CellTaken);
+        }
+        self.overlap(cell).map(SeqCode::Overlap)
+    }
+
+    /// Puts a container into a cell, and gives its body.
+    pub(crate) fn stow(
+        &mut self,
+        profile: &Profile,
+        cell: Cell,
+        container: Container,
+    ) -> Result<Body, SeqCode>
+        ensures legal { OnOk result (stand_fault profile.now (held self.old).cells cell ≡ None) }
+        ensures moved { OnOk result (held self.new ≡ with_cell (held self.old) cell (Some container)) }
+        ensures body { IfOk result (λ b. body_in (place_of profile.now cell) (Some container) ≡ Some b) }
+        ensures refused { IfErr result (λ e. e ≢ SeqCode.NoMemory → stand_fault profile.now (held self.old).cells cell ≡ Some e) }
+    {
+        if let Some(code) = self.stand_fault(profile, cell) {
+            return Err(code);
+        }
+        let Some(place) = profile.cell(cell) else {
+            return Err(SeqCode::UnknownCell);
+        };
+        let body = body_of(place, container.kg);
+        match self.cells.insert(cell, container) {
+            Ok(_) => Ok(body),
+            Err(_) => Err(SeqCode::NoMemory),
+        }
+    }
+
+    /// Takes the container of this identification out of a cell, and gives its body with it.
+    fn take(
+        &mut self,
+        profile: &Profile,
+        cell: Cell,
+        id: &[u8],
+    ) -> Result<(Body, Container), SeqCode>
+        ensures legal { OnOk result (take_fault profile.now (held self.old).cells cell id.now ≡ None) }
+        ensures moved { OnOk result (held self.new ≡ with_cell (held self.old) cell None) }
+        ensures container { IfOk result (λ r. (held self.old).cells cell ≡ Some r.1) }
+        ensures body { IfOk result (λ r. body_in (place_of profile.now cell) ((held self.old).cells cell) ≡ Some r.0) }
+        ensures refused { IfErr result (λ e. take_fault profile.now (held self.old).cells cell id.now ≡ Some e) }
+    {
+        let Some(place) = profile.cell(cell) else {
+            return Err(SeqCode::UnknownCell);
+        };
+        let Some(container) = self.cells.swap_remove(&cell) else {
+            return Err(SeqCode::CellEmpty);
+        };
+        if differ(id, container.id.as_slice()) {
+            return Err(SeqCode::WrongContainer);
+        }
+        Ok((body_of(place, container.kg), container))
+    }
+
+    /// Leaves so many kg in a tank.
+    fn fill(&mut self, profile: &Profile, name: &[u8], kg: u32) -> Result<Step, SeqCode>
+        ensures legal { OnOk result (fill_fault profile.now (tank_of profile.now name.now) kg ≡ None) }
+        ensures moved { OnOk result (held self.new ≡ with_tank (held self.old) (tank_of profile.now name.now) kg) }
+        ensures step { IfOk result (λ s. s ≡ filling_step profile.now (held self.old) (tank_of profile.now name.now) kg) }
+        ensures refused { IfErr result (λ e. e ≢ SeqCode.NoMemory → fill_fault profile.now (tank_of profile.now name.now) kg ≡ Some e) }
+    {
+        let Some(tank) = profile.tank(name) else {
+            return Err(SeqCode::UnknownTank);
+        };
+        let Some(put) = profile.tank_item(tank, kg) else {
+            return Err(SeqCode::TankOver);
+        };
+        let Ok(before) = self.tanks.insert(tank, kg) else {
+            return Err(SeqCode::NoMemory);
+        };
+        let out = match before {
+            Some(before) => profile.tank_item(tank, before),
+            None => None,
+        };
+        Ok(Step {
+            out,
+            put: Some(put),
+        })
+    }
+
+    /// Takes a container from one cell to another.
+    fn restow(
+        &mut self,
+        profile: &Profile,
+        from: Cell,
+        to: Cell,
+        id: &[u8],
+    ) -> Result<Step, SeqCode>
+        ensures legal { OnOk result (option_or (take_fault profile.now (held self.old).cells from id.now)
+            (stand_fault profile.now (with_cell (held self.old) from None).cells to) ≡ None) }
+        ensures moved { OnOk result (held self.new ≡ with_cell (with_cell (held self.old) from None) to ((held self.old).cells from)) }
+        ensures step { IfOk result (λ s. s ≡ record {
+          out = body_in (place_of profile.now from) ((held self.old).cells from);
+          put = body_in (place_of profile.now to) ((held self.old).cells from);
+        }) }
+        ensures refused { IfErr result (λ e. e ≢ SeqCode.NoMemory → option_or (take_fault profile.now (held self.old).cells from id.now)
+            (stand_fault profile.now (with_cell (held self.old) from None).cells to) ≡ Some e) }
+    {
+        let (out, container) = self.take(profile, from, id)?;
+        let put = self.stow(profile, to, container)?;
+        Ok(Step {
+            out: Some(out),
+            put: Some(put),
+        })
+    }
+
+    /// Does one step, and tells the bodies that it takes out and puts in; or why it can't be done, and then what is aboard isn't
+    /// told.
+    pub fn make(&mut self, profile: &Profile, op: &Op) -> Result<Step, SeqCode>
+        ensures legal { OnOk result (fault_of profile.now (held self.old) op.now ≡ None) }
+        ensures moved { OnOk result (held self.new ≡ moved profile.now (held self.old) op.now) }
+        ensures step { IfOk result (λ s. s ≡ step_of profile.now (held self.old) op.now) }
+        ensures refused { IfErr result (λ e. e ≢ SeqCode.NoMemory → fault_of profile.now (held self.old) op.now ≡ Some e) }
+    {
+        match op {
+            Op::Lift(Lift::Load(item)) => {
+                let put = self.stow(profile, item.cell, container_of(item))?;
+                Ok(Step {
+                    out: None,
+                    put: Some(put),
+                })
+            }
+            Op::Lift(Lift::Discharge { cell, id }) => {
+                let (out, _) = self.take(profile, *cell, id.as_slice())?;
+                Ok(Step {
+                    out: Some(out),
+                    put: None,
+                })
+            }
+            Op::Fill { name, kg } => self.fill(profile, name.as_slice(), *kg),
+            Op::Restow { from, to, id } => self.restow(profile, *from, *to, id.as_slice()),
+        }
+    }
+
+    /// Every body that is aboard: the blocks of the light ship, the filling of each tank, and each container at its cell's place,
+    /// in no order that counts. What stands in a cell or a tank that the ship hasn't is no body.
+    pub fn bodies(&self, alloc: Global, profile: &Profile) -> Result<Vec<Body>, AllocError>
+        ensures sum { IfOk result (λ v. (f : Mass → ℤ) → total f v.items ≡ total f (bodies profile.now (held self.now))) }
+        ensures few { IfOk result (λ v. length v.items ≤ 30400) }
+    {
+        let mut bodies = Vec::new(alloc);
+        bodies.extend_from_slice(profile.blocks())?;
+        add_fillings(profile, &self.tanks, &mut bodies)?;
+        add_containers(profile, &self.cells, &mut bodies)?;
+        Ok(bodies)
+    }
+}
+
+/// Adds the filling of each tank.
+fn add_fillings(
+    profile: &Profile,
+    tanks: &IndexMap<u16, u32>,
+    bodies: &mut Vec<Body>,
+) -> Result<(), AllocError>
+    ensures added { OnOk result (bodies.new.items ≡ bodies.old.items
+        ++ flat_map (λ (e : ℕ × ℕ). option_to_list (tank_body profile.now e.0 e.1)) tanks.now.entries) }
+    ensures unique { IsUnique nat_eq tanks.now }
+{
+    for (tank, kg) in tanks.iter() {
+        if let Some(body) = profile.tank_item(*tank, *kg) {
+            bodies.push(body)?;
+        }
+    }
+    Ok(())
+}
+
+/// Adds each container at its cell's place.
+fn add_containers(
+    profile: &Profile,
+    cells: &IndexMap<Cell, Container>,
+    bodies: &mut Vec<Body>,
+) -> Result<(), AllocError>
+    ensures added { OnOk result (bodies.new.items ≡ bodies.old.items
+        ++ flat_map (λ (e : ACell × Aboard_). option_to_list (body_in (place_of profile.now e.0) (Some e.1))) cells.now.entries) }
+    ensures unique { IsUnique cell_eq cells.now }
+{
+    for (cell, container) in cells.iter() {
+        if let Some(place) = profile.cell(*cell) {
+            bodies.push(body_of(place, container.kg))?;
+        }
+    }
+    Ok(())
+}

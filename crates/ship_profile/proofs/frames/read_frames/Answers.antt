@@ -1,0 +1,9 @@
+use Rattle.toml.specs.View.{table_view}
+use Rattle.ship_profile.proofs.MeaningLemmas.{frames-sound}
+use Rattle.ship_profile.proofs.frames.read_frames.Goals as goal
+
+pub invariant_of-result : goal.invariant_of-result
+invariant_of-result c = let sound = frames-sound c.args.stations.now (table_view c.args.table.now) _ c.in_ok-frames.ensures.ok in (sound.some, sound.few)
+
+pub returns-clause-meaning : goal.returns-clause-meaning
+returns-clause-meaning c = frames-sound c.args.stations.now (table_view c.args.table.now) _ c.in_ok-frames.ensures.ok

@@ -1,6 +1,0 @@
-use Rattle.std.proofs.Common.{◌≡◌, take}
-use Rattle.ship_profile.specs.Record.{numbers_of}
-use Rattle.ship_profile.proofs.hydrostatics.numbers.Given as goal
-
-abbrev pub invariant-loop-row : goal.invariant-loop-row
-invariant-loop-row l = l.numbers.items ≡ numbers_of l.column (take l.row-index l.rows)

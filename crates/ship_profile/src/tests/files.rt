@@ -1,0 +1,229 @@
+//! The files of the box ship: 100 m long, with vertical sides, a tank and no cargo.
+use crate::{Profile, ProfileBytes, ProfileFault};
+use std::alloc::Global;
+use std::process::Abort;
+use std::test::Fail;
+
+/// The texts of a profile's files.
+#[derive(Clone, Copy)]
+pub struct Files<'a> {
+    pub ship: &'a str,
+    pub cells: &'a str,
+    pub hydro: &'a str,
+    pub kn: &'a str,
+    pub bonjean: &'a str,
+    pub tanks: &'a str,
+    pub gm: Option<&'a str>,
+}
+
+pub static SHIP: &str = "lbp_mm = 100000
+downflooding_deg = 60
+draught_max_mm = 6100
+trim_max_mm = 500
+list_max = 500
+closing_max_kg = 5000
+stations_mm = [0, 25000, 50000, 75000, 100000]
+[[blocks]]
+kg = 8200000
+x_mm = 50000
+y_mm = 0
+z_mm = 6000
+half_mm = 50000
+[[frames]]
+x_mm = 0
+shear_max_kg = 100000
+hog_max_kgmm = 1000000000
+sag_max_kgmm = 1000000000
+[[frames]]
+x_mm = 25000
+shear_max_kg = 100000
+hog_max_kgmm = 1000000000
+sag_max_kgmm = 1000000000
+[[frames]]
+x_mm = 50000
+shear_max_kg = 100000
+hog_max_kgmm = 1000000000
+sag_max_kgmm = 1000000000
+[[frames]]
+x_mm = 75000
+shear_max_kg = 100000
+hog_max_kgmm = 1000000000
+sag_max_kgmm = 1000000000
+[[frames]]
+x_mm = 100000
+shear_max_kg = 100000
+hog_max_kgmm = 1000000000
+sag_max_kgmm = 1000000000
+";
+
+pub static CELLS: &str = "cell,x,y,z,half
+0010082,75000,0,10000,3029
+0020082,62500,0,10000,6096
+0030082,50000,0,10000,3029
+0030782,50000,8000,10000,3029
+0050082,25000,0,10000,3029
+";
+
+pub static HYDRO: &str = "kg,draught,kmt,lcb,lcf,mct
+4100000,2000,17667,50000,50000,17000000
+8200000,4000,10333,50000,50000,17000000
+12300000,6000,8556,50000,50000,17000000
+";
+
+pub static KN: &str = "kg,0,5,10,15,20,25,30,35,40,45,50,55,60
+4100000,0,900,1790,2650,3470,4230,4900,5400,5750,5980,6110,6150,6110
+8200000,0,900,1790,2650,3470,4230,4900,5400,5750,5980,6110,6150,6110
+12300000,0,900,1790,2650,3470,4230,4900,5400,5750,5980,6110,6150,6110
+";
+
+pub static BONJEAN: &str = "draught,0,25000,50000,75000,100000
+0,0,0,0,0,0
+8000,1600000,1600000,1600000,1600000,1600000
+";
+
+pub static TANKS: &str = "tank,kg,x,y,z,half,fsm
+DB1,0,50000,0,0,5000,0
+DB1,500000,50000,0,1000,5000,2050000000
+";
+
+/// A table of the least metacentric height.
+pub static GM: &str = "kg,gm\n4100000,150\n12300000,150\n";
+
+/// The keys of a box ship, each with its value.
+static KEYS: [(&str, &str); 10] = [
+    ("lbp_mm", "100000"),
+    ("downflooding_deg", "60"),
+    ("draught_max_mm", "6100"),
+    ("trim_max_mm", "500"),
+    ("list_max", "500"),
+    ("closing_max_kg", "5000"),
+    ("stations_mm", "[0, 25000, 50000, 75000, 100000]"),
+    (
+        "blocks",
+        "[{kg = 8200000, x_mm = 50000, y_mm = 0, z_mm = 6000, half_mm = 50000}]",
+    ),
+    (
+        "frames",
+        "[{x_mm = 50000, shear_max_kg = 1, hog_max_kgmm = 1, sag_max_kgmm = 1}]",
+    ),
+    ("fills", "[]"),
+];
+
+/// Writes a key; an empty value leaves it out.
+fn write_key(text: &mut String, name: &str, value: &str) -> Result<(), Fail> {
+    if !value.is_empty() {
+        write!(text, "{name} = {value}\n")?;
+    }
+    Ok(())
+}
+
+/// The first keys of a box ship, so many of them, one of them with another value; an empty one leaves the key out.
+pub fn first_keys(alloc: Global, count: usize, key: &str, value: &str) -> Result<String, Fail> {
+    let mut text = String::new(alloc);
+    for (name, own) in KEYS.iter().take(count) {
+        if *name == key {
+            write_key(&mut text, name, value)?;
+        } else {
+            write_key(&mut text, name, own)?;
+        }
+    }
+    Ok(text)
+}
+
+/// The `ship.toml` of a box ship in which one key has another value.
+pub fn ship_with(alloc: Global, key: &str, value: &str) -> Result<String, Fail> {
+    first_keys(alloc, KEYS.len(), key, value)
+}
+
+/// The box ship.
+pub fn box_ship(alloc: Global) -> Result<Profile, ProfileFault> {
+    read_box(alloc, SHIP, CELLS, TANKS, None)
+}
+
+/// The profile of these files.
+pub fn read(alloc: Global, files: &Files<'_>) -> Result<Profile, ProfileFault> {
+    Profile::read(
+        alloc,
+        &ProfileBytes {
+            ship: files.ship.as_bytes(),
+            cells: files.cells.as_bytes(),
+            hydro: files.hydro.as_bytes(),
+            kn: files.kn.as_bytes(),
+            bonjean: files.bonjean.as_bytes(),
+            tanks: files.tanks.as_bytes(),
+            gm: match files.gm {
+                Some(text) => Some(text.as_bytes()),
+                None => None,
+            },
+        },
+    )
+}
+
+/// A `ship.toml` of the box ship in which one key has another value: each value, and the words of its fault; none for a value that
+/// is taken.
+pub fn check_values(
+    rt: &(impl Abort + AllocGlobal),
+    key: &str,
+    rows: &[(&str, &str)],
+) -> Result<(), Fail> {
+    for (value, want) in rows {
+        let ship = ship_with(rt.alloc(), key, value)?;
+        let refused = ship_refusal(rt.alloc(), ship.as_str())?;
+        assert_eq!(rt; refused.as_str(), *want, "{key} {value}");
+    }
+    Ok(())
+}
+
+/// The profile of the box ship with other texts of these files.
+pub fn read_box(
+    alloc: Global,
+    ship: &str,
+    cells: &str,
+    tanks: &str,
+    gm: Option<&str>,
+) -> Result<Profile, ProfileFault> {
+    Profile::read(
+        alloc,
+        &ProfileBytes {
+            ship: ship.as_bytes(),
+            cells: cells.as_bytes(),
+            hydro: HYDRO.as_bytes(),
+            kn: KN.as_bytes(),
+            bonjean: BONJEAN.as_bytes(),
+            tanks: tanks.as_bytes(),
+            gm: match gm {
+                Some(text) => Some(text.as_bytes()),
+                None => None,
+            },
+        },
+    )
+}
+
+/// The words of a fault; none where there is a profile.
+fn words(alloc: Global, read: Result<Profile, ProfileFault>) -> Result<String, Fail> {
+    match read {
+        Ok(_) => Ok(String::new(alloc)),
+        Err(fault) => Ok(format!(in alloc; "{fault}")?),
+    }
+}
+
+/// The words of the fault of these files; none where they are a profile.
+pub fn refusal(alloc: Global, files: &Files<'_>) -> Result<String, Fail> {
+    words(alloc, read(alloc, files))
+}
+
+/// The words of the fault of the box ship with other texts of these files; none where it is a profile.
+pub fn box_refusal(
+    alloc: Global,
+    ship: &str,
+    cells: &str,
+    tanks: &str,
+    gm: Option<&str>,
+) -> Result<String, Fail> {
+    words(alloc, read_box(alloc, ship, cells, tanks, gm))
+}
+
+/// The words of the fault of the box ship with another `ship.toml`; none where it is a profile.
+pub fn ship_refusal(alloc: Global, ship: &str) -> Result<String, Fail> {
+    box_refusal(alloc, ship, CELLS, TANKS, None)
+}
