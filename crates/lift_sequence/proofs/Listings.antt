@@ -1,5 +1,5 @@
 -- Every body that is aboard, listed by what is held, and by the ship's tanks and cells.
-use Rattle.std.proofs.Common.{◌≡◌, ℕ, suc, zero, ◌+◌, ◌≤◌, ◌<◌, List, [], ◌∷◌, ◌++◌, map, flat_map, length, Option, None, Some, Bool, true, false, cond, nat_eq, nat_lt, ℤ, pos, ◌+ℤ◌, refl, sym, ap, ◌∙◌, arith, eqb-true, rules}
+use Rattle.std.proofs.Common.{◌≡◌, ℕ, suc, zero, ◌+◌, ◌≤◌, ◌<◌, List, [], ◌∷◌, ◌++◌, map, flat_map, length, Option, None, Some, Bool, true, false, cond, nat_eq, nat_lt, ℤ, pos, refl, sym, ap, ◌∙◌, arith, eqb-true}
 use Rattle.std.specs.Prelude.{find, slice_get}
 use Rattle.std.specs.Cmp.{unsigned_Decides}
 use Rattle.std.specs.List.{IsDistinct, AllByRecursion, range_with_len}
@@ -8,7 +8,6 @@ use Rattle.std.specs.Option.{is_some, option_map, option_to_list}
 use Rattle.std.proofs.lemmas.Bool.Decides.{Decides-and}
 use Rattle.std.proofs.lemmas.Int.{ints}
 use Rattle.std.proofs.lemmas.List.{length-append}
-use Rattle.std.proofs.lemmas.List.FromFn.{length-range_with_len}
 use Rattle.std.proofs.lemmas.Option.{slice_get_past}
 use Rattle.units_core.specs.declared.bodies.Place.{Place}
 use Rattle.units_core.specs.declared.cells.Cell.{Cell}

@@ -1,5 +1,5 @@
 -- Which steps can be done with what is aboard, and why a step can't.
-use Rattle.std.specs.Prelude.{ℕ, ◌+◌, ◌≤◌, nat_le, List, [], ◌∷◌, Option, None, Some, option_map, Bool, true, false, not, ◌&&◌, if◌then◌else◌, find}
+use Rattle.std.specs.Prelude.{ℕ, nat_le, List, [], ◌∷◌, Option, None, Some, option_map, Bool, true, false, not, ◌&&◌, if◌then◌else◌, find}
 use Rattle.std.specs.List.{range_with_len}
 use Rattle.std.specs.Option.{is_some, is_none, option_or}
 use Rattle.std.specs.Str.{bytes_eq}

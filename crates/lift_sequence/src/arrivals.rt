@@ -4,6 +4,7 @@ ghost use Rattle.lift_sequence.specs.Aboard.{held, nothing, with_cell, container
 ghost use Rattle.lift_sequence.specs.Arrival.{arrival_bodies, arrival_fault, fills_fault, items_fault, with_items, with_fills, on_arrival};
 ghost use Rattle.lift_sequence.specs.Bodies.{body_in};
 ghost use Rattle.lift_sequence.specs.Legal.{stand_fault};
+ghost use Rattle.lift_sequence.specs.Sequence.{IsOf};
 
 use crate::containers::container_of;
 use crate::faults::{NO_MEMORY, SeqCode, SeqFault, fault_at};
@@ -53,6 +54,7 @@ fn stow_items(
     ensures legal { OnOk result (items_fault profile.now nothing 1 items.now ≡ None) }
     ensures bodies { OnOk result (bodies.new.items ≡ filter_map (λ item. body_in (place_of profile.now item.cell) (Some (container_of item))) items.now) }
     ensures refused { IfErr result (λ e. e.code ≢ SeqCode.NoMemory → items_fault profile.now nothing 1 items.now ≡ Some e) }
+    ensures memory { IfErr result (λ e. e.code ≡ SeqCode.NoMemory → e.at ≡ 0) }
 {
     let mut number = 0;
     for item in items {
@@ -74,6 +76,7 @@ fn item_bodies(alloc: Global, profile: &Profile, items: &[Item]) -> Result<Vec<B
     ensures legal { OnOk result (items_fault profile.now nothing 1 items.now ≡ None) }
     ensures bodies { IfOk result (λ b. b.items ≡ filter_map (λ item. body_in (place_of profile.now item.cell) (Some (container_of item))) items.now) }
     ensures refused { IfErr result (λ e. e.code ≢ SeqCode.NoMemory → items_fault profile.now nothing 1 items.now ≡ Some e) }
+    ensures memory { IfErr result (λ e. e.code ≡ SeqCode.NoMemory → e.at ≡ 0) }
 {
     let mut stowage = Stowage::empty(alloc);
     let mut bodies = Vec::new(alloc);
@@ -87,6 +90,7 @@ fn fill_bodies(alloc: Global, profile: &Profile, fills: &[TankFill]) -> Result<V
     ensures legal { OnOk result (fills_fault profile.now 1 fills.now ≡ None) }
     ensures bodies { IfOk result (λ b. b.items ≡ filter_map (λ fill. tank_body profile.now fill.tank fill.kg) fills.now) }
     ensures refused { IfErr result (λ e. e.code ≢ SeqCode.NoMemory → fills_fault profile.now 1 fills.now ≡ Some e) }
+    ensures memory { IfErr result (λ e. e.code ≡ SeqCode.NoMemory → e.at ≡ 0) }
 {
     let mut bodies = Vec::new(alloc);
     let mut number = 0;
@@ -132,7 +136,9 @@ impl Arrival {
         ensures items { IfOk result (λ a. a.items ≡ items.items) }
         ensures fills { IfOk result (λ a. a.fills ≡ fills.now) }
         ensures bodies { IfOk result (λ a. a.bodies ≡ arrival_bodies profile.now items.items fills.now) }
+        ensures of { IfOk result (λ a. IsOf profile.now a) }
         ensures refused { IfErr result (λ e. e.code ≢ SeqCode.NoMemory → arrival_fault profile.now items.items fills.now ≡ Some e) }
+        ensures memory { IfErr result (λ e. e.code ≡ SeqCode.NoMemory → e.at ≡ 0) }
     {
         let blocks = profile.blocks();
         let stowed = item_bodies(alloc, profile, &items)?;

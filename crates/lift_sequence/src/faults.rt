@@ -1,4 +1,4 @@
-ghost use Rattle.std.specs.Prelude.{◌≡◌};
+ghost use Rattle.std.specs.Prelude.{◌≡◌, ◌≢◌};
 ghost use Rattle.lift_sequence.specs.Arrival.{fault_at};
 
 use std::fmt;
@@ -58,7 +58,12 @@ pub const NO_MEMORY: SeqFault = SeqFault {
 
 /// The fault of a cause at a number. Want of memory has none.
 pub fn fault_at(at: u32, code: SeqCode) -> SeqFault
-    ensures { result ≡ fault_at at code }
+    ensures code { result.code ≡ code }
+    ensures told { code ≢ SeqCode.NoMemory → result ≡ fault_at at code }
+    ensures memory { code ≡ SeqCode.NoMemory → result.at ≡ 0 }
 {
-    SeqFault { code, at }
+    match code {
+        SeqCode::NoMemory => NO_MEMORY,
+        _ => SeqFault { code, at },
+    }
 }

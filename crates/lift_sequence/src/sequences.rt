@@ -46,6 +46,7 @@ fn make_all(
     ensures legal { OnOk result (first_fault profile.now (held stowage.old) 1 ops.now ≡ None) }
     ensures steps { IfOk result (λ s. s.items ≡ steps_of profile.now (held stowage.old) ops.now) }
     ensures refused { IfErr result (λ e. e.code ≢ SeqCode.NoMemory → first_fault profile.now (held stowage.old) 1 ops.now ≡ Some e) }
+    ensures memory { IfErr result (λ e. e.code ≡ SeqCode.NoMemory → e.at ≡ 0) }
 {
     let mut steps = Vec::new(alloc);
     let mut number = 0;
@@ -80,6 +81,7 @@ impl Sequence {
         ensures steps { IfOk result (λ s. s.steps ≡ steps_of profile.now (on_arrival arrival.now.items arrival.now.fills) ops.items) }
         ensures refused { IfErr result (λ e. e.code ≢ SeqCode.NoMemory →
             sequence_fault profile.now (on_arrival arrival.now.items arrival.now.fills) ops.items ≡ Some e) }
+        ensures memory { IfErr result (λ e. e.code ≡ SeqCode.NoMemory → e.at ≡ 0) }
     {
         if ops.len() > MAX_STEPS {
             return Err(fault_at(MAX_STEPS as u32 + 1, SeqCode::TooManySteps));

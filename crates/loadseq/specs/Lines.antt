@@ -1,16 +1,17 @@
 -- The line that words are, by the definition that `clap` gives of the command.
-use Rattle.std.specs.Prelude.{◌≡◌, codes, List, Option, None, Some, false}
+use Rattle.std.specs.Prelude.{◌≡◌, codes, List, Option, None, Some, false, option_map}
 use Rattle.clap.specs.Words.{first_of, matches_of, takes, Text}
 use Rattle.loadseq.specs.Words.{check_command}
 use Rattle.loadseq.specs.declared.command_line.Line.{Line}
 use Rattle.loadseq.specs.declared.command_line.LineFault.{LineFault}
 use Rattle.loadseq.specs.declared.command_line.LineFault.TheVariants.{Usage, NoMemory}
 
--- each field is the word that the command's definition gives it
+-- each field is the word that the command's definition gives it, and there is a steps file exactly where it gives one
 pub record IsLineOf (words : List Text) (line : Line) : Type 0 where
   pub folder : first_of (codes "FOLDER") (matches_of check_command words) ≡ Some line.folder.now
   pub baplie : first_of (codes "BAPLIE") (matches_of check_command words) ≡ Some line.baplie.now
   pub movins : first_of (codes "MOVINS") (matches_of check_command words) ≡ Some line.movins.now
+  pub steps : first_of (codes "steps") (matches_of check_command words) ≡ option_map (λ s. s.now) line.steps
 
 abbrev pub IsUsage : LineFault → Type 0
 IsUsage (Usage text) = Unit {0}

@@ -8,15 +8,20 @@ use Rattle.clap.specs.declared.builder.ArgAction.TheVariants.{Set}
 abbrev pub positional : Text → Rule
 positional name = record (new_rule name) { required = true; action = Some Set }
 
+-- an option that takes one word, by its name behind two dashes
+abbrev pub option_of : Text → Rule
+option_of name = record (new_rule name) { long = Some name; action = Some Set }
+
 -- a command that is handed the words behind its name
 abbrev pub without_name : App → App
 without_name app = record app { top = record app.top { no_binary_name = true } }
 
--- `loadseq check FOLDER BAPLIE MOVINS`
+-- `loadseq check FOLDER BAPLIE MOVINS [--steps FILE]`
 abbrev pub check_command : App
 check_command =
-    with_rule (with_rule (with_rule (without_name (new_app (codes "loadseq check")))
-    (positional (codes "FOLDER"))) (positional (codes "BAPLIE"))) (positional (codes "MOVINS"))
+    with_rule (with_rule (with_rule (with_rule (without_name (new_app (codes "loadseq check")))
+    (positional (codes "FOLDER"))) (positional (codes "BAPLIE"))) (positional (codes "MOVINS")))
+    (option_of (codes "steps"))
 
 -- the words behind a first word, if that is this name
 abbrev pub behind_name : List ℕ → List Text → Option (List Text)

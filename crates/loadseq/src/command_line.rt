@@ -4,7 +4,7 @@ ghost use Rattle.clap.specs.Built.{TakesValue, IsPlainArg};
 ghost use Rattle.clap.specs.declared.parser.matches.ArgMatches.{ArgMatches};
 ghost use Rattle.loadseq.specs.Lines.{IsLineOf, IsUsage, IsLineBehind, IsNotTaken};
 ghost use Rattle.loadseq.specs.Promised.{HasWords};
-ghost use Rattle.loadseq.specs.Words.{check_command, positional, behind_name};
+ghost use Rattle.loadseq.specs.Words.{check_command, positional, option_of, behind_name};
 
 use clap::error::ErrorKind;
 use clap::{Arg, ArgAction, ArgMatches, Command};
@@ -20,6 +20,8 @@ pub struct Line<'a> {
     pub baplie: &'a str,
     /// The file of the movement instruction.
     pub movins: &'a str,
+    /// The planner's steps file, if one is given.
+    pub steps: Option<&'a str>,
 }
 
 /// Why words are no command line.
@@ -34,7 +36,7 @@ pub enum LineFault {
 }
 
 /// What is said where the first word is no command.
-const USAGE: &str = "usage: loadseq check FOLDER BAPLIE MOVINS";
+const USAGE: &str = "usage: loadseq check FOLDER BAPLIE MOVINS [--steps FILE]";
 
 /// A word that has to be there.
 fn word<'a>(alloc: Global, name: &'a str) -> Arg<'a>
@@ -47,6 +49,16 @@ fn word<'a>(alloc: Global, name: &'a str) -> Arg<'a>
     Arg::new(alloc, name).required(true).action(ArgAction::Set)
 }
 
+/// An option that takes one word, by this name behind two dashes.
+fn option<'a>(alloc: Global, name: &'a str) -> Arg<'a>
+    ensures rule { rule_of result ≡ option_of name.entry.now }
+    ensures id { result.id ≡ name.entry }
+    ensures plain { IsPlainArg result }
+    ensures one { result.global ≡ false }
+{
+    Arg::new(alloc, name).long(name).action(ArgAction::Set)
+}
+
 /// The command `check`.
 fn check<'a>(alloc: Global) -> Result<Command<'a>, AllocError>
     ensures app { IfOk result (λ c. app_of c ≡ check_command) }
@@ -56,7 +68,8 @@ fn check<'a>(alloc: Global) -> Result<Command<'a>, AllocError>
         .no_binary_name(true)
         .arg(word(alloc, "FOLDER"))?
         .arg(word(alloc, "BAPLIE"))?
-        .arg(word(alloc, "MOVINS"))
+        .arg(word(alloc, "MOVINS"))?
+        .arg(option(alloc, "steps"))
 }
 
 /// What `clap` makes of the words behind `check`.
@@ -103,14 +116,16 @@ fn check_line<'a>(alloc: Global, words: &'a [&'a str]) -> Result<Line<'a>, LineF
     let folder = matches.get_str("FOLDER").unwrap();
     let baplie = matches.get_str("BAPLIE").unwrap();
     let movins = matches.get_str("MOVINS").unwrap();
+    let steps = matches.get_str("steps");
     Ok(Line {
         folder,
         baplie,
         movins,
+        steps,
     })
 }
 
-/// The command line that the words after the program's name are: `check`, and what `clap` reads of the three words
+/// The command line that the words after the program's name are: `check`, and what `clap` reads of the words
 /// behind it. [`LineFault::Usage`] comes only where there is no first word, it is another, or `clap` doesn't take
 /// the words behind it; help is such an answer too.
 pub fn read_line<'a>(alloc: Global, words: &'a [&'a str]) -> Result<Line<'a>, LineFault>

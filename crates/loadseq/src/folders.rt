@@ -1,8 +1,10 @@
 ghost use Rattle.std.specs.Prelude.{◌≡◌, option_map};
 ghost use Rattle.ship_profile.specs.Record.{texts_of};
 
+use crate::command_line::Line;
 use crate::files::{Readers, Unopened, whole};
 use crate::stops::Stop;
+use seq_report::Inputs;
 use ship_profile::ProfileBytes;
 use std::alloc::Global;
 
@@ -26,7 +28,7 @@ fn stop(alloc: Global, name: &str, unopened: Unopened) -> Stop {
 }
 
 /// The bytes of the file of this name.
-pub fn bytes_of<R: Readers>(alloc: Global, files: &mut R, name: &str) -> Result<Vec<u8>, Stop> {
+fn bytes_of<R: Readers>(alloc: Global, files: &mut R, name: &str) -> Result<Vec<u8>, Stop> {
     match read_file(alloc, files, name) {
         Ok(bytes) => Ok(bytes),
         Err(unopened) => Err(stop(alloc, name, unopened)),
@@ -61,7 +63,7 @@ fn bytes_if_there<R: Readers>(
 
 /// The bytes of the files of a ship's profile.
 #[derive(Debug, Drop)]
-pub struct Folder {
+struct Folder {
     ship: Vec<u8>,
     cells: Vec<u8>,
     hydro: Vec<u8>,
@@ -73,7 +75,7 @@ pub struct Folder {
 
 impl Folder {
     /// The texts of the files.
-    pub fn texts(&self) -> ProfileBytes<'_> {
+    fn texts(&self) -> ProfileBytes<'_> {
         ProfileBytes {
             ship: &self.ship,
             cells: &self.cells,
@@ -87,7 +89,7 @@ impl Folder {
 }
 
 /// Reads the files of a ship's profile in their order. The first that isn't read ends the run; only `gm.csv` may be missing.
-pub fn read_folder<R: Readers>(alloc: Global, files: &mut R, folder: &str) -> Result<Folder, Stop> {
+fn read_folder<R: Readers>(alloc: Global, files: &mut R, folder: &str) -> Result<Folder, Stop> {
     let ship = bytes_in(alloc, files, folder, "ship.toml")?;
     let cells = bytes_in(alloc, files, folder, "cells.csv")?;
     let hydro = bytes_in(alloc, files, folder, "hydro.csv")?;
@@ -103,5 +105,53 @@ pub fn read_folder<R: Readers>(alloc: Global, files: &mut R, folder: &str) -> Re
         bonjean,
         tanks,
         gm,
+    })
+}
+
+/// The bytes of the file of this name, if one is given.
+fn bytes_if_given<R: Readers>(
+    alloc: Global,
+    files: &mut R,
+    name: Option<&str>,
+) -> Result<Option<Vec<u8>>, Stop> {
+    match name {
+        Some(name) => Ok(Some(bytes_of(alloc, files, name)?)),
+        None => Ok(None),
+    }
+}
+
+/// The bytes of all files that a run reads.
+#[derive(Debug, Drop)]
+pub struct Texts {
+    folder: Folder,
+    baplie: Vec<u8>,
+    movins: Vec<u8>,
+    steps: Option<Vec<u8>>,
+}
+
+impl Texts {
+    /// What the report is made of.
+    pub fn inputs(&self) -> Inputs<'_> {
+        Inputs {
+            profile: self.folder.texts(),
+            baplie: &self.baplie,
+            movins: &self.movins,
+            steps: self.steps.as_deref(),
+        }
+    }
+}
+
+/// Reads the files of a command line: the ship's profile, the bay plan, the movement instruction, and the steps file, if one is given. The
+/// first that isn't read ends the run.
+pub fn read_texts<R: Readers>(alloc: Global, files: &mut R, line: Line<'_>) -> Result<Texts, Stop> {
+    let folder = read_folder(alloc, files, line.folder)?;
+    let baplie = bytes_of(alloc, files, line.baplie)?;
+    let movins = bytes_of(alloc, files, line.movins)?;
+    let steps = bytes_if_given(alloc, files, line.steps)?;
+    Ok(Texts {
+        folder,
+        baplie,
+        movins,
+        steps,
     })
 }

@@ -1,5 +1,5 @@
-//! The program: `loadseq check FOLDER BAPLIE MOVINS` reads a ship's profile and a bay plan and writes the
-//! report to standard output.
+//! The program: `loadseq check FOLDER BAPLIE MOVINS [--steps FILE]` reads a ship's profile, a bay plan, a movement instruction and a
+//! planner's steps, and writes the report to standard output.
 #![tactic(auto)]
 
 mod command_line;
@@ -17,7 +17,12 @@ use std::{env, io};
 use stops::Stop;
 
 #[cfg(test)]
+mod command_line_tests;
+#[cfg(test)]
 mod tests;
+
+/// The exit status where the system doesn't give the words of the command line: that of wrong words.
+const UNREADABLE_WORDS: u8 = 3;
 
 /// The words after the program's name.
 fn words(rt: &HostRuntime) -> io::Result<Vec<String>> {
@@ -42,7 +47,7 @@ fn main(rt: HostRuntime) -> ExitCode {
         Err(error) if error.kind() == ErrorKind::OutOfMemory => {
             return ExitCode::from(Stop::NoMemory.status());
         }
-        Err(_) => return ExitCode::from(Stop::Usage(String::new(rt.alloc())).status()),
+        Err(_) => return ExitCode::from(UNREADABLE_WORDS),
     };
     let Ok(list) = borrowed(rt.alloc(), &words) else {
         return ExitCode::from(Stop::NoMemory.status());

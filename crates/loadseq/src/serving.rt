@@ -1,12 +1,26 @@
-ghost use Rattle.std.specs.Prelude.{◌≤◌, IfOk};
+ghost use Rattle.std.specs.Prelude.{◌≡◌, ◌≤◌, IfOk, Ok, false};
+ghost use Rattle.std.specs.Io.KnownBytes.{Appends};
+ghost use Rattle.seq_report.specs.Refusal.{Outcome, outcome_of};
+ghost use Rattle.loadseq.specs.Statuses.{status_on};
 
 use crate::command_line::{Line, read_line};
 use crate::files::Readers;
-use crate::folders::{bytes_of, read_folder};
+use crate::folders::read_texts;
 use crate::stops::Stop;
-use seq_report::{Inputs, Through, report};
+use seq_report::{Inputs, Sink, Through, report};
 use std::alloc::Global;
 use std::io::Write;
+
+/// Writes the report on the inputs to a sink, and gives the exit status: 0, or 1 where a step fails.
+fn report_to<S: Sink>(alloc: Global, inputs: &Inputs<'_>, sink: &mut S) -> Result<u8, Stop>
+    requires sound { S.has_failed sink.old ≡ false }
+    ensures written { IfOk result (λ status. (outcome : Outcome) × (outcome_of inputs.now ≡ Ok outcome) × (status ≡ status_on outcome.summary.first)
+        × Appends (S.contents sink.old) (S.contents sink.new) outcome.text) }
+    ensures status { IfOk result (λ status. status ≤ 1) }
+{
+    let summary = report(alloc, inputs, sink)?;
+    Ok(if summary.first.is_none() { 0 } else { 1 })
+}
 
 /// The exit status of a run that writes its whole report: 0, or 1 where a step fails.
 fn check<R: Readers, O: Write>(
@@ -17,15 +31,8 @@ fn check<R: Readers, O: Write>(
 ) -> Result<u8, Stop>
     ensures { IfOk result (λ status. status ≤ 1) }
 {
-    let folder = read_folder(alloc, files, line.folder)?;
-    let baplie = bytes_of(alloc, files, line.baplie)?;
-    let inputs = Inputs {
-        profile: folder.texts(),
-        baplie: &baplie,
-    };
-    let mut sink = Through::new(out);
-    let summary = report(alloc, &inputs, &mut sink)?;
-    Ok(if summary.first.is_none() { 0 } else { 1 })
+    let texts = read_texts(alloc, files, line)?;
+    report_to(alloc, &texts.inputs(), &mut Through::new(out))
 }
 
 /// The whole program over readers and writers: what it writes goes to `out`, and one line on what stopped it to

@@ -28,7 +28,9 @@ const LEAST_GM: &[u8] = b"kg,gm\n4100000,150\n12300000,150\n";
 
 const PLAN: &[u8] = b"UNB+UNOA:2+SHIP+PLAN+250101:1200+7'UNH+1+BAPLIE:D:95B:UN'UNT+2+1'UNZ+1+7'";
 
-const REPORT: &str = "STEP LIFT KG GM MEAN\n0 - 8200000 4333 4000\n";
+const MOVES: &[u8] = b"UNB+UNOA:2+PLAN+SHIP+250101:1200+8'UNH+1+MOVINS:D:95B:UN'UNT+2+1'UNZ+1+8'";
+
+const REPORT: &str = "STEP LIFT KG GM MEAN VERDICT\n0 - 8200000 4333 4000 PASS\nALL PASS\n";
 
 /// What a file of a test gives.
 #[derive(Clone, Copy)]
@@ -135,7 +137,7 @@ impl Write for Full {
 const WORDS: [&str; 4] = ["check", "box", "plan.edi", "moves.edi"];
 
 /// The files of the box ship, with one of them replaced.
-fn with<'a>(name: &'a str, content: Content) -> [(&'a str, Content); 9] {
+fn with<'a>(name: &'a str, content: Content) -> [(&'a str, Content); 10] {
     [
         (name, content),
         ("box/ship.toml", Content::Bytes(SHIP)),
@@ -146,6 +148,7 @@ fn with<'a>(name: &'a str, content: Content) -> [(&'a str, Content); 9] {
         ("box/tanks.csv", Content::Bytes(TANKS)),
         ("box/gm.csv", Content::Bytes(LEAST_GM)),
         ("plan.edi", Content::Bytes(PLAN)),
+        ("moves.edi", Content::Bytes(MOVES)),
     ]
 }
 
@@ -187,7 +190,7 @@ fn statuses(rt: HostRuntime) {
         &with("box/ship.toml", Content::Bytes(HEAVY)),
         &WORDS,
         1,
-        "STEP LIFT KG GM MEAN\n0 - 12300001 OUTSIDE HYDRO\n",
+        "STEP LIFT KG GM MEAN VERDICT\n0 - 12300001 OUTSIDE HYDRO\nFIRST FAIL 0 C0\n",
         "",
     );
 }
@@ -227,6 +230,7 @@ fn refusals(rt: HostRuntime) {
             b"UNB+UNOA:2+S+P+1:1+7'UNH+1+BAPLIE:D:95B:UN'LOC+147+0990082'MEA+WT++KGM:1'UNT+4+1'UNZ+1+7'".as_slice(),
             "refused F3 S1 item 1\n",
         ),
+        ("moves.edi", PLAN, "refused F4 M1 E6 at 35\n"),
     ] {
         check(&rt, &with(name, Content::Bytes(text)), &WORDS, 2, "", line);
     }
@@ -235,7 +239,7 @@ fn refusals(rt: HostRuntime) {
 #[test]
 fn words(rt: HostRuntime) {
     let files = with("box/ship.toml", Content::Bytes(SHIP));
-    let usage = "usage: loadseq check FOLDER BAPLIE MOVINS\n";
+    let usage = "usage: loadseq check FOLDER BAPLIE MOVINS [--steps FILE]\n";
     check(&rt, &files, &[], 3, "", usage);
     check(&rt, &files, &["report"], 3, "", usage);
     check(&rt, &files, &["--help"], 3, "", usage);
@@ -262,7 +266,7 @@ fn words(rt: HostRuntime) {
 }
 
 /// The files in the order of reading, each with the line of a run that can't read it.
-static FILES: [(&str, &str); 8] = [
+static FILES: [(&str, &str); 9] = [
     ("box/ship.toml", "read fault box/ship.toml\n"),
     ("box/cells.csv", "read fault box/cells.csv\n"),
     ("box/hydro.csv", "read fault box/hydro.csv\n"),
@@ -271,6 +275,7 @@ static FILES: [(&str, &str); 8] = [
     ("box/tanks.csv", "read fault box/tanks.csv\n"),
     ("box/gm.csv", "read fault box/gm.csv\n"),
     ("plan.edi", "read fault plan.edi\n"),
+    ("moves.edi", "read fault moves.edi\n"),
 ];
 
 // The files are read in their order before anything is checked; the first that isn't read ends the run.
@@ -304,6 +309,47 @@ fn missing_files(rt: HostRuntime) {
             check(&rt, &files, &WORDS, 5, "", line);
         }
     }
+}
+
+/// The words of a run with a steps file.
+const WITH_STEPS: [&str; 6] = [
+    "check",
+    "box",
+    "plan.edi",
+    "moves.edi",
+    "--steps",
+    "steps.csv",
+];
+
+// The steps file is read where it is named, behind all other files.
+#[test]
+fn steps_file(rt: HostRuntime) {
+    let ship = Content::Bytes(SHIP);
+    check(
+        &rt,
+        &with("box/ship.toml", ship),
+        &WITH_STEPS,
+        5,
+        "",
+        "read fault steps.csv\n",
+    );
+    let steps = Content::Bytes(b"kind,a,b,c\nlift,1,,\n");
+    check(
+        &rt,
+        &with("steps.csv", steps),
+        &WITH_STEPS,
+        2,
+        "",
+        "refused F9 G4 line 2\n",
+    );
+    check(
+        &rt,
+        &with("steps.csv", Content::Bytes(b"")),
+        &WITH_STEPS,
+        0,
+        REPORT,
+        "",
+    );
 }
 
 #[test]

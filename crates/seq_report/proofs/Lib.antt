@@ -1,3 +1,3 @@
-pub mod Headers
+pub mod Digits
 pub mod Totals
-pub mod Lengths
+pub mod Walk

@@ -1,13 +1,11 @@
 -- How a ship floats, by the formulas of the textbooks: hydrostatic particulars are read at the displacement, and the
 -- metacentric height is GM = KMT - KG, the centre of gravity raised by the free surfaces.
-use Rattle.std.specs.Prelude.{ℕ, ℤ, ◌+ℤ◌, Option, Some, None, option_map, Result, Ok, Err}
+use Rattle.std.specs.Prelude.{ℕ, ℤ, ◌+ℤ◌, Option, option_map}
 use Rattle.units_core.specs.Ratio.{Ratio, ◌over◌, ◌⊖◌, floor_of}
 use Rattle.units_core.specs.Interpolation.{interval, reading}
 use Rattle.ship_tables.specs.Record.{HydroTable}
 use Rattle.seq_report.specs.declared.sums.Sum.{Sum}
 use Rattle.seq_report.specs.declared.floating.Figures.{Figures}
-use Rattle.seq_report.specs.declared.floating.Outside.{Outside}
-use Rattle.seq_report.specs.declared.floating.Outside.TheVariants.{Hydro}
 
 -- what the hydrostatic table gives at a displacement: the mean draught, and the height of the transverse metacentre above the keel
 pub record Waterline : Type 0 where
@@ -30,9 +28,5 @@ abbrev pub gm : Ratio → Sum → Ratio
 gm kmt s = kmt ⊖ kg_height s
 
 -- the figures that are printed, rounded down
-abbrev pub figures_on : Sum → Option Waterline → Result Figures Outside
-figures_on s None = Err Hydro
-figures_on s (Some w) = Ok (record { gm = floor_of (gm w.kmt s); mean = floor_of w.draught })
-
-abbrev pub figures_of : HydroTable → Sum → Result Figures Outside
-figures_of h s = figures_on s (waterline h s.kg)
+abbrev pub figures_on : Sum → Waterline → Figures
+figures_on s w = record { gm = floor_of (gm w.kmt s); mean = floor_of w.draught }

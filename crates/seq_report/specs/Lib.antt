@@ -1,5 +1,6 @@
-pub mod Arrival
+pub mod Criteria
 pub mod Floating
+pub mod Lifts
 pub mod Refusal
 pub mod Report
 pub mod Sums

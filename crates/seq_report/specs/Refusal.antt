@@ -1,19 +1,26 @@
 -- The outcome of a run: the report, or the first refusal in the order of the inputs. It is a function of the input bytes alone.
-use Rattle.std.specs.Prelude.{◌≡◌, ◌≢◌, ℕ, List, length, Result, Ok, Err, Bool, true, false}
-use Rattle.units_core.specs.Bodies.{Mass}
+use Rattle.std.specs.Prelude.{◌≢◌, ℕ, List, length, Option, None, Some, option_map, Result, Ok, Err, Bool, true, false}
 use Rattle.stow_messages.specs.Items.{bay_plan}
+use Rattle.stow_messages.specs.Lifts.{movement_instruction}
+use Rattle.stow_messages.specs.Steps as steps
 use Rattle.stow_messages.specs.declared.items.Item.{Item}
+use Rattle.stow_messages.specs.declared.lifts.Lift as lift
+use Rattle.stow_messages.specs.declared.step_rows.StepRow.{StepRow}
 use Rattle.stow_messages.specs.declared.faults.StowCode.TheVariants as stow
+use Rattle.stow_messages.specs.declared.step_faults.StepsCode.TheVariants as rows
 use Rattle.ship_profile.specs.Record.{ProfileRecord, texts_of, record_of}
 use Rattle.ship_profile.specs.declared.faults.ProfileFault.TheVariants as profile
 use Rattle.lift_sequence.specs.declared.faults.SeqCode.TheVariants as seq
+use Rattle.lift_sequence.specs.declared.faults.SeqFault.{SeqFault}
+use Rattle.lift_sequence.specs.declared.operations.Op.{Op}
+use Rattle.lift_sequence.specs.Aboard.{Aboard}
+use Rattle.lift_sequence.specs.Arrival.{arrival_fault, on_arrival}
+use Rattle.lift_sequence.specs.Sequence.{ops_of, sequence_fault}
 use Rattle.seq_report.specs.declared.faults.RunFault.{RunFault}
-use Rattle.seq_report.specs.declared.faults.RunFault.TheVariants.{Profile, Baplie, Arrival, NoMemory, Write}
-use Rattle.seq_report.specs.declared.runs.Inputs.{Inputs}
-use Rattle.seq_report.specs.declared.runs.Summary.{Summary}
-use Rattle.seq_report.specs.declared.lines.StepLine.{StepLine}
-use Rattle.seq_report.specs.Arrival.{bodies_on_arrival}
-use Rattle.seq_report.specs.Report.{lines_of, report_of, first_of}
+use Rattle.seq_report.specs.declared.faults.RunFault.TheVariants.{Profile, Baplie, Arrival, Movins, Steps, Sequence, NoMemory, Write}
+use Rattle.seq_report.specs.declared.inputs.Inputs.{Inputs}
+use Rattle.seq_report.specs.declared.drafts.Summary.{Summary}
+use Rattle.seq_report.specs.Report.{Line, lines_of, report_of, first_of}
 
 infixl 10 ◌>>=◌
 abbrev pub ◌>>=◌ : {A B : Type 0} → Result A RunFault → (A → Result B RunFault) → Result B RunFault
@@ -25,30 +32,64 @@ abbrev pub refused_as : {A E : Type 0} → (E → RunFault) → Result A E → R
 refused_as fault (Ok a) = Ok a
 refused_as fault (Err e) = Err (fault e)
 
--- the profile, the bay plan, and what is aboard on arrival, checked in this order
+-- this, unless there is a fault
+abbrev pub unless : {A : Type 0} → (SeqFault → RunFault) → Option SeqFault → A → Result A RunFault
+unless refusal None a = Ok a
+unless refusal (Some fault) a = Err (refusal fault)
+
+-- the profile, the bay plan, and what is aboard on arrival
 abbrev pub ship_in : Inputs → Result ProfileRecord RunFault
 ship_in inputs = refused_as Profile (record_of (texts_of inputs.profile))
 
 abbrev pub items_in : Inputs → Result (List Item) RunFault
 items_in inputs = refused_as Baplie (bay_plan inputs.baplie.now)
 
-abbrev pub bodies_in : ProfileRecord → List Item → Result (List Mass) RunFault
-bodies_in ship items = refused_as Arrival (bodies_on_arrival ship items)
+abbrev pub arrival_in : ProfileRecord → List Item → Result Aboard RunFault
+arrival_in ship items = unless Arrival (arrival_fault ship items ship.fills) (on_arrival items ship.fills)
+
+-- the lifts of the movement instruction, and the rows of the steps file, where there is one
+abbrev pub lifts_in : Inputs → Result (List lift.Lift) RunFault
+lifts_in inputs = refused_as Movins (movement_instruction inputs.movins.now)
+
+abbrev pub some_rows : Result (List StepRow) RunFault → Result (Option (List StepRow)) RunFault
+some_rows (Ok rows) = Ok (Some rows)
+some_rows (Err e) = Err e
+
+abbrev pub rows_of : Option (List ℕ) → ℕ → Result (Option (List StepRow)) RunFault
+rows_of None lifts = Ok None
+rows_of (Some text) lifts = some_rows (refused_as Steps (steps.steps_of lifts text))
+
+abbrev pub rows_in : Inputs → ℕ → Result (Option (List StepRow)) RunFault
+rows_in inputs lifts = rows_of (option_map (λ text. text.now) inputs.steps) lifts
+
+-- the steps that they order
+abbrev pub orders_on : Inputs → List lift.Lift → Result (List Op) RunFault
+orders_on inputs lifts = rows_in inputs (length lifts) >>= (λ rows. Ok (ops_of lifts rows))
+
+abbrev pub orders_in : Inputs → Result (List Op) RunFault
+orders_in inputs = lifts_in inputs >>= (λ lifts. orders_on inputs lifts)
+
+-- these steps, where each can be done where it comes
+abbrev pub sequence_in : ProfileRecord → Aboard → List Op → Result (List Op) RunFault
+sequence_in ship arrival ops = unless Sequence (sequence_fault ship arrival ops) ops
 
 -- a report, and what it came to
 pub record Outcome : Type 0 where
   pub text : List ℕ
   pub summary : Summary
 
-abbrev pub outcome_on : List StepLine → Outcome
+abbrev pub outcome_on : List Line → Outcome
 outcome_on lines = record { text = report_of lines; summary = record { lines = length lines; first = first_of lines } }
 
--- on a ship, and with a bay plan's items
-abbrev pub outcome_with : ProfileRecord → List Item → Result Outcome RunFault
-outcome_with ship items = bodies_in ship items >>= (λ bodies. Ok (outcome_on (lines_of ship bodies)))
+-- of a ship with this aboard on arrival, and of these steps; of a ship; of the inputs
+abbrev pub outcome_with : ProfileRecord → Aboard → List Op → Result Outcome RunFault
+outcome_with ship arrival ops = sequence_in ship arrival ops >>= (λ legal. Ok (outcome_on (lines_of ship arrival legal)))
+
+abbrev pub outcome_from : ProfileRecord → Aboard → Inputs → Result Outcome RunFault
+outcome_from ship arrival inputs = orders_in inputs >>= (λ ops. outcome_with ship arrival ops)
 
 abbrev pub outcome_for : ProfileRecord → Inputs → Result Outcome RunFault
-outcome_for ship inputs = items_in inputs >>= (λ items. outcome_with ship items)
+outcome_for ship inputs = items_in inputs >>= (λ items. arrival_in ship items >>= (λ arrival. outcome_from ship arrival inputs))
 
 abbrev pub outcome_of : Inputs → Result Outcome RunFault
 outcome_of inputs = ship_in inputs >>= (λ ship. outcome_for ship inputs)
@@ -64,14 +105,16 @@ is_write (Err e) = is_write_fault e
 
 -- the inputs are refused, by their bytes alone
 abbrev pub is_refusal : RunFault → Bool
-is_refusal (Profile fault) = true
-is_refusal (Baplie fault) = true
-is_refusal (Arrival fault) = true
-is_refusal fault = false
+is_refusal NoMemory = false
+is_refusal (Write written) = false
+is_refusal fault = true
 
 -- want of memory stands for itself, and never inside the refusal of an input
 abbrev pub TellsMemory : RunFault → Type 0
 TellsMemory (Profile fault) = fault ≢ profile.NoMemory
 TellsMemory (Baplie fault) = fault.code ≢ stow.NoMemory
 TellsMemory (Arrival fault) = fault.code ≢ seq.NoMemory
+TellsMemory (Movins fault) = fault.code ≢ stow.NoMemory
+TellsMemory (Steps fault) = fault.code ≢ rows.NoMemory
+TellsMemory (Sequence fault) = fault.code ≢ seq.NoMemory
 TellsMemory fault = Unit {0}

@@ -1,22 +1,27 @@
--- The report: a heading, and a line for each step.
-use Rattle.std.specs.Prelude.{ℕ, ℤ, List, [], ◌∷◌, ◌++◌, map, flat_map, length, codes, Option, Some, None, Result, Ok, Err}
+-- The report: a heading, a line for each step, and the first of them that fails.
+use Rattle.std.specs.Prelude.{ℕ, ℤ, ◌+◌, List, [], ◌∷◌, ◌++◌, map, flat_map, codes, Option, Some, None, option_map}
 use Rattle.std.specs.Fmt.{decimal, signed_decimal}
 use Rattle.std.specs.Option.{option_or}
-use Rattle.units_core.specs.Bodies.{Mass}
 use Rattle.ship_profile.specs.Record.{ProfileRecord}
+use Rattle.lift_sequence.specs.declared.operations.Op.{Op}
+use Rattle.lift_sequence.specs.Aboard.{Aboard, moved}
+use Rattle.lift_sequence.specs.Bodies.{bodies}
 use Rattle.seq_report.specs.declared.floating.Figures.{Figures}
-use Rattle.seq_report.specs.declared.floating.Outside.{Outside}
-use Rattle.seq_report.specs.declared.floating.Outside.TheVariants.{Hydro}
+use Rattle.seq_report.specs.declared.criteria.Criterion.{Criterion}
+use Rattle.seq_report.specs.declared.criteria.Criterion.TheVariants.{C0, C1}
+use Rattle.seq_report.specs.declared.criteria.Outside as causes
+use Rattle.seq_report.specs.declared.criteria.Outside.TheVariants.{Hydro}
+use Rattle.seq_report.specs.declared.criteria.Verdict.{Verdict}
+use Rattle.seq_report.specs.declared.criteria.Verdict.TheVariants.{Outside, Fails, Passes}
 use Rattle.seq_report.specs.declared.lines.Column.{Column}
 use Rattle.seq_report.specs.declared.lines.Column.TheVariants as column
-use Rattle.seq_report.specs.declared.lines.Criterion.{Criterion}
-use Rattle.seq_report.specs.declared.lines.Criterion.TheVariants.{C0}
 use Rattle.seq_report.specs.declared.lines.StepLine.{StepLine}
+use Rattle.seq_report.specs.Criteria.{verdict_of, first_failed}
+use Rattle.seq_report.specs.Lifts.{lift_text}
 use Rattle.seq_report.specs.Sums.{sum_of}
-use Rattle.seq_report.specs.Floating.{figures_of}
 
--- The columns of figures, in their order, with their headings, and the figure of each. Behind the step, the lift and the
--- displacement a line has one number for each of them.
+-- The columns of figures, in their order, with their headings, and the figure of each. Between the displacement and the verdict
+-- a line has one number for each of them.
 abbrev pub columns : List Column
 columns = column.Gm ∷ column.Mean ∷ []
 
@@ -32,54 +37,78 @@ figure_of f column.Mean = f.mean
 abbrev pub spaced : List (List ℕ) → List ℕ
 spaced words = flat_map (λ word. 32 ∷ word) words
 
-abbrev pub end_of_line : List ℕ
-end_of_line = 10 ∷ []
-
 abbrev pub headings_text : List ℕ
 headings_text = spaced (map heading_of columns)
 
-abbrev pub header_of : List ℕ
-header_of = codes "STEP LIFT KG" ++ (headings_text ++ end_of_line)
+abbrev pub judged_headings : List ℕ
+judged_headings = headings_text ++ codes " VERDICT\n"
 
--- the word for what lies outside of the tables, and the criterion that such a step fails
-abbrev pub cause_of : Outside → List ℕ
+abbrev pub header_of : List ℕ
+header_of = codes "STEP LIFT KG" ++ judged_headings
+
+-- the codes of the criteria, and the word for what lies outside of the tables
+abbrev pub code_of : Criterion → List ℕ
+code_of C0 = codes "C0"
+code_of C1 = codes "C1"
+
+abbrev pub cause_of : causes.Outside → List ℕ
 cause_of Hydro = codes "HYDRO"
 
-abbrev pub criterion_of : Outside → Criterion
-criterion_of Hydro = C0
-
--- the figures of a line, or the word OUTSIDE and the cause
+-- the figures of a line, and the verdict; or the word OUTSIDE and the cause
 abbrev pub figures_text : Figures → List ℕ
 figures_text f = spaced (map (λ c. signed_decimal (figure_of f c)) columns)
 
-abbrev pub judged_text : Result Figures Outside → List ℕ
-judged_text (Ok f) = figures_text f
-judged_text (Err outside) = codes " OUTSIDE " ++ cause_of outside
+abbrev pub verdict_text : Verdict → List ℕ
+verdict_text (Outside outside) = codes " OUTSIDE " ++ cause_of outside
+verdict_text (Fails criterion f) = figures_text f ++ (codes " FAIL " ++ code_of criterion)
+verdict_text (Passes f) = figures_text f ++ codes " PASS"
 
--- the number of the step, no lift, the displacement, and what is said of it
-abbrev pub line_of : StepLine → List ℕ
-line_of l = decimal l.step ++ (codes " - " ++ (signed_decimal l.kg ++ (judged_text l.figures ++ end_of_line)))
+-- the number of the step, what leads to it, the displacement, and how it is judged
+abbrev pub judged_text : StepLine → List ℕ
+judged_text l = codes " " ++ (signed_decimal l.kg ++ (verdict_text l.verdict ++ codes "\n"))
+
+abbrev pub line_of : Option Op → StepLine → List ℕ
+line_of lift l = decimal l.step ++ (codes " " ++ (lift_text lift ++ judged_text l))
 
 -- the step that a line fails, with the criterion
-abbrev pub failed_at : ℕ → Result Figures Outside → Option (ℕ × Criterion)
-failed_at step (Ok f) = None
-failed_at step (Err outside) = Some (step, criterion_of outside)
-
 abbrev pub failure_of : StepLine → Option (ℕ × Criterion)
-failure_of l = failed_at l.step l.figures
+failure_of l = option_map (λ criterion. (l.step, criterion)) (first_failed l.verdict)
+
+-- a line of a report: what the step orders (nothing on arrival), and what is said of it
+pub record Line : Type 0 where
+  pub lift : Option Op
+  pub step : StepLine
+
+abbrev pub text_of : Line → List ℕ
+text_of line = line_of line.lift line.step
 
 -- the first of the lines that fails
-abbrev pub first_of : List StepLine → Option (ℕ × Criterion)
+abbrev pub first_of : List Line → Option (ℕ × Criterion)
 first_of [] = None
-first_of (l ∷ more) = option_or (failure_of l) (first_of more)
+first_of (line ∷ more) = option_or (failure_of line.step) (first_of more)
 
--- the line of a step, by adding up everything aboard
-abbrev pub step_line : ProfileRecord → ℕ → List Mass → StepLine
-step_line ship step bodies = record { step = step; kg = (sum_of bodies).kg; figures = figures_of ship.tables.hydro (sum_of bodies) }
+-- what is said of a step with this aboard, by adding up everything afresh
+abbrev pub step_line : ProfileRecord → ℕ → Aboard → StepLine
+step_line ship step at = record {
+  step = step;
+  kg = (sum_of (bodies ship at)).kg;
+  verdict = verdict_of ship.tables.hydro (sum_of (bodies ship at));
+}
 
--- the lines of a run: the condition on arrival
-abbrev pub lines_of : ProfileRecord → List Mass → List StepLine
-lines_of ship arrival = step_line ship 0 arrival ∷ []
+-- the lines of some steps behind the step of a number, one after another
+abbrev pub lines_behind : ProfileRecord → ℕ → Aboard → List Op → List Line
+lines_behind ship step at [] = []
+lines_behind ship step at (op ∷ more) =
+    record { lift = Some op; step = step_line ship (step + 1) (moved ship at op) } ∷ lines_behind ship (step + 1) (moved ship at op) more
 
-abbrev pub report_of : List StepLine → List ℕ
-report_of lines = header_of ++ flat_map line_of lines
+-- the lines of a run: the condition on arrival, and each step
+abbrev pub lines_of : ProfileRecord → Aboard → List Op → List Line
+lines_of ship arrival ops = record { lift = None; step = step_line ship 0 arrival } ∷ lines_behind ship 0 arrival ops
+
+-- the last line
+abbrev pub last_line : Option (ℕ × Criterion) → List ℕ
+last_line None = codes "ALL PASS\n"
+last_line (Some (step, criterion)) = codes "FIRST FAIL " ++ (decimal step ++ (codes " " ++ (code_of criterion ++ codes "\n")))
+
+abbrev pub report_of : List Line → List ℕ
+report_of lines = header_of ++ (flat_map text_of lines ++ last_line (first_of lines))

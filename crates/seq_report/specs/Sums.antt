@@ -1,12 +1,8 @@
 -- What is aboard, added up: each value by itself, over a list of bodies.
-use Rattle.std.specs.Prelude.{ℕ, ℤ, pos, ◌+ℤ◌, ◌*ℤ◌, List, [], ◌∷◌}
+use Rattle.std.specs.Prelude.{ℤ, pos, ◌*ℤ◌, List}
 use Rattle.units_core.specs.Bodies.{Mass}
+use Rattle.lift_sequence.specs.Totals.{total}
 use Rattle.seq_report.specs.declared.sums.Sum.{Sum}
-
--- what f gives of each, added up
-abbrev pub total : {X : Type 0} → (X → ℤ) → List X → ℤ
-total f [] = pos 0
-total f (x ∷ xs) = f x +ℤ total f xs
 
 -- what a body adds: its mass, the moment of its mass about the keel, its free surface moment
 abbrev pub weight_of : Mass → ℤ

@@ -1,20 +1,19 @@
-ghost use Rattle.std.specs.Prelude.{◌≡◌, ℕ, ◌+◌, ◌*◌, ◌^◌, ◌≤◌, pos, ◌≤ℤ◌, ◌<ℤ◌, unsigned_abs, length, Ok, Err, MatchOption, None, Some};
+ghost use Rattle.std.specs.Prelude.{◌≡◌, ℕ, ◌+◌, ◌*◌, ◌^◌, ◌≤◌, pos, ◌≤ℤ◌, ◌<ℤ◌, unsigned_abs, length};
 ghost use Rattle.units_core.specs.Interpolation.{at, reading, Encloses, IsWithin, Rises};
-ghost use Rattle.units_core.specs.Ratio.{Ratio, ◌over◌};
-ghost use Rattle.ship_tables.specs.Record.{IsHydroTable};
-ghost use Rattle.seq_report.specs.Floating.{Waterline, waterline, waterline_in, gm, figures_of};
+ghost use Rattle.units_core.specs.Ratio.{◌over◌, floor_of};
+ghost use Rattle.seq_report.specs.Floating.{waterline_in, gm};
 
 use crate::sums::Sum;
 use ship_profile::Hydro;
-use thiserror::Error;
-use units_core::{Frac, enclosing, floor, interp};
+use units_core::{Frac, floor, interp};
 
-/// Why a condition has no figures. The display is the word of its line.
-#[derive(Clone, Copy, Debug, PartialEq, Eq, Error)]
-pub enum Outside {
-    /// The displacement lies outside of the hydrostatic table.
-    #[error("HYDRO")]
-    Hydro,
+/// How a condition floats, exactly.
+#[derive(Clone, Copy, Debug)]
+pub struct Floating {
+    /// The metacentric height in mm, corrected for free surfaces.
+    pub gm: Frac,
+    /// The mean draught in mm.
+    pub mean: Frac,
 }
 
 /// The figures of a condition, each rounded down.
@@ -49,7 +48,8 @@ fn metacentric_height(kmt: Frac, sum: &Sum) -> Frac
     requires surface_within { unsigned_abs sum.now.free_surface ≤ 2 ^ 20 * 10 ^ 12 }
     requires den { kmt.den ≤ℤ pos (10 ^ 8) }
     requires num { unsigned_abs kmt.num ≤ 10 ^ 14 }
-    ensures { (result.num over result.den) ≡ gm (kmt.num over kmt.den) sum.now }
+    ensures value { (result.num over result.den) ≡ gm (kmt.num over kmt.den) sum.now }
+    ensures den { unsigned_abs result.den ≤ 10 ^ 8 * 10 ^ 9 }
 {
     Frac {
         num: kmt.num * sum.kg - (sum.height_moment + sum.free_surface) * kmt.den,
@@ -57,21 +57,32 @@ fn metacentric_height(kmt: Frac, sum: &Sum) -> Frac
     }
 }
 
-/// The figures of a condition, by the hydrostatic table at its displacement. Outside of the table there are
-/// none: it is neither extended nor held at its ends.
-pub fn figures_of(hydro: &Hydro, sum: &Sum) -> Result<Figures, Outside>
+/// How a condition floats, by the interval `i` of the hydrostatic table.
+pub fn floating_at(hydro: &Hydro, sum: &Sum, i: usize) -> Floating
+    requires inside { Encloses hydro.now.kg i sum.now.kg }
     requires moment_within { unsigned_abs sum.now.height_moment ≤ 2 ^ 20 * 10 ^ 15 }
     requires surface_within { unsigned_abs sum.now.free_surface ≤ 2 ^ 20 * 10 ^ 12 }
-    ensures { result ≡ figures_of hydro.now sum.now }
+    ensures gm { (result.gm.num over result.gm.den) ≡ gm (waterline_in hydro.now sum.now.kg i).kmt sum.now }
+    ensures mean { (result.mean.num over result.mean.den) ≡ (waterline_in hydro.now sum.now.kg i).draught }
+    ensures den { unsigned_abs result.gm.den ≤ 10 ^ 8 * 10 ^ 9 }
 {
     let displacements = hydro.kg();
-    let Some(i) = enclosing(displacements, sum.kg) else {
-        return Err(Outside::Hydro);
-    };
     let draught = read(displacements, hydro.draught(), i, sum.kg);
     let kmt = read(displacements, hydro.kmt(), i, sum.kg);
-    Ok(Figures {
-        gm: floor(metacentric_height(kmt, sum)),
-        mean: floor(draught),
-    })
+    Floating {
+        gm: metacentric_height(kmt, sum),
+        mean: draught,
+    }
+}
+
+impl Floating {
+    /// The figures that are printed.
+    pub fn figures(&self) -> Figures
+        ensures { result ≡ record { gm = floor_of (self.now.gm.num over self.now.gm.den); mean = floor_of (self.now.mean.num over self.now.mean.den) } }
+    {
+        Figures {
+            gm: floor(self.gm),
+            mean: floor(self.mean),
+        }
+    }
 }

@@ -1,18 +1,24 @@
-//! The report: what the ship's files and the bay plan say of the condition on arrival, written as one line to
-//! a sink, with every refusal in a fixed order.
+//! The report: what the ship's files, the bay plan, the movement instruction and the planner's steps say of every step, written line by
+//! line to a sink, with the first step that fails and every refusal in a fixed order.
 #![tactic(auto)]
 
+mod criteria;
+mod drafts;
 mod faults;
 mod floating;
+mod inputs;
+mod lifts;
 mod lines;
 mod runs;
 mod sink;
+mod steps;
 mod sums;
 
+pub use criteria::{Criterion, Outside};
+pub use drafts::Summary;
 pub use faults::RunFault;
-pub use floating::Outside;
-pub use lines::Criterion;
-pub use runs::{Inputs, Summary, report};
+pub use inputs::Inputs;
+pub use runs::report;
 pub use sink::{Sink, SinkFailed, Through};
 
 #[cfg(test)]

@@ -1,18 +1,13 @@
-ghost use Rattle.std.specs.Prelude.{◌≡◌, ◌++◌, OnOk, string_bytes};
-ghost use Rattle.seq_report.specs.Report.{heading_of, figure_of, figures_text, headings_text, header_of, line_of, criterion_of, cause_of, failure_of, spaced};
+ghost use Rattle.std.specs.Prelude.{◌≡◌, ◌++◌, OnOk, string_bytes, option_map};
+ghost use Rattle.std.specs.Fmt.{signed_decimal};
+ghost use Rattle.seq_report.specs.Report.{heading_of, figure_of, figures_text, headings_text, header_of, line_of, last_line, failure_of, judged_headings, judged_text, verdict_text};
 
-use crate::floating::{Figures, Outside};
+use crate::criteria::{Criterion, Verdict};
+use crate::floating::Figures;
+use crate::lifts::write_lift;
+use lift_sequence::Op;
 use std::alloc::AllocError;
 use std::fmt::Write;
-use thiserror::Error;
-
-/// A criterion that a step may fail. The display is its code.
-#[derive(Clone, Copy, Debug, PartialEq, Eq, Error)]
-pub enum Criterion {
-    /// The condition lies within the ship's tables.
-    #[error("C0")]
-    C0,
-}
 
 /// A column of figures.
 #[derive(Clone, Copy, Debug, PartialEq, Eq)]
@@ -46,32 +41,12 @@ impl Figures {
     }
 }
 
-impl Outside {
-    /// The word of a line for what lies outside.
-    fn cause(self) -> &'static str
-        ensures { result.now ≡ cause_of self }
-    {
-        match self {
-            Outside::Hydro => "HYDRO",
-        }
-    }
-
-    /// The criterion that such a step fails.
-    pub fn criterion(self) -> Criterion
-        ensures { result ≡ criterion_of self }
-    {
-        match self {
-            Outside::Hydro => Criterion::C0,
-        }
-    }
-}
-
-/// What the line of a step says: its number, the displacement in kg, and the figures, or why there are none.
+/// What the line of a step says: its number, the displacement in kg, and how it is judged.
 #[derive(Clone, Copy, Debug)]
 pub struct StepLine {
     pub step: u32,
     pub kg: i128,
-    pub figures: Result<Figures, Outside>,
+    pub verdict: Verdict,
 }
 
 impl StepLine {
@@ -79,10 +54,8 @@ impl StepLine {
     pub fn failure(&self) -> Option<(u32, Criterion)>
         ensures { result ≡ failure_of self.now }
     {
-        match self.figures {
-            Ok(_) => None,
-            Err(outside) => Some((self.step, outside.criterion())),
-        }
+        let criterion = self.verdict.first_failed()?;
+        Some((self.step, criterion))
     }
 }
 
@@ -97,14 +70,20 @@ fn write_headings(text: &mut String) -> Result<(), AllocError>
     Ok(())
 }
 
+/// Writes the headings of the figures and of the verdict, and the end of the line.
+fn write_judged_headings(text: &mut String) -> Result<(), AllocError>
+    ensures { OnOk result (string_bytes text.new ≡ string_bytes text.old ++ judged_headings) }
+{
+    write_headings(text)?;
+    text.push_str(" VERDICT\n")
+}
+
 /// Writes the heading of the report.
 pub fn write_header(text: &mut String) -> Result<(), AllocError>
     ensures { OnOk result (string_bytes text.new ≡ string_bytes text.old ++ header_of) }
 {
     text.push_str("STEP LIFT KG")?;
-    write_headings(text)?;
-    text.push_str("\n")?;
-    Ok(())
+    write_judged_headings(text)
 }
 
 /// Writes the figures of a line, each behind a space.
@@ -118,18 +97,56 @@ fn write_figures(text: &mut String, figures: &Figures) -> Result<(), AllocError>
     Ok(())
 }
 
-/// Writes the line of a step.
-pub fn write_line(text: &mut String, line: &StepLine) -> Result<(), AllocError>
-    ensures { OnOk result (string_bytes text.new ≡ string_bytes text.old ++ line_of line.now) }
+/// Writes how a step is judged: its figures and the verdict, or what lies outside of the tables.
+fn write_verdict(text: &mut String, verdict: &Verdict) -> Result<(), AllocError>
+    ensures { OnOk result (string_bytes text.new ≡ string_bytes text.old ++ verdict_text verdict.now) }
 {
-    let StepLine { step, kg, figures } = *line;
-    write!(text, "{step} - {kg}")?;
-    match figures {
-        Ok(figures) => write_figures(text, &figures)?,
-        Err(outside) => {
+    match verdict {
+        Verdict::Outside(outside) => {
             text.push_str(" OUTSIDE ")?;
-            text.push_str(outside.cause())?;
+            text.push_str(outside.cause())
+        }
+        Verdict::Fails(criterion, figures) => {
+            write_figures(text, figures)?;
+            text.push_str(" FAIL ")?;
+            text.push_str(criterion.code())
+        }
+        Verdict::Passes(figures) => {
+            write_figures(text, figures)?;
+            text.push_str(" PASS")
         }
     }
+}
+
+/// Writes the displacement, how it is judged, and the end of the line.
+fn write_judged(text: &mut String, line: &StepLine) -> Result<(), AllocError>
+    ensures { OnOk result (string_bytes text.new ≡ string_bytes text.old ++ judged_text line.now) }
+{
+    let kg = line.kg;
+    write!(text, " {kg}")?;
+    write_verdict(text, &line.verdict)?;
     text.push_str("\n")
+}
+
+/// Writes the line of a step, with what leads to it.
+pub fn write_line(text: &mut String, lift: Option<&Op>, line: &StepLine) -> Result<(), AllocError>
+    ensures { OnOk result (string_bytes text.new ≡ string_bytes text.old ++ line_of (option_map (λ op. op.now) lift.entry) line.now) }
+{
+    let step = line.step;
+    write!(text, "{step} ")?;
+    write_lift(text, lift)?;
+    write_judged(text, line)
+}
+
+/// Writes the last line: the first step that fails, with its criterion, where one does.
+pub fn write_last_line(text: &mut String, first: Option<(u32, Criterion)>) -> Result<(), AllocError>
+    ensures { OnOk result (string_bytes text.new ≡ string_bytes text.old ++ last_line first) }
+{
+    match first {
+        None => text.push_str("ALL PASS\n"),
+        Some((step, criterion)) => {
+            let code = criterion.code();
+            writeln!(text, "FIRST FAIL {step} {code}")
+        }
+    }
 }

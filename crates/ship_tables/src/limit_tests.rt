@@ -1,6 +1,7 @@
 use crate::faults::File;
 use crate::tests::{
-    BONJEAN, CELLS, HYDRO, LEAST_GM, LEVERS, TANKS, check_prefixes, refusal, refusal_within, widest,
+    BONJEAN, CELLS, HYDRO, LEAST_GM, LEVERS, TANKS, check_prefixes, check_text, check_words,
+    extent, refusal, widest,
 };
 use std::alloc::Global;
 use std::process::Abort;
@@ -126,6 +127,19 @@ fn every_prefix_of_gm_csv(rt: HostRuntime) -> Result<(), Fail> {
     check_prefixes(&rt, File::LeastGm, LEAST_GM, &LEAST_GM_PREFIXES)
 }
 
+/// Reads a number of a column, with what stands before its field and behind it, and compares the words of its fault.
+fn check_number(
+    rt: &(impl Abort + AllocGlobal),
+    file: File,
+    before: &str,
+    after: &str,
+    value: i64,
+    want: &str,
+) -> Result<(), Fail> {
+    let text = format!(in rt.alloc(); "{before}{value}{after}")?;
+    check_text(rt, &widest()?, file, text.as_str(), want)
+}
+
 /// Reads a column at both ends of its range, and one past each: what stands before its field and behind it, and the ends.
 fn check_ranges(
     rt: &(impl Abort + AllocGlobal),
@@ -135,16 +149,10 @@ fn check_ranges(
     ranges: &[(&str, &str, i64, i64)],
 ) -> Result<(), Fail> {
     for (before, after, low, high) in ranges {
-        for (value, want) in [
-            (*low, within),
-            (*high, within),
-            (low.saturating_sub(1), beyond),
-            (high.saturating_add(1), beyond),
-        ] {
-            let text = format!(in rt.alloc(); "{before}{value}{after}")?;
-            let refused = refusal_within(rt.alloc(), &widest()?, file, text.as_bytes())?;
-            assert_eq!(rt; refused.as_str(), want, "{text}");
-        }
+        check_number(rt, file, before, after, *low, within)?;
+        check_number(rt, file, before, after, *high, within)?;
+        check_number(rt, file, before, after, low.saturating_sub(1), beyond)?;
+        check_number(rt, file, before, after, high.saturating_add(1), beyond)?;
     }
     Ok(())
 }
@@ -238,34 +246,102 @@ fn number_ranges_of_tanks_csv(rt: HostRuntime) -> Result<(), Fail> {
 }
 
 /// The displacement, and each of the 13 levers.
+static LEVERS_RANGES: [(&str, &str, i64, i64); 14] = [
+    (
+        "h,h,h,h,h,h,h,h,h,h,h,h,h,h\n",
+        ",5,5,5,5,5,5,5,5,5,5,5,5,5",
+        1,
+        1_000_000_000,
+    ),
+    (
+        "h,h,h,h,h,h,h,h,h,h,h,h,h,h\n5,",
+        ",5,5,5,5,5,5,5,5,5,5,5,5",
+        0,
+        1_000_000,
+    ),
+    (
+        "h,h,h,h,h,h,h,h,h,h,h,h,h,h\n5,5,",
+        ",5,5,5,5,5,5,5,5,5,5,5",
+        0,
+        1_000_000,
+    ),
+    (
+        "h,h,h,h,h,h,h,h,h,h,h,h,h,h\n5,5,5,",
+        ",5,5,5,5,5,5,5,5,5,5",
+        0,
+        1_000_000,
+    ),
+    (
+        "h,h,h,h,h,h,h,h,h,h,h,h,h,h\n5,5,5,5,",
+        ",5,5,5,5,5,5,5,5,5",
+        0,
+        1_000_000,
+    ),
+    (
+        "h,h,h,h,h,h,h,h,h,h,h,h,h,h\n5,5,5,5,5,",
+        ",5,5,5,5,5,5,5,5",
+        0,
+        1_000_000,
+    ),
+    (
+        "h,h,h,h,h,h,h,h,h,h,h,h,h,h\n5,5,5,5,5,5,",
+        ",5,5,5,5,5,5,5",
+        0,
+        1_000_000,
+    ),
+    (
+        "h,h,h,h,h,h,h,h,h,h,h,h,h,h\n5,5,5,5,5,5,5,",
+        ",5,5,5,5,5,5",
+        0,
+        1_000_000,
+    ),
+    (
+        "h,h,h,h,h,h,h,h,h,h,h,h,h,h\n5,5,5,5,5,5,5,5,",
+        ",5,5,5,5,5",
+        0,
+        1_000_000,
+    ),
+    (
+        "h,h,h,h,h,h,h,h,h,h,h,h,h,h\n5,5,5,5,5,5,5,5,5,",
+        ",5,5,5,5",
+        0,
+        1_000_000,
+    ),
+    (
+        "h,h,h,h,h,h,h,h,h,h,h,h,h,h\n5,5,5,5,5,5,5,5,5,5,",
+        ",5,5,5",
+        0,
+        1_000_000,
+    ),
+    (
+        "h,h,h,h,h,h,h,h,h,h,h,h,h,h\n5,5,5,5,5,5,5,5,5,5,5,",
+        ",5,5",
+        0,
+        1_000_000,
+    ),
+    (
+        "h,h,h,h,h,h,h,h,h,h,h,h,h,h\n5,5,5,5,5,5,5,5,5,5,5,5,",
+        ",5",
+        0,
+        1_000_000,
+    ),
+    (
+        "h,h,h,h,h,h,h,h,h,h,h,h,h,h\n5,5,5,5,5,5,5,5,5,5,5,5,5,",
+        "",
+        0,
+        1_000_000,
+    ),
+];
+
 #[test]
 fn number_ranges_of_kn_csv(rt: HostRuntime) -> Result<(), Fail> {
-    for place in 0..14usize {
-        let mut before = String::from_str(rt.alloc(), "h,h,h,h,h,h,h,h,h,h,h,h,h,h\n")?;
-        let mut after = String::new(rt.alloc());
-        for _ in 0..place {
-            before.push_str("5,")?;
-        }
-        for _ in place..13 {
-            after.push_str(",5")?;
-        }
-        let (low, high) = if place == 0 {
-            (1, 1_000_000_000)
-        } else {
-            (0, 1_000_000)
-        };
-        for (value, want) in [
-            (low, "P13 kn.csv"),
-            (high, "P13 kn.csv"),
-            (low - 1, "P6 kn.csv 2"),
-            (high + 1, "P6 kn.csv 2"),
-        ] {
-            let text = format!(in rt.alloc(); "{before}{value}{after}")?;
-            let refused = refusal(rt.alloc(), File::Levers, text.as_bytes())?;
-            assert_eq!(rt; refused.as_str(), want, "{text}");
-        }
-    }
-    Ok(())
+    check_ranges(
+        &rt,
+        File::Levers,
+        "P13 kn.csv",
+        "P6 kn.csv 2",
+        &LEVERS_RANGES,
+    )
 }
 
 /// A heading, so many rows that begin with their number, and a last row.
@@ -276,6 +352,34 @@ fn rows(alloc: Global, heading: &str, count: u32, tail: &str, last: &str) -> Res
     }
     text.push_str(last)?;
     Ok(text)
+}
+
+/// The words of the fault of a file of so many rows and a last one.
+fn rows_refusal(
+    alloc: Global,
+    file: File,
+    heading: &str,
+    count: u32,
+    tail: &str,
+    last: &str,
+) -> Result<String, Fail> {
+    let text = rows(alloc, heading, count, tail, last)?;
+    refusal(alloc, &extent()?, file, text.as_str())
+}
+
+/// Reads a file of so many rows and a last one, and compares the words of its fault.
+fn check_rows(
+    rt: &(impl Abort + AllocGlobal),
+    file: File,
+    heading: &str,
+    count: u32,
+    tail: &str,
+    last: &str,
+    want: &str,
+) -> Result<(), Fail> {
+    let refused = rows_refusal(rt.alloc(), file, heading, count, tail, last)?;
+    check_words(rt, refused.as_str(), want, last);
+    Ok(())
 }
 
 static MOST_ROWS: [(File, u32, &str, &str, &str); 5] = [
@@ -313,12 +417,16 @@ static MOST_ROWS: [(File, u32, &str, &str, &str); 5] = [
 #[test]
 fn greatest_number_of_rows(rt: HostRuntime) -> Result<(), Fail> {
     for (file, most, heading, tail, beyond) in &MOST_ROWS {
-        let full = rows(rt.alloc(), heading, *most, tail, "")?;
-        let taken = refusal(rt.alloc(), *file, full.as_bytes())?;
-        assert_eq!(rt; taken.as_str(), "");
-        let over = rows(rt.alloc(), heading, *most + 1, tail, "")?;
-        let refused = refusal(rt.alloc(), *file, over.as_bytes())?;
-        assert_eq!(rt; refused.as_str(), *beyond);
+        check_rows(&rt, *file, heading, *most, tail, "", "")?;
+        check_rows(
+            &rt,
+            *file,
+            heading,
+            most.saturating_add(1),
+            tail,
+            "",
+            beyond,
+        )?;
     }
     Ok(())
 }
@@ -378,9 +486,7 @@ static LAST_ROWS: [(File, u32, &str, &str, &str, &str); 6] = [
 #[test]
 fn row_too_many(rt: HostRuntime) -> Result<(), Fail> {
     for (file, most, heading, tail, last, want) in &LAST_ROWS {
-        let text = rows(rt.alloc(), heading, *most, tail, last)?;
-        let refused = refusal(rt.alloc(), *file, text.as_bytes())?;
-        assert_eq!(rt; refused.as_str(), *want, "{last}");
+        check_rows(&rt, *file, heading, *most, tail, last, want)?;
     }
     Ok(())
 }
@@ -395,6 +501,12 @@ fn tank_rows(alloc: Global, tanks: u32, count: u32, last: &str) -> Result<String
     }
     text.push_str(last)?;
     Ok(text)
+}
+
+/// The words of the fault of so many tanks of so many rows, and a last row.
+fn tanks_refusal(alloc: Global, tanks: u32, count: u32, last: &str) -> Result<String, Fail> {
+    let text = tank_rows(alloc, tanks, count, last)?;
+    refusal(alloc, &extent()?, File::Tanks, text.as_str())
 }
 
 static TANK_LIMITS: [(u32, u32, &str, &str); 16] = [
@@ -422,8 +534,7 @@ static TANK_LIMITS: [(u32, u32, &str, &str); 16] = [
 #[test]
 fn greatest_numbers_of_tanks(rt: HostRuntime) -> Result<(), Fail> {
     for (tanks, count, last, want) in &TANK_LIMITS {
-        let text = tank_rows(rt.alloc(), *tanks, *count, last)?;
-        let refused = refusal(rt.alloc(), File::Tanks, text.as_bytes())?;
+        let refused = tanks_refusal(rt.alloc(), *tanks, *count, last)?;
         assert_eq!(rt; refused.as_str(), *want, "{tanks} {count} {last}");
     }
     Ok(())

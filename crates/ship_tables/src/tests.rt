@@ -1,5 +1,5 @@
 use crate::faults::{File, TableFault};
-use crate::{Extent, TableTexts, Tables};
+use crate::{Curves, Extent, Hydro, TableTexts, Tables};
 use std::alloc::Global;
 use std::process::Abort;
 use std::test::Fail;
@@ -30,20 +30,21 @@ fn length(mm: i32) -> Result<Mm, Fail> {
     Ok(Mm::new(mm).ok_or("a length")?)
 }
 
-/// From the box ship's first station to her last.
-fn extent() -> Result<Extent, Fail> {
+fn extent_from(aft: i32, fore: i32) -> Result<Extent, Fail> {
     Ok(Extent {
-        aft: length(0)?,
-        fore: length(100_000)?,
+        aft: length(aft)?,
+        fore: length(fore)?,
     })
+}
+
+/// From the box ship's first station to her last.
+pub fn extent() -> Result<Extent, Fail> {
+    extent_from(0, 100_000)
 }
 
 /// As far as lengths go either way.
 pub fn widest() -> Result<Extent, Fail> {
-    Ok(Extent {
-        aft: length(-1_000_000)?,
-        fore: length(1_000_000)?,
-    })
+    extent_from(-1_000_000, 1_000_000)
 }
 
 fn box_texts() -> TableTexts<'static> {
@@ -88,33 +89,68 @@ fn with_text(file: File, text: &[u8]) -> TableTexts<'_> {
     }
 }
 
-fn read_box(alloc: Global) -> Result<Tables, Fail> {
-    Ok(Tables::read(alloc, extent()?, 5, &box_texts())?)
+/// The fault of these texts; none where they are tables. It owns tables, and does nothing else with them: each way of dropping
+/// them has its proof.
+fn fault_of(alloc: Global, extent: &Extent, texts: &TableTexts<'_>) -> Option<TableFault> {
+    Tables::read(alloc, *extent, 5, texts).err()
 }
 
-/// The words of the fault of the box ship's texts, one of them in another form; none where they are tables.
-pub fn refusal(alloc: Global, file: File, text: &[u8]) -> Result<String, Fail> {
-    refusal_within(alloc, &extent()?, file, text)
-}
-
-/// The same for a ship of another extent.
-pub fn refusal_within(
-    alloc: Global,
-    extent: &Extent,
-    file: File,
-    text: &[u8],
-) -> Result<String, Fail> {
-    match Tables::read(alloc, *extent, 5, &with_text(file, text)) {
-        Ok(_) => Ok(String::new(alloc)),
-        Err(fault) => Ok(format!(in alloc; "{fault}")?),
+/// The words of a fault; none where there is none.
+fn words(alloc: Global, fault: Option<TableFault>) -> Result<String, Fail> {
+    match fault {
+        Some(fault) => Ok(format!(in alloc; "{fault}")?),
+        None => Ok(String::new(alloc)),
     }
 }
 
-/// Reads each text and compares the words of its fault; none for a text that is taken.
+/// The words of the fault of the box ship's texts, one of them in another form; none where they are tables.
+pub fn refusal(alloc: Global, extent: &Extent, file: File, text: &str) -> Result<String, Fail> {
+    words(
+        alloc,
+        fault_of(alloc, extent, &with_text(file, text.as_bytes())),
+    )
+}
+
+/// Compares words with those that are wanted of a case.
+pub fn check_words(rt: &impl Abort, words: &str, want: &str, case: &str) {
+    assert_eq!(rt; words, want, "{case}");
+}
+
+/// Reads a text and compares the words of its fault; none for a text that is taken.
+pub fn check_text(
+    rt: &(impl Abort + AllocGlobal),
+    extent: &Extent,
+    file: File,
+    text: &str,
+    want: &str,
+) -> Result<(), Fail> {
+    let refused = refusal(rt.alloc(), extent, file, text)?;
+    check_words(rt, refused.as_str(), want, text);
+    Ok(())
+}
+
+/// Reads each text and compares the words of its fault.
 fn check(rt: &(impl Abort + AllocGlobal), file: File, rows: &[(&str, &str)]) -> Result<(), Fail> {
+    let extent = extent()?;
     for (text, want) in rows {
-        let refused = refusal(rt.alloc(), file, text.as_bytes())?;
-        assert_eq!(rt; refused.as_str(), *want, "{text}");
+        check_text(rt, &extent, file, text, want)?;
+    }
+    Ok(())
+}
+
+/// Reads the prefixes of a text from one length to before another: each has this fault.
+fn check_prefixes_between(
+    rt: &(impl Abort + AllocGlobal),
+    file: File,
+    text: &str,
+    from: usize,
+    past: usize,
+    want: &str,
+) -> Result<(), Fail> {
+    let extent = extent()?;
+    for length in from..past {
+        let prefix = text.get(..length).ok_or("a prefix")?;
+        check_text(rt, &extent, file, prefix, want)?;
     }
     Ok(())
 }
@@ -128,15 +164,51 @@ pub fn check_prefixes(
 ) -> Result<(), Fail> {
     let mut from = 0;
     for (past, want) in rows {
-        for length in from..*past {
-            let prefix = text.as_bytes().get(..length).ok_or("a prefix")?;
-            let refused = refusal(rt.alloc(), file, prefix)?;
-            assert_eq!(rt; refused.as_str(), *want, "{length}");
-        }
+        check_prefixes_between(rt, file, text, from, *past, want)?;
         from = *past;
     }
     assert_eq!(rt; from, text.len() + 1);
     Ok(())
+}
+
+/// What a look at what was read gives. What was read is of any type here, so that no proof has to take tables apart.
+fn seen<T: Drop, R, F: FnOnce(&T) -> R>(read: Result<T, TableFault>, look: F) -> Result<R, Fail>
+    requires { F.IsAlwaysCallable look }
+{
+    match read {
+        Ok(value) => Ok(look(&value)),
+        Err(fault) => Err(Fail::new(fault)),
+    }
+}
+
+/// Where a cell's container stands.
+fn place_in(alloc: Global, texts: &TableTexts<'_>, cell: Cell) -> Result<Option<Place>, Fail> {
+    let read = Tables::read(alloc, extent()?, 5, texts);
+    seen(read, |tables: &Tables| tables.cell(cell))
+}
+
+/// The filling of a tank with so many kg.
+fn filling_in(
+    alloc: Global,
+    texts: &TableTexts<'_>,
+    tank: u16,
+    kg: u32,
+) -> Result<Option<Body>, Fail> {
+    let read = Tables::read(alloc, extent()?, 5, texts);
+    seen(read, |tables: &Tables| tables.tank_item(tank, kg))
+}
+
+/// How many tanks there are, and the number of the tank of a name.
+fn tank_in(
+    alloc: Global,
+    texts: &TableTexts<'_>,
+    name: &str,
+) -> Result<(usize, Option<u16>), Fail> {
+    let read = Tables::read(alloc, extent()?, 5, texts);
+    seen(
+        read,
+        |tables: &Tables| (tables.tanks(), tables.tank(name.as_bytes())),
+    )
 }
 
 /// x, y, z and half of a place.
@@ -163,10 +235,6 @@ fn shown_body(alloc: Global, body: Option<Body>) -> Result<String, Fail> {
     }
 }
 
-fn check_column(rt: &impl Abort, column: &[i128], want: &[i128]) {
-    assert_eq!(rt; column, want);
-}
-
 static PLACES: [(&str, &str); 5] = [
     ("0010082", "75000 0 10000 3029"),
     ("020082", "62500 0 10000 6096"),
@@ -177,66 +245,120 @@ static PLACES: [(&str, &str); 5] = [
 
 #[test]
 fn cells_of_the_box_ship(rt: HostRuntime) -> Result<(), Fail> {
-    let tables = read_box(rt.alloc())?;
+    let texts = box_texts();
     for (text, want) in &PLACES {
         let cell = Cell::read(text.as_bytes()).ok_or("a cell")?;
-        let place = shown_place(rt.alloc(), tables.cell(cell))?;
-        assert_eq!(rt; place.as_str(), *want, "{text}");
+        let place = shown_place(rt.alloc(), place_in(rt.alloc(), &texts, cell)?)?;
+        check_words(&rt, place.as_str(), want, text);
     }
+    Ok(())
+}
+
+/// A part of the tables.
+#[derive(Clone, Copy)]
+enum Part {
+    Hydro,
+    Levers,
+    Bonjean,
+    LeastGm,
+}
+
+/// Writes a column and ends its line.
+fn write_column(text: &mut String, column: &[i128]) -> Result<(), Fail> {
+    for value in column {
+        write!(text, "{value} ")?;
+    }
+    Ok(text.push_str("/ ")?)
+}
+
+fn write_hydro(text: &mut String, hydro: &Hydro) -> Result<(), Fail> {
+    write_column(text, hydro.kg())?;
+    write_column(text, hydro.draught())?;
+    write_column(text, hydro.kmt())?;
+    write_column(text, hydro.lcb())?;
+    write_column(text, hydro.lcf())?;
+    write_column(text, hydro.mct())
+}
+
+fn write_curve(text: &mut String, curves: &Curves, number: usize) -> Result<(), Fail> {
+    match curves.column(number) {
+        Some(column) => write_column(text, column),
+        None => Ok(text.push_str("none")?),
+    }
+}
+
+/// Writes the arguments, each curve, and what stands behind the last.
+fn write_curves(text: &mut String, curves: &Curves) -> Result<(), Fail> {
+    write_column(text, curves.arguments())?;
+    for number in 0..curves.columns() {
+        write_curve(text, curves, number)?;
+    }
+    write_curve(text, curves, curves.columns())
+}
+
+fn write_part(text: &mut String, tables: &Tables, part: Part) -> Result<(), Fail> {
+    match part {
+        Part::Hydro => write_hydro(text, tables.hydro()),
+        Part::Levers => write_curves(text, tables.levers()),
+        Part::Bonjean => write_curves(text, tables.bonjean()),
+        Part::LeastGm => match tables.least_gm() {
+            Some(curves) => write_curves(text, curves),
+            None => Ok(text.push_str("none")?),
+        },
+    }
+}
+
+fn shown_part(alloc: Global, tables: &Tables, part: Part) -> Result<String, Fail> {
+    let mut text = String::new(alloc);
+    write_part(&mut text, tables, part)?;
+    Ok(text)
+}
+
+/// A part of the tables that these texts write, column by column.
+fn part_in(alloc: Global, texts: &TableTexts<'_>, part: Part) -> Result<String, Fail> {
+    let read = Tables::read(alloc, extent()?, 5, texts);
+    seen(read, |tables: &Tables| shown_part(alloc, tables, part))?
+}
+
+fn check_part(rt: &(impl Abort + AllocGlobal), part: Part, want: &str) -> Result<(), Fail> {
+    let shown = part_in(rt.alloc(), &box_texts(), part)?;
+    assert_eq!(rt; shown.as_str(), want);
     Ok(())
 }
 
 #[test]
 fn hydrostatics_of_the_box_ship(rt: HostRuntime) -> Result<(), Fail> {
-    let tables = read_box(rt.alloc())?;
-    let hydro = tables.hydro();
-    check_column(&rt, hydro.kg(), &[4_100_000, 8_200_000, 12_300_000]);
-    check_column(&rt, hydro.draught(), &[2_000, 4_000, 6_000]);
-    check_column(&rt, hydro.kmt(), &[17_667, 10_333, 8_556]);
-    check_column(&rt, hydro.lcb(), &[50_000, 50_000, 50_000]);
-    check_column(&rt, hydro.lcf(), &[50_000, 50_000, 50_000]);
-    check_column(&rt, hydro.mct(), &[17_000_000, 17_000_000, 17_000_000]);
-    Ok(())
+    check_part(
+        &rt,
+        Part::Hydro,
+        "4100000 8200000 12300000 / 2000 4000 6000 / 17667 10333 8556 / 50000 50000 50000 / \
+50000 50000 50000 / 17000000 17000000 17000000 / ",
+    )
 }
-
-/// The curves' numbers and a value of each.
-static LEVER_VALUES: [(usize, i128); 5] = [(0, 0), (1, 900), (6, 4_900), (11, 6_150), (12, 6_110)];
 
 #[test]
 fn levers_of_the_box_ship(rt: HostRuntime) -> Result<(), Fail> {
-    let tables = read_box(rt.alloc())?;
-    let levers = tables.levers();
-    check_column(&rt, levers.arguments(), &[4_100_000, 8_200_000, 12_300_000]);
-    assert_eq!(rt; levers.columns(), 13);
-    for (number, want) in &LEVER_VALUES {
-        let column = levers.column(*number).ok_or("a column")?;
-        check_column(&rt, column, &[*want, *want, *want]);
-    }
-    assert!(rt; levers.column(13).is_none());
-    Ok(())
+    check_part(
+        &rt,
+        Part::Levers,
+        "4100000 8200000 12300000 / 0 0 0 / 900 900 900 / 1790 1790 1790 / 2650 2650 2650 / \
+3470 3470 3470 / 4230 4230 4230 / 4900 4900 4900 / 5400 5400 5400 / 5750 5750 5750 / 5980 5980 5980 / \
+6110 6110 6110 / 6150 6150 6150 / 6110 6110 6110 / none",
+    )
 }
 
 #[test]
 fn bonjean_curves_of_the_box_ship(rt: HostRuntime) -> Result<(), Fail> {
-    let tables = read_box(rt.alloc())?;
-    let bonjean = tables.bonjean();
-    check_column(&rt, bonjean.arguments(), &[0, 8_000]);
-    assert_eq!(rt; bonjean.columns(), 5);
-    let last = bonjean.column(4).ok_or("a column")?;
-    check_column(&rt, last, &[0, 1_600_000]);
-    assert!(rt; bonjean.column(5).is_none());
-    Ok(())
+    check_part(
+        &rt,
+        Part::Bonjean,
+        "0 8000 / 0 1600000 / 0 1600000 / 0 1600000 / 0 1600000 / 0 1600000 / none",
+    )
 }
 
 #[test]
 fn least_gm_where_there_is_one(rt: HostRuntime) -> Result<(), Fail> {
-    let tables = read_box(rt.alloc())?;
-    let least_gm = tables.least_gm().ok_or("a table")?;
-    check_column(&rt, least_gm.arguments(), &[4_100_000, 12_300_000]);
-    assert_eq!(rt; least_gm.columns(), 1);
-    let column = least_gm.column(0).ok_or("a column")?;
-    check_column(&rt, column, &[4_433, 4_233]);
-    Ok(())
+    check_part(&rt, Part::LeastGm, "4100000 12300000 / 4433 4233 / none")
 }
 
 #[test]
@@ -245,12 +367,40 @@ fn no_least_gm_where_there_is_none(rt: HostRuntime) -> Result<(), Fail> {
         least_gm: None,
         ..box_texts()
     };
-    let tables = Tables::read(rt.alloc(), extent()?, 5, &texts)?;
-    assert!(rt; tables.least_gm().is_none());
+    let shown = part_in(rt.alloc(), &texts, Part::LeastGm)?;
+    assert_eq!(rt; shown.as_str(), "none");
     Ok(())
 }
 
-/// A tank, the mass of its filling, and the body that it is.
+/// Fills tanks of these texts: a tank, the mass of its filling, and the body that it is.
+fn check_fillings(
+    rt: &(impl Abort + AllocGlobal),
+    texts: &TableTexts<'_>,
+    rows: &[(u16, u32, &str)],
+) -> Result<(), Fail> {
+    for (tank, kg, want) in rows {
+        let body = filling_in(rt.alloc(), texts, *tank, *kg)?;
+        let shown = shown_body(rt.alloc(), body)?;
+        assert_eq!(rt; shown.as_str(), *want);
+    }
+    Ok(())
+}
+
+/// Looks names of tanks up, each with the number of its tank.
+fn check_names(
+    rt: &(impl Abort + AllocGlobal),
+    texts: &TableTexts<'_>,
+    tanks: usize,
+    rows: &[(&str, Option<u16>)],
+) -> Result<(), Fail> {
+    for (name, want) in rows {
+        let (count, number) = tank_in(rt.alloc(), texts, name)?;
+        assert_eq!(rt; count, tanks);
+        assert_eq!(rt; number, *want);
+    }
+    Ok(())
+}
+
 static FILLINGS: [(u16, u32, &str); 7] = [
     (0, 0, "0 at 50000 0 0 5000 with 0"),
     (0, 100_001, "100001 at 50000 0 200 5000 with 410004100"),
@@ -263,27 +413,21 @@ static FILLINGS: [(u16, u32, &str); 7] = [
 
 #[test]
 fn tank_fill(rt: HostRuntime) -> Result<(), Fail> {
-    let tables = read_box(rt.alloc())?;
-    for (tank, kg, want) in &FILLINGS {
-        let body = shown_body(rt.alloc(), tables.tank_item(*tank, *kg))?;
-        assert_eq!(rt; body.as_str(), *want);
-    }
-    Ok(())
+    check_fillings(&rt, &box_texts(), &FILLINGS)
 }
+
+static NAMES: [(&str, Option<u16>); 3] = [("DB1", Some(0)), ("DB2", None), ("", None)];
 
 #[test]
 fn tank_by_its_name(rt: HostRuntime) -> Result<(), Fail> {
-    let tables = read_box(rt.alloc())?;
-    assert_eq!(rt; tables.tanks(), 1);
-    assert_eq!(rt; tables.tank(b"DB1"), Some(0));
-    assert!(rt; tables.tank(b"DB2").is_none());
-    assert!(rt; tables.tank(b"").is_none());
-    Ok(())
+    check_names(&rt, &box_texts(), 1, &NAMES)
 }
 
 /// Two tanks: figures that fall from row to row, rounded down below 0 too, and a table that begins above 0.
 static TWO_TANKS: &str =
     "h,h,h,h,h,h,h\nB,10,9,-9,9,4,9\nB,13,8,-10,9,1,0\nA,0,5,0,0,0,0\nA,1,5,0,0,0,0\n";
+
+static TWO_NAMES: [(&str, Option<u16>); 2] = [("B", Some(0)), ("A", Some(1))];
 
 static TWO_FILLINGS: [(u16, u32, &str); 5] = [
     (0, 9, "none"),
@@ -296,41 +440,42 @@ static TWO_FILLINGS: [(u16, u32, &str); 5] = [
 #[test]
 fn tanks_in_their_order(rt: HostRuntime) -> Result<(), Fail> {
     let texts = with_text(File::Tanks, TWO_TANKS.as_bytes());
-    let tables = Tables::read(rt.alloc(), extent()?, 5, &texts)?;
-    assert_eq!(rt; tables.tank(b"B"), Some(0));
-    assert_eq!(rt; tables.tank(b"A"), Some(1));
-    for (tank, kg, want) in &TWO_FILLINGS {
-        let body = shown_body(rt.alloc(), tables.tank_item(*tank, *kg))?;
-        assert_eq!(rt; body.as_str(), *want);
-    }
-    Ok(())
+    check_names(&rt, &texts, 2, &TWO_NAMES)?;
+    check_fillings(&rt, &texts, &TWO_FILLINGS)
+}
+
+/// Where a body stands, half of its length, and whether the box ship's extent holds it.
+static BODIES: [(i32, i32, bool); 12] = [
+    (0, 0, true),
+    (100_000, 0, true),
+    (50_000, 50_000, true),
+    (50_000, 50_001, false),
+    (3, 3, true),
+    (2, 3, false),
+    (99_997, 3, true),
+    (99_998, 3, false),
+    (-1, 0, false),
+    (100_001, 0, false),
+    (1_000_000, 1_000_000, false),
+    (-1_000_000, 1_000_000, false),
+];
+
+fn place_along(x: i32, half: i32) -> Result<Place, Fail> {
+    Ok(Place {
+        x: length(x)?,
+        y: length(0)?,
+        z: length(0)?,
+        half: length(half)?,
+    })
 }
 
 /// A body may reach the first and the last station, and not a millimetre beyond.
 #[test]
 fn extent_holds_its_ends(rt: HostRuntime) -> Result<(), Fail> {
     let extent = extent()?;
-    for (x, half, want) in [
-        (0, 0, true),
-        (100_000, 0, true),
-        (50_000, 50_000, true),
-        (50_000, 50_001, false),
-        (3, 3, true),
-        (2, 3, false),
-        (99_997, 3, true),
-        (99_998, 3, false),
-        (-1, 0, false),
-        (100_001, 0, false),
-        (1_000_000, 1_000_000, false),
-        (-1_000_000, 1_000_000, false),
-    ] {
-        let place = Place {
-            x: length(x)?,
-            y: length(0)?,
-            z: length(0)?,
-            half: length(half)?,
-        };
-        assert_eq!(rt; extent.holds(&place), want, "{x} {half}");
+    for (x, half, want) in &BODIES {
+        let place = place_along(*x, *half)?;
+        assert_eq!(rt; extent.holds(&place), *want, "{x} {half}");
     }
     Ok(())
 }
@@ -357,7 +502,7 @@ static TEXTS: [(TableFault, &str); 13] = [
 #[test]
 fn texts_of_faults(rt: HostRuntime) -> Result<(), Fail> {
     for (fault, want) in &TEXTS {
-        let text = format!(in rt.alloc(); "{fault}")?;
+        let text = words(rt.alloc(), Some(*fault))?;
         assert_eq!(rt; text.as_str(), *want);
     }
     Ok(())
@@ -608,35 +753,45 @@ fn spreadsheet_habits_are_taken(rt: HostRuntime) -> Result<(), Fail> {
     check(&rt, File::Hydro, &SPREADSHEETS)
 }
 
+/// The text of a file from this turn on, and before it another.
+fn since(turn: u8, first: u8, text: &'static str, before: &'static str) -> &'static [u8] {
+    if turn < first {
+        before.as_bytes()
+    } else {
+        text.as_bytes()
+    }
+}
+
+/// Texts with a fault in each file, of which each turn mends one more, in their order.
+fn mended(turn: u8) -> TableTexts<'static> {
+    TableTexts {
+        cells: since(turn, 1, CELLS, ""),
+        hydro: since(turn, 2, HYDRO, ""),
+        levers: since(turn, 3, LEVERS, ""),
+        bonjean: since(turn, 4, BONJEAN, ""),
+        tanks: since(turn, 5, TANKS, "h"),
+        least_gm: Some(since(turn, 6, LEAST_GM, "")),
+    }
+}
+
+static TURNS: [(u8, &str); 7] = [
+    (0, "P13 cells.csv"),
+    (1, "P13 hydro.csv"),
+    (2, "P13 kn.csv"),
+    (3, "P13 bonjean.csv"),
+    (4, "P4 tanks.csv 1"),
+    (5, "P13 gm.csv"),
+    (6, ""),
+];
+
 /// Of several files with a fault the first in their order is named.
 #[test]
 fn first_file_with_a_fault_wins(rt: HostRuntime) -> Result<(), Fail> {
-    let mut texts = TableTexts {
-        cells: b"",
-        hydro: b"",
-        levers: b"",
-        bonjean: b"",
-        tanks: b"h",
-        least_gm: Some(b""),
-    };
-    let mut seen = String::new(rt.alloc());
-    for turn in 0..7u8 {
-        match Tables::read(rt.alloc(), extent()?, 5, &texts) {
-            Ok(_) => seen.push_str("none")?,
-            Err(fault) => write!(seen, "{fault}; ")?,
-        }
-        match turn {
-            0 => texts.cells = CELLS.as_bytes(),
-            1 => texts.hydro = HYDRO.as_bytes(),
-            2 => texts.levers = LEVERS.as_bytes(),
-            3 => texts.bonjean = BONJEAN.as_bytes(),
-            4 => texts.tanks = TANKS.as_bytes(),
-            _ => texts.least_gm = None,
-        }
+    let extent = extent()?;
+    for (turn, want) in &TURNS {
+        let fault = fault_of(rt.alloc(), &extent, &mended(*turn));
+        let refused = words(rt.alloc(), fault)?;
+        assert_eq!(rt; refused.as_str(), *want);
     }
-    assert_eq!(rt;
-        seen.as_str(),
-        "P13 cells.csv; P13 hydro.csv; P13 kn.csv; P13 bonjean.csv; P4 tanks.csv 1; P13 gm.csv; none"
-    );
     Ok(())
 }

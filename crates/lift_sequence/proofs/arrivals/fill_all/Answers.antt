@@ -1,4 +1,4 @@
-use Rattle.std.proofs.Common.{refl, arith, rules, get_or}
+use Rattle.std.proofs.Common.{refl, rules, get_or}
 use Rattle.lift_sequence.specs.Aboard.{held}
 use Rattle.lift_sequence.proofs.States.{same, fills_more}
 use Rattle.lift_sequence.proofs.arrivals.fill_all.Goals as goal

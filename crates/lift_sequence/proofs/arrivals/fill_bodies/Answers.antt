@@ -1,4 +1,4 @@
-use Rattle.std.proofs.Common.{◌≡◌, ◌+◌, Some, None, get_or, ap, sym, ◌∙◌, refl, arith, rules}
+use Rattle.std.proofs.Common.{◌≡◌, Some, get_or, refl, rules}
 use Rattle.ship_profile.specs.Record.{tank_body}
 use Rattle.lift_sequence.proofs.States.{filter_more, fills_pass}
 use Rattle.lift_sequence.proofs.arrivals.fill_bodies.Goals as goal

@@ -1,4 +1,4 @@
-use Rattle.std.proofs.Common.{refl, arith, rules}
+use Rattle.std.proofs.Common.{refl, rules}
 use Rattle.lift_sequence.specs.Aboard.{held}
 use Rattle.lift_sequence.proofs.States.{same, items_more}
 use Rattle.lift_sequence.proofs.arrivals.stow_all.Goals as goal

@@ -1,4 +1,4 @@
-use Rattle.std.proofs.Common.{◌≡◌, ◌≤◌, pos, ◌+◌, Some, None, ap, sym, ◌∙◌, refl, arith, rules}
+use Rattle.std.proofs.Common.{pos, Some, ap, sym, ◌∙◌, refl, arith, rules}
 use Rattle.ship_profile.specs.Record.{place_of}
 use Rattle.lift_sequence.specs.Aboard.{Aboard, held, container_of}
 use Rattle.lift_sequence.specs.Arrival.{items_fault}
@@ -25,9 +25,9 @@ loop-item-preserved c =
 pub returns-in-Err-clause-refused : goal.returns-in-Err-clause-refused
 returns-in-Err-clause-refused c m =
     let x = c.item-item.result in
-    let told = simp c.fault_at.ensures at m in
+    let other = rw c.fault_at.ensures.code at m in
     items_stop c.args.profile.now (held c.loop-item.stowage) c.args.items.now c.loop-item.item-index c.loop-item.number x _ c.in-Err.code (search rules) (search rules)
-    c.loop-item.invariant.legal (c.in-Err.ensures.refused told) ∙ ap (λ f. Some f) (sym c.fault_at.ensures)
+    c.loop-item.invariant.legal (c.in-Err.ensures.refused other) ∙ ap (λ f. Some f) (sym (c.fault_at.ensures.told other))
 
 pub loop-item-init : goal.loop-item-init
 loop-item-init c =

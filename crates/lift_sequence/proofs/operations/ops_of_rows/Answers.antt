@@ -1,4 +1,4 @@
-use Rattle.std.proofs.Common.{sym, ◌∙◌, ap, Some, None, refl, arith, rules}
+use Rattle.std.proofs.Common.{rules}
 use Rattle.lift_sequence.specs.Sequence.{op_of}
 use Rattle.lift_sequence.proofs.States.{filter_more}
 use Rattle.lift_sequence.proofs.operations.ops_of_rows.Goals as goal

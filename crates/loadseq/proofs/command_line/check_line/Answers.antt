@@ -1,7 +1,7 @@
 use Rattle.std.proofs.Common.{map, codes}
 use Rattle.clap.specs.Words.{takes}
 use Rattle.loadseq.specs.Words.{check_command}
-use Rattle.loadseq.proofs.LineReads.{not_true, word_is}
+use Rattle.loadseq.proofs.LineReads.{not_true, option_is, word_is}
 use Rattle.loadseq.proofs.command_line.check_line.Goals as goal
 
 pub returns-in-Err-clause-usage : goal.returns-in-Err-clause-usage
@@ -16,4 +16,5 @@ returns-clause-ok c =
       folder = word_is m _ (codes "FOLDER") c.get_str.result _ rows c.get_str.ensures c.unwrap-folder.ensures;
       baplie = word_is m _ (codes "BAPLIE") c.get_str-2.result _ rows c.get_str-2.ensures c.unwrap-baplie.ensures;
       movins = word_is m _ (codes "MOVINS") c.get_str-3.result _ rows c.get_str-3.ensures c.unwrap-movins.ensures;
+      steps = option_is m _ (codes "steps") c.get_str-steps.result rows c.get_str-steps.ensures;
     }

@@ -1,8 +1,6 @@
-use Rattle.std.proofs.Common.{◌≡◌, ◌∙◌, rules, ap, refl, true, map, List, ℕ, [], arith}
+use Rattle.std.proofs.Common.{◌∙◌, ap, map}
 use Rattle.std.proofs.lemmas.Result.{IfErr-weaker, IfOk-weaker}
-use Rattle.clap.specs.Words.{App, is_simple, is_simple_and_free, matches_of, takes, fault_of, FailsBy}
-use Rattle.clap.proofs.OnLiterals.{clap_on_literals}
-use Rattle.loadseq.specs.Words.{check_command}
+use Rattle.clap.specs.Words.{App, is_simple, is_simple_and_free, matches_of, takes, fault_of}
 use Rattle.loadseq.proofs.CheckWords.{simple, simple_and_free, fails_by_ok}
 use Rattle.loadseq.proofs.command_line.check_matches.Goals as goal
 

@@ -13,6 +13,7 @@ record Sizes (kg moment surface n d : ℤ) : Type 0 where
   pub num : FitsSigned w128 ((n *ℤ kg) -ℤ ((moment +ℤ surface) *ℤ d))
   pub den : FitsSigned w128 (d *ℤ kg)
   pub positive : pos 1 ≤ℤ (d *ℤ kg)
+  pub size : unsigned_abs (d *ℤ kg) ≤ 10 ^ 8 * 10 ^ 9
 
 sizes : (kg moment surface n d : ℤ) → pos 1 ≤ℤ kg → kg ≤ℤ pos (10 ^ 9) → unsigned_abs moment ≤ 2 ^ 20 * 10 ^ 15 → unsigned_abs surface ≤ 2 ^ 20 * 10 ^ 12
     → pos 1 ≤ℤ d → d ≤ℤ pos (10 ^ 8) → unsigned_abs n ≤ 10 ^ 14 → Sizes kg moment surface n d
@@ -33,6 +34,7 @@ sizes kg moment surface n d low high m_size s_size d_low d_high n_size =
       num = fits_within _ _ num (omega arith);
       den = fits_within _ _ den (omega arith);
       positive = product_positive d kg d_low low;
+      size = den;
     }
 
 pub overflow_sub-result : goal.overflow_sub-result
@@ -49,8 +51,8 @@ invariant_of-result c =
     let den = product_back _ _ (to_z-of_z s.bottom) (to_z-of_z kg) s.den in
     record { positive = simp den s.positive }
 
-pub returns : goal.returns
-returns c =
+pub returns-clause-value : goal.returns-clause-value
+returns-clause-value c =
     let a = c.args in let r = c.requires in let t = a.sum.now in
     let s = sizes t.kg t.height_moment t.free_surface a.kmt.num a.kmt.den r.kg_low r.kg_high r.moment_within r.surface_within a.kmt.positive r.den r.num in
     let kg : FitsSigned w128 t.kg = search rules in
@@ -62,3 +64,11 @@ returns c =
     let num = difference_back _ _ left right s.num in
     let den = product_back _ _ (to_z-of_z s.bottom) (to_z-of_z kg) s.den in
     simp (num, den)
+
+pub returns-clause-den : goal.returns-clause-den
+returns-clause-den c =
+    let a = c.args in let r = c.requires in let t = a.sum.now in
+    let s = sizes t.kg t.height_moment t.free_surface a.kmt.num a.kmt.den r.kg_low r.kg_high r.moment_within r.surface_within a.kmt.positive r.den r.num in
+    let kg : FitsSigned w128 t.kg = search rules in
+    let den = product_back _ _ (to_z-of_z s.bottom) (to_z-of_z kg) s.den in
+    rw den s.size

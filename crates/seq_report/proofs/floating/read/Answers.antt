@@ -1,4 +1,4 @@
-use Rattle.std.proofs.Common.{rules, ◌≤◌, ◌*◌, ◌^◌, ◌+◌, pos, ◌-ℤ◌, ◌≤ℤ◌, unsigned_abs, get_or, FitsSigned, to_z-of_z, arith}
+use Rattle.std.proofs.Common.{rules, ◌≤◌, ◌^◌, ◌+◌, pos, ◌-ℤ◌, unsigned_abs, get_or, FitsSigned, to_z-of_z, arith}
 use Rattle.std.specs.Int.{w128}
 use Rattle.units_core.specs.Interpolation.{at}
 use Rattle.units_core.proofs.Signed.{signed_arith, one_part}

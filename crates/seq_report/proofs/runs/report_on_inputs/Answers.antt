@@ -1,4 +1,4 @@
-use Rattle.std.proofs.Common.{◌≡◌, ◌∙◌, ap, string_bytes}
+use Rattle.std.proofs.Common.{◌≡◌, ◌∙◌, ap}
 use Rattle.std.proofs.lemmas.Result.{IfOk-weaker, IfErr-weaker}
 use Rattle.seq_report.specs.Refusal.{◌>>=◌, outcome_for, outcome_of}
 use Rattle.seq_report.proofs.runs.report_on_inputs.Goals as goal

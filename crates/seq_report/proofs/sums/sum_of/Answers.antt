@@ -1,4 +1,4 @@
-use Rattle.std.proofs.Common.{rules, ◌≡◌, ◌∙◌, ◌^◌, ◌≤◌, pos, ap, unsigned_abs, FitsSigned, to_z, of_z, to_z-of_z, arith}
+use Rattle.std.proofs.Common.{rules, ◌∙◌, ◌^◌, ◌≤◌, pos, ap, unsigned_abs, FitsSigned, to_z, to_z-of_z, arith}
 use Rattle.std.specs.Int.{w64, w128}
 use Rattle.units_core.proofs.Signed.{signed_arith, one_part}
 use Rattle.seq_report.specs.Sums.{weight_of, height_moment, free_surface}

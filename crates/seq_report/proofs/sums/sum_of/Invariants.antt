@@ -1,5 +1,6 @@
 use Rattle.std.proofs.Common.{◌≡◌, ◌≤◌, ◌*◌, ◌^◌, take, unsigned_abs}
-use Rattle.seq_report.specs.Sums.{total, weight_of, height_moment, free_surface}
+use Rattle.lift_sequence.specs.Totals.{total}
+use Rattle.seq_report.specs.Sums.{weight_of, height_moment, free_surface}
 use Rattle.seq_report.proofs.sums.sum_of.Given as goal
 
 abbrev pub invariant-loop-body : goal.invariant-loop-body

@@ -1,4 +1,4 @@
-use Rattle.std.proofs.Common.{◌≡◌, ◌∙◌, ap, length}
+use Rattle.std.proofs.Common.{◌∙◌, ap, length}
 use Rattle.lift_sequence.specs.Aboard.{held}
 use Rattle.lift_sequence.proofs.States.{as_many}
 use Rattle.lift_sequence.proofs.sequences.Sequence.new.Goals as goal

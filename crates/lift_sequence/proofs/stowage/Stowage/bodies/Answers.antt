@@ -1,9 +1,8 @@
-use Rattle.std.proofs.Common.{◌≡◌, ℕ, ◌≤◌, Some, length, rules}
+use Rattle.std.proofs.Common.{Some, length, rules}
 use Rattle.std.specs.List.{range_with_len}
 use Rattle.std.proofs.lemmas.List.FromFn.{length-range_with_len}
 use Rattle.units_core.specs.declared.bodies.Place.{Place}
 use Rattle.units_core.specs.declared.cells.Cell.{Cell}
-use Rattle.units_core.specs.Bodies.{Mass}
 use Rattle.lift_sequence.specs.Aboard.{held}
 use Rattle.lift_sequence.specs.Bodies.{body_in, filling_in}
 use Rattle.lift_sequence.proofs.Listings.{fillings, containers, sum_parts, few_parts}

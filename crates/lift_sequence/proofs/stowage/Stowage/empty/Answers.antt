@@ -1,4 +1,4 @@
-use Rattle.std.proofs.Common.{refl, arith, rules}
+use Rattle.std.proofs.Common.{rules}
 use Rattle.lift_sequence.proofs.States.{same}
 use Rattle.lift_sequence.proofs.stowage.Stowage.empty.Goals as goal
 

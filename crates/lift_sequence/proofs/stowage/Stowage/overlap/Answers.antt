@@ -1,4 +1,4 @@
-use Rattle.std.proofs.Common.{◌≡◌, ◌⊎◌, inl, inr, sym, ◌∙◌, ap, Some, arith, rules}
+use Rattle.std.proofs.Common.{sym, ◌∙◌, ap, Some, rules}
 use Rattle.lift_sequence.specs.Aboard.{held}
 use Rattle.lift_sequence.proofs.Overlaps.{found, none_found}
 use Rattle.lift_sequence.proofs.stowage.Stowage.overlap.Goals as goal

@@ -1,0 +1,142 @@
+ghost use Rattle.std.specs.Prelude.{◌≡◌, ◌≢◌, ◌≤◌, length, option_map, false, IfOk, IfErr, Ok, Err};
+ghost use Rattle.lift_sequence.specs.Arrival.{on_arrival};
+ghost use Rattle.lift_sequence.specs.Sequence.{IsOf};
+ghost use Rattle.seq_report.specs.Refusal.{TellsMemory, arrival_in, is_write, items_in, lifts_in, orders_in, orders_on, rows_of, sequence_in, ship_in};
+
+use crate::faults::RunFault;
+use lift_sequence::{Arrival, Op, SeqCode, Sequence, ops};
+use ship_profile::{Profile, ProfileBytes, ProfileFault};
+use std::alloc::{AllocError, Global};
+use stow_messages::{Item, Lift, StepRow, StepsCode, StowCode, baplie, movins, steps};
+
+/// The texts that a run reads: the files of the ship's profile, the bay plan on arrival, the movement instruction, and the planner's steps
+/// file, if there is one. Without it the steps are the lifts of the instruction, in their order.
+#[derive(Clone, Copy)]
+pub struct Inputs<'a> {
+    pub profile: ProfileBytes<'a>,
+    pub baplie: &'a [u8],
+    pub movins: &'a [u8],
+    pub steps: Option<&'a [u8]>,
+}
+
+/// The ship's profile.
+pub fn ship(alloc: Global, inputs: &Inputs<'_>) -> Result<Profile, RunFault>
+    ensures ok { IfOk result (λ ship. ship_in inputs.now ≡ Ok ship) }
+    ensures refused { IfErr result (λ e. e ≢ RunFault.NoMemory → ship_in inputs.now ≡ Err e) }
+    ensures memory { IfErr result TellsMemory }
+    ensures silent { is_write result ≡ false }
+{
+    match Profile::read(alloc, &inputs.profile) {
+        Ok(profile) => Ok(profile),
+        Err(ProfileFault::NoMemory) => Err(RunFault::NoMemory),
+        Err(fault) => Err(RunFault::Profile(fault)),
+    }
+}
+
+/// The items of the bay plan.
+pub fn items(alloc: Global, inputs: &Inputs<'_>) -> Result<Vec<Item>, RunFault>
+    ensures ok { IfOk result (λ items. items_in inputs.now ≡ Ok items.items) }
+    ensures refused { IfErr result (λ e. e ≢ RunFault.NoMemory → items_in inputs.now ≡ Err e) }
+    ensures memory { IfErr result TellsMemory }
+    ensures silent { is_write result ≡ false }
+{
+    match baplie(alloc, inputs.baplie) {
+        Ok(items) => Ok(items),
+        Err(fault) if fault.code == StowCode::NoMemory => Err(RunFault::NoMemory),
+        Err(fault) => Err(RunFault::Baplie(fault)),
+    }
+}
+
+/// The condition of the ship on arrival with these items.
+pub fn arrival(alloc: Global, profile: &Profile, items: Vec<Item>) -> Result<Arrival, RunFault>
+    ensures ok { IfOk result (λ a. arrival_in profile.now items.items ≡ Ok (on_arrival a.items a.fills)) }
+    ensures of { IfOk result (λ a. IsOf profile.now a) }
+    ensures refused { IfErr result (λ e. e ≢ RunFault.NoMemory → arrival_in profile.now items.items ≡ Err e) }
+    ensures memory { IfErr result TellsMemory }
+    ensures silent { is_write result ≡ false }
+{
+    match Arrival::new(alloc, profile, items, profile.fills()) {
+        Ok(arrival) => Ok(arrival),
+        Err(fault) if fault.code == SeqCode::NoMemory => Err(RunFault::NoMemory),
+        Err(fault) => Err(RunFault::Arrival(fault)),
+    }
+}
+
+/// The lifts of the movement instruction.
+fn lifts(alloc: Global, inputs: &Inputs<'_>) -> Result<Vec<Lift>, RunFault>
+    ensures ok { IfOk result (λ lifts. lifts_in inputs.now ≡ Ok lifts.items) }
+    ensures refused { IfErr result (λ e. e ≢ RunFault.NoMemory → lifts_in inputs.now ≡ Err e) }
+    ensures memory { IfErr result TellsMemory }
+    ensures silent { is_write result ≡ false }
+    ensures few { IfOk result (λ lifts. length lifts.items ≤ 200000) }
+{
+    match movins(alloc, inputs.movins) {
+        Ok(lifts) => Ok(lifts),
+        Err(fault) if fault.code == StowCode::NoMemory => Err(RunFault::NoMemory),
+        Err(fault) => Err(RunFault::Movins(fault)),
+    }
+}
+
+/// The rows of the steps file, where there is one.
+fn rows(alloc: Global, text: Option<&[u8]>, lifts: u32) -> Result<Option<Vec<StepRow>>, RunFault>
+    ensures ok { IfOk result (λ rows. rows_of (option_map (λ t. t.now) text.entry) lifts ≡ Ok (option_map (λ r. r.items) rows)) }
+    ensures refused { IfErr result (λ e. e ≢ RunFault.NoMemory → rows_of (option_map (λ t. t.now) text.entry) lifts ≡ Err e) }
+    ensures memory { IfErr result TellsMemory }
+    ensures silent { is_write result ≡ false }
+{
+    let Some(text) = text else {
+        return Ok(None);
+    };
+    match steps(alloc, text, lifts) {
+        Ok(rows) => Ok(Some(rows)),
+        Err(fault) if fault.code == StepsCode::NoMemory => Err(RunFault::NoMemory),
+        Err(fault) => Err(RunFault::Steps(fault)),
+    }
+}
+
+/// The steps that the lifts come to, with the steps file.
+fn orders_on(alloc: Global, inputs: &Inputs<'_>, lifts: Vec<Lift>) -> Result<Vec<Op>, RunFault>
+    requires { length lifts.items ≤ 200000 }
+    ensures ok { IfOk result (λ o. orders_on inputs.now lifts.items ≡ Ok o.items) }
+    ensures refused { IfErr result (λ e. e ≢ RunFault.NoMemory → orders_on inputs.now lifts.items ≡ Err e) }
+    ensures memory { IfErr result TellsMemory }
+    ensures silent { is_write result ≡ false }
+{
+    let rows = rows(alloc, inputs.steps, lifts.len() as u32)?;
+    match ops(alloc, lifts, rows) {
+        Ok(ops) => Ok(ops),
+        Err(AllocError) => Err(RunFault::NoMemory),
+    }
+}
+
+/// The steps that the movement instruction and the steps file order.
+pub fn orders(alloc: Global, inputs: &Inputs<'_>) -> Result<Vec<Op>, RunFault>
+    ensures ok { IfOk result (λ o. orders_in inputs.now ≡ Ok o.items) }
+    ensures refused { IfErr result (λ e. e ≢ RunFault.NoMemory → orders_in inputs.now ≡ Err e) }
+    ensures memory { IfErr result TellsMemory }
+    ensures silent { is_write result ≡ false }
+{
+    let lifts = lifts(alloc, inputs)?;
+    orders_on(alloc, inputs, lifts)
+}
+
+/// The sequence of these steps from the condition on arrival.
+pub fn sequence(
+    alloc: Global,
+    profile: &Profile,
+    arrival: &Arrival,
+    ops: Vec<Op>,
+) -> Result<Sequence, RunFault>
+    requires { IsOf profile.now arrival.now }
+    ensures ok { IfOk result (λ s. sequence_in profile.now (on_arrival arrival.now.items arrival.now.fills) ops.items ≡ Ok s.ops) }
+    ensures few { IfOk result (λ s. length s.ops ≤ 120000) }
+    ensures refused { IfErr result (λ e. e ≢ RunFault.NoMemory → sequence_in profile.now (on_arrival arrival.now.items arrival.now.fills) ops.items ≡ Err e) }
+    ensures memory { IfErr result TellsMemory }
+    ensures silent { is_write result ≡ false }
+{
+    match Sequence::new(alloc, profile, arrival, ops) {
+        Ok(sequence) => Ok(sequence),
+        Err(fault) if fault.code == SeqCode::NoMemory => Err(RunFault::NoMemory),
+        Err(fault) => Err(RunFault::Sequence(fault)),
+    }
+}

@@ -1,0 +1,80 @@
+ghost use Rattle.std.specs.Prelude.{◌≡◌, ◌≤◌, ◌++◌, flat_map, length, IfOk, OnOk, option_map, string_bytes};
+ghost use Rattle.std.specs.Option.{option_or};
+ghost use Rattle.lift_sequence.specs.Aboard.{held, moved};
+ghost use Rattle.seq_report.specs.Report.{failure_of, first_of, line_of, lines_behind, step_line, text_of};
+
+use crate::criteria::judge;
+use crate::drafts::Draft;
+use crate::lines::StepLine;
+use crate::sums::sum_of;
+use lift_sequence::{Op, Sequence, Stowage};
+use ship_profile::Profile;
+use std::alloc::{AllocError, Global};
+
+/// What is said of a step with this aboard, by adding up everything that is aboard.
+fn step_line(
+    alloc: Global,
+    profile: &Profile,
+    stowage: &Stowage,
+    step: u32,
+) -> Result<StepLine, AllocError>
+    ensures { IfOk result (λ line. line ≡ step_line profile.now step (held stowage.now)) }
+{
+    let bodies = stowage.bodies(alloc, profile)?;
+    let sum = sum_of(&bodies);
+    Ok(StepLine {
+        step,
+        kg: sum.kg,
+        verdict: judge(profile.hydro(), &sum),
+    })
+}
+
+/// Adds the line of a step with this aboard, and what leads to it.
+pub fn add_step(
+    alloc: Global,
+    profile: &Profile,
+    stowage: &Stowage,
+    step: u32,
+    lift: Option<&Op>,
+    draft: &mut Draft,
+) -> Result<(), AllocError>
+    ensures text { OnOk result (string_bytes draft.new.text ≡ string_bytes draft.old.text
+        ++ line_of (option_map (λ op. op.now) lift.entry) (step_line profile.now step (held stowage.now))) }
+    ensures first { OnOk result (draft.new.first ≡ option_or draft.old.first (failure_of (step_line profile.now step (held stowage.now)))) }
+{
+    let line = step_line(alloc, profile, stowage, step)?;
+    draft.add(lift, &line)
+}
+
+/// Does a step of a sequence, which can be done where it comes: only memory can be wanting.
+fn make(stowage: &mut Stowage, profile: &Profile, op: &Op) -> Result<(), AllocError>
+    ensures { OnOk result (held stowage.new ≡ moved profile.now (held stowage.old) op.now) }
+{
+    match stowage.make(profile, op) {
+        Ok(_) => Ok(()),
+        Err(_) => Err(AllocError),
+    }
+}
+
+/// Does all steps of a sequence, and adds the line of each.
+pub fn add_steps(
+    alloc: Global,
+    profile: &Profile,
+    stowage: &mut Stowage,
+    sequence: &Sequence,
+    draft: &mut Draft,
+) -> Result<(), AllocError>
+    requires { length sequence.now.ops ≤ 120000 }
+    ensures text { OnOk result (string_bytes draft.new.text ≡ string_bytes draft.old.text
+        ++ flat_map text_of (lines_behind profile.now 0 (held stowage.old) sequence.now.ops)) }
+    ensures first { OnOk result (draft.new.first ≡ option_or draft.old.first (first_of (lines_behind profile.now 0 (held stowage.old) sequence.now.ops))) }
+{
+    let mut step = 0;
+    for index in 0..sequence.len() {
+        let op = sequence.lift(index + 1);
+        step += 1;
+        make(stowage, profile, op)?;
+        add_step(alloc, profile, stowage, step, Some(op), draft)?;
+    }
+    Ok(())
+}

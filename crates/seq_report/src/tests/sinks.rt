@@ -1,0 +1,100 @@
+use super::IDLE;
+use crate::{RunFault, Sink, SinkFailed, Summary, Through, report};
+use std::io;
+use std::io::{ErrorKind, Write};
+
+/// A writer that takes `left` bytes, `most` of them a call, and then fails.
+#[derive(Drop)]
+struct Failing<'a> {
+    taken: &'a mut Vec<u8>,
+    left: usize,
+    most: usize,
+}
+
+impl<'a> Write for Failing<'a> {
+    fn write(&mut self, bytes: &[u8]) -> io::Result<usize> {
+        let taken = bytes.len().min(self.left).min(self.most);
+        if taken == 0 && self.most > 0 {
+            return Err(io::Error::from(ErrorKind::WriteZero));
+        }
+        self.taken.extend_from_slice(&bytes[..taken])?;
+        self.left -= taken;
+        Ok(taken)
+    }
+
+    fn flush(&mut self) -> io::Result<()> {
+        Ok(())
+    }
+}
+
+#[test]
+fn writer_fails_after_seven(rt: HostRuntime) {
+    let mut taken = Vec::new(rt.alloc());
+    let outcome = {
+        let writer = Failing {
+            taken: &mut taken,
+            left: 7,
+            most: 100,
+        };
+        report(rt.alloc(), &IDLE.inputs(), &mut Through::new(writer))
+    };
+    assert_eq!(rt; outcome, Err(RunFault::Write(7)));
+    assert_eq!(rt; taken.as_slice(), b"STEP LI".as_slice());
+}
+
+// Wherever a writer fails, it holds the front of the report of the length that is said.
+#[test]
+fn failing_writers(rt: HostRuntime) {
+    let whole = b"STEP LIFT KG GM MEAN VERDICT\n0 - 8200000 4333 4000 PASS\nALL PASS\n";
+    for (most, limit) in [(1, 66), (5, 66), (100, 66)] {
+        for left in 0..limit {
+            let mut taken = Vec::new(rt.alloc());
+            let outcome = {
+                let writer = Failing {
+                    taken: &mut taken,
+                    left,
+                    most,
+                };
+                report(rt.alloc(), &IDLE.inputs(), &mut Through::new(writer))
+            };
+            let expected = if left < 65 {
+                Err(RunFault::Write(left))
+            } else {
+                Ok(Summary {
+                    lines: 1,
+                    first: None,
+                })
+            };
+            assert_eq!(rt; outcome, expected, "{left} bytes, {most} a call");
+            assert_eq!(rt; taken.as_slice(), &whole[..left.min(65)]);
+        }
+    }
+    let mut taken = Vec::new(rt.alloc());
+    let writer = Failing {
+        taken: &mut taken,
+        left: 100,
+        most: 0,
+    };
+    let outcome = report(rt.alloc(), &IDLE.inputs(), &mut Through::new(writer));
+    assert_eq!(rt; outcome, Err(RunFault::Write(0)));
+}
+
+// A sink over a writer fails only where a write failed or took nothing.
+#[test]
+fn sink_over_a_writer(rt: HostRuntime) {
+    let mut taken = Vec::new(rt.alloc());
+    {
+        let mut sink = Through::new(Failing {
+            taken: &mut taken,
+            left: 5,
+            most: 3,
+        });
+        assert!(rt; !sink.failed());
+        assert_eq!(rt; sink.put(b"abcdef"), Ok(3));
+        assert!(rt; !sink.failed());
+        assert_eq!(rt; sink.put(b"def"), Ok(2));
+        assert_eq!(rt; sink.put(b"f"), Err(SinkFailed));
+        assert!(rt; sink.failed());
+    }
+    assert_eq!(rt; taken.as_slice(), b"abcde".as_slice());
+}
