@@ -4,18 +4,6 @@ use std::alloc::Global;
 use std::process::Abort;
 use std::test::Fail;
 
-/// The texts of a profile's files.
-#[derive(Clone, Copy)]
-pub struct Files<'a> {
-    pub ship: &'a str,
-    pub cells: &'a str,
-    pub hydro: &'a str,
-    pub kn: &'a str,
-    pub bonjean: &'a str,
-    pub tanks: &'a str,
-    pub gm: Option<&'a str>,
-}
-
 pub static SHIP: &str = "lbp_mm = 100000
 downflooding_deg = 60
 draught_max_mm = 6100
@@ -117,16 +105,22 @@ fn write_key(text: &mut String, name: &str, value: &str) -> Result<(), Fail> {
     Ok(())
 }
 
+/// Writes the first keys of a box ship, so many of them, one of them with another value.
+fn write_keys(text: &mut String, count: usize, key: &str, value: &str) -> Result<(), Fail> {
+    for (name, own) in KEYS.iter().take(count) {
+        if *name == key {
+            write_key(text, name, value)?;
+        } else {
+            write_key(text, name, own)?;
+        }
+    }
+    Ok(())
+}
+
 /// The first keys of a box ship, so many of them, one of them with another value; an empty one leaves the key out.
 pub fn first_keys(alloc: Global, count: usize, key: &str, value: &str) -> Result<String, Fail> {
     let mut text = String::new(alloc);
-    for (name, own) in KEYS.iter().take(count) {
-        if *name == key {
-            write_key(&mut text, name, value)?;
-        } else {
-            write_key(&mut text, name, own)?;
-        }
-    }
+    write_keys(&mut text, count, key, value)?;
     Ok(text)
 }
 
@@ -135,95 +129,99 @@ pub fn ship_with(alloc: Global, key: &str, value: &str) -> Result<String, Fail> 
     first_keys(alloc, KEYS.len(), key, value)
 }
 
-/// The box ship.
-pub fn box_ship(alloc: Global) -> Result<Profile, ProfileFault> {
-    read_box(alloc, SHIP, CELLS, TANKS, None)
-}
-
-/// The profile of these files.
-pub fn read(alloc: Global, files: &Files<'_>) -> Result<Profile, ProfileFault> {
-    Profile::read(
-        alloc,
-        &ProfileBytes {
-            ship: files.ship.as_bytes(),
-            cells: files.cells.as_bytes(),
-            hydro: files.hydro.as_bytes(),
-            kn: files.kn.as_bytes(),
-            bonjean: files.bonjean.as_bytes(),
-            tanks: files.tanks.as_bytes(),
-            gm: match files.gm {
-                Some(text) => Some(text.as_bytes()),
-                None => None,
-            },
+/// The files of the box ship with other texts of these.
+pub fn box_files<'a>(
+    ship: &'a str,
+    cells: &'a str,
+    tanks: &'a str,
+    gm: Option<&'a str>,
+) -> ProfileBytes<'a> {
+    ProfileBytes {
+        ship: ship.as_bytes(),
+        cells: cells.as_bytes(),
+        hydro: HYDRO.as_bytes(),
+        kn: KN.as_bytes(),
+        bonjean: BONJEAN.as_bytes(),
+        tanks: tanks.as_bytes(),
+        gm: match gm {
+            Some(text) => Some(text.as_bytes()),
+            None => None,
         },
-    )
+    }
 }
 
-/// A `ship.toml` of the box ship in which one key has another value: each value, and the words of its fault; none for a value that
-/// is taken.
+/// What a look at what was read gives. What was read is of any type here, so that no proof has to take a profile apart.
+pub fn seen<T: Drop, R, F: FnOnce(&T) -> R>(
+    read: Result<T, ProfileFault>,
+    look: F,
+) -> Result<R, Fail>
+    requires { F.IsAlwaysCallable look }
+{
+    match read {
+        Ok(value) => Ok(look(&value)),
+        Err(fault) => Err(Fail::new(fault)),
+    }
+}
+
+/// The words of a fault; none where there is none.
+pub fn words(alloc: Global, fault: Option<ProfileFault>) -> Result<String, Fail> {
+    match fault {
+        Some(fault) => Ok(format!(in alloc; "{fault}")?),
+        None => Ok(String::new(alloc)),
+    }
+}
+
+/// The words of the fault of these files; none where they are a profile.
+pub fn refusal(alloc: Global, files: &ProfileBytes<'_>) -> Result<String, Fail> {
+    words(alloc, Profile::read(alloc, files).err())
+}
+
+/// Compares words with those that are wanted of a case.
+pub fn check_words(rt: &impl Abort, words: &str, want: &str, case: &str) {
+    assert_eq!(rt; words, want, "{case}");
+}
+
+/// Reads files and compares the words of their fault; none for files that are taken.
+pub fn check_files(
+    rt: &(impl Abort + AllocGlobal),
+    files: &ProfileBytes<'_>,
+    want: &str,
+    case: &str,
+) -> Result<(), Fail> {
+    let refused = refusal(rt.alloc(), files)?;
+    check_words(rt, refused.as_str(), want, case);
+    Ok(())
+}
+
+/// The same for the box ship with another `ship.toml`.
+pub fn check_ship(
+    rt: &(impl Abort + AllocGlobal),
+    ship: &str,
+    want: &str,
+    case: &str,
+) -> Result<(), Fail> {
+    check_files(rt, &box_files(ship, CELLS, TANKS, None), want, case)
+}
+
+/// The same for the box ship with another value of a key.
+pub fn check_value(
+    rt: &(impl Abort + AllocGlobal),
+    key: &str,
+    value: &str,
+    want: &str,
+) -> Result<(), Fail> {
+    let ship = ship_with(rt.alloc(), key, value)?;
+    check_ship(rt, ship.as_str(), want, value)
+}
+
+/// The values of a key, each with the words of its fault; none for a value that is taken.
 pub fn check_values(
     rt: &(impl Abort + AllocGlobal),
     key: &str,
     rows: &[(&str, &str)],
 ) -> Result<(), Fail> {
     for (value, want) in rows {
-        let ship = ship_with(rt.alloc(), key, value)?;
-        let refused = ship_refusal(rt.alloc(), ship.as_str())?;
-        assert_eq!(rt; refused.as_str(), *want, "{key} {value}");
+        check_value(rt, key, value, want)?;
     }
     Ok(())
-}
-
-/// The profile of the box ship with other texts of these files.
-pub fn read_box(
-    alloc: Global,
-    ship: &str,
-    cells: &str,
-    tanks: &str,
-    gm: Option<&str>,
-) -> Result<Profile, ProfileFault> {
-    Profile::read(
-        alloc,
-        &ProfileBytes {
-            ship: ship.as_bytes(),
-            cells: cells.as_bytes(),
-            hydro: HYDRO.as_bytes(),
-            kn: KN.as_bytes(),
-            bonjean: BONJEAN.as_bytes(),
-            tanks: tanks.as_bytes(),
-            gm: match gm {
-                Some(text) => Some(text.as_bytes()),
-                None => None,
-            },
-        },
-    )
-}
-
-/// The words of a fault; none where there is a profile.
-fn words(alloc: Global, read: Result<Profile, ProfileFault>) -> Result<String, Fail> {
-    match read {
-        Ok(_) => Ok(String::new(alloc)),
-        Err(fault) => Ok(format!(in alloc; "{fault}")?),
-    }
-}
-
-/// The words of the fault of these files; none where they are a profile.
-pub fn refusal(alloc: Global, files: &Files<'_>) -> Result<String, Fail> {
-    words(alloc, read(alloc, files))
-}
-
-/// The words of the fault of the box ship with other texts of these files; none where it is a profile.
-pub fn box_refusal(
-    alloc: Global,
-    ship: &str,
-    cells: &str,
-    tanks: &str,
-    gm: Option<&str>,
-) -> Result<String, Fail> {
-    words(alloc, read_box(alloc, ship, cells, tanks, gm))
-}
-
-/// The words of the fault of the box ship with another `ship.toml`; none where it is a profile.
-pub fn ship_refusal(alloc: Global, ship: &str) -> Result<String, Fail> {
-    box_refusal(alloc, ship, CELLS, TANKS, None)
 }

@@ -1,5 +1,6 @@
 //! The keys of `ship.toml`: each missing, of another type, out of its limits, and what is asked of it besides.
-use super::files::{check_values, first_keys, ship_refusal, ship_with};
+use super::files::{check_ship, check_value, check_values, first_keys, ship_with};
+use std::process::Abort;
 use std::test::Fail;
 
 /// Texts and the words of their faults.
@@ -15,8 +16,7 @@ static DOCUMENTS: [(&str, &str); 6] = [
 #[test]
 fn documents(rt: HostRuntime) -> Result<(), Fail> {
     for (text, want) in &DOCUMENTS {
-        let refused = ship_refusal(rt.alloc(), text)?;
-        assert_eq!(rt; refused.as_str(), *want, "{text}");
+        check_ship(&rt, text, want, text)?;
     }
     Ok(())
 }
@@ -34,26 +34,26 @@ static ORDER: [&str; 9] = [
     "frames",
 ];
 
+/// Reads a `ship.toml` in which this key is missed.
+fn check_missing(rt: &(impl Abort + AllocGlobal), ship: &str, key: &str) -> Result<(), Fail> {
+    let want = format!(in rt.alloc(); "P2 {key}")?;
+    check_ship(rt, ship, want.as_str(), key)
+}
+
 #[test]
 fn first_missing_key(rt: HostRuntime) -> Result<(), Fail> {
-    let alloc = rt.alloc();
     for (count, key) in ORDER.iter().enumerate() {
-        let ship = first_keys(alloc, count, "", "")?;
-        let refused = ship_refusal(alloc, ship.as_str())?;
-        let want = format!(in alloc; "P2 {key}")?;
-        assert_eq!(rt; refused.as_str(), want.as_str());
+        let ship = first_keys(rt.alloc(), count, "", "")?;
+        check_missing(&rt, ship.as_str(), key)?;
     }
     Ok(())
 }
 
 #[test]
 fn one_missing_key(rt: HostRuntime) -> Result<(), Fail> {
-    let alloc = rt.alloc();
     for key in &ORDER {
-        let ship = ship_with(alloc, key, "")?;
-        let refused = ship_refusal(alloc, ship.as_str())?;
-        let want = format!(in alloc; "P2 {key}")?;
-        assert_eq!(rt; refused.as_str(), want.as_str());
+        let ship = ship_with(rt.alloc(), key, "")?;
+        check_missing(&rt, ship.as_str(), key)?;
     }
     Ok(())
 }
@@ -61,57 +61,85 @@ fn one_missing_key(rt: HostRuntime) -> Result<(), Fail> {
 /// Values that are neither an integer nor an array.
 static OTHERS: [&str; 5] = ["1.0", "\"1\"", "true", "1979-05-27", "{kg = 1}"];
 
-#[test]
-fn values_of_another_type(rt: HostRuntime) -> Result<(), Fail> {
-    let alloc = rt.alloc();
-    for key in &ORDER {
-        let want = format!(in alloc; "P3 {key}")?;
-        for value in &OTHERS {
-            let ship = ship_with(alloc, key, value)?;
-            let refused = ship_refusal(alloc, ship.as_str())?;
-            assert_eq!(rt; refused.as_str(), want.as_str(), "{value}");
-        }
+/// Gives a key values of another type.
+fn check_others(rt: &(impl Abort + AllocGlobal), key: &str) -> Result<(), Fail> {
+    let want = format!(in rt.alloc(); "P3 {key}")?;
+    for value in &OTHERS {
+        check_value(rt, key, value, want.as_str())?;
     }
     Ok(())
 }
 
 #[test]
-fn arrays_and_numbers(rt: HostRuntime) -> Result<(), Fail> {
-    check_values(&rt, "lbp_mm", &[("[1]", "P3 lbp_mm")])?;
-    check_values(&rt, "closing_max_kg", &[("[1]", "P3 closing_max_kg")])?;
-    check_values(&rt, "stations_mm", &[("1", "P3 stations_mm")])?;
-    check_values(&rt, "blocks", &[("1", "P3 blocks")])?;
-    check_values(&rt, "frames", &[("1", "P3 frames")])?;
-    check_values(&rt, "fills", &[("1", "P3 fills")])
+fn values_of_another_type(rt: HostRuntime) -> Result<(), Fail> {
+    for key in &ORDER {
+        check_others(&rt, key)?;
+    }
+    Ok(())
 }
 
-/// A key, the least and the greatest number that it takes.
-static RANGES: [(&str, i64, i64); 5] = [
-    ("lbp_mm", 1, 1_000_000),
-    ("draught_max_mm", 1, 100_000),
-    ("trim_max_mm", 0, 100_000),
-    ("list_max", 0, 10_000),
-    ("closing_max_kg", 0, 1_000_000_000),
+/// Keys, each with an array for a number or a number for an array.
+static ARRAYS: [(&str, &str, &str); 6] = [
+    ("lbp_mm", "[1]", "P3 lbp_mm"),
+    ("closing_max_kg", "[1]", "P3 closing_max_kg"),
+    ("stations_mm", "1", "P3 stations_mm"),
+    ("blocks", "1", "P3 blocks"),
+    ("frames", "1", "P3 frames"),
+    ("fills", "1", "P3 fills"),
+];
+
+#[test]
+fn arrays_and_numbers(rt: HostRuntime) -> Result<(), Fail> {
+    for (key, value, want) in &ARRAYS {
+        check_value(&rt, key, value, want)?;
+    }
+    Ok(())
+}
+
+/// The words for a number that is out of its limits.
+static OUT_OF_LIMITS: &str = "P6 ship.toml 0";
+
+/// Reads a number in a key's value, with what stands before it and behind it there, and compares the words of its fault.
+fn check_number(
+    rt: &(impl Abort + AllocGlobal),
+    key: &str,
+    before: &str,
+    after: &str,
+    number: i64,
+    want: &str,
+) -> Result<(), Fail> {
+    let value = format!(in rt.alloc(); "{before}{number}{after}")?;
+    check_value(rt, key, value.as_str(), want)
+}
+
+/// Reads both ends of ranges, and one past each: the key, what stands before the number in the key's value and behind it, and the
+/// ends; then the words of what is below and of what is above.
+fn check_ranges(
+    rt: &(impl Abort + AllocGlobal),
+    ranges: &[(&str, &str, &str, i64, i64)],
+    below: &str,
+    above: &str,
+) -> Result<(), Fail> {
+    for (key, before, after, low, high) in ranges {
+        check_number(rt, key, before, after, *low, "")?;
+        check_number(rt, key, before, after, *high, "")?;
+        check_number(rt, key, before, after, low.saturating_sub(1), below)?;
+        check_number(rt, key, before, after, high.saturating_add(1), above)?;
+    }
+    Ok(())
+}
+
+static RANGES: [(&str, &str, &str, i64, i64); 5] = [
+    ("lbp_mm", "", "", 1, 1_000_000),
+    ("draught_max_mm", "", "", 1, 100_000),
+    ("trim_max_mm", "", "", 0, 100_000),
+    ("list_max", "", "", 0, 10_000),
+    ("closing_max_kg", "", "", 0, 1_000_000_000),
 ];
 
 #[test]
 fn ranges_of_numbers(rt: HostRuntime) -> Result<(), Fail> {
-    let alloc = rt.alloc();
-    for (key, low, high) in &RANGES {
-        let (low, high) = (*low, *high);
-        for (value, want) in [
-            (low, ""),
-            (high, ""),
-            (low - 1, "P6 ship.toml 0"),
-            (high + 1, "P6 ship.toml 0"),
-        ] {
-            let number = format!(in alloc; "{value}")?;
-            let ship = ship_with(alloc, key, number.as_str())?;
-            let refused = ship_refusal(alloc, ship.as_str())?;
-            assert_eq!(rt; refused.as_str(), want, "{key} {value}");
-        }
-    }
-    Ok(())
+    check_ranges(&rt, &RANGES, OUT_OF_LIMITS, OUT_OF_LIMITS)
 }
 
 /// Angles of down-flooding: out of limits, then too small.
@@ -279,46 +307,53 @@ fn fills(rt: HostRuntime) -> Result<(), Fail> {
     check_values(&rt, "fills", &FILLS)
 }
 
-/// The keys of a block: the least and the greatest number of each, and the words of one below and of one above.
-static BLOCK_RANGES: [(&str, i64, i64, &str, &str); 5] = [
-    ("kg", 1, 1_000_000_000, "P6 ship.toml 0", "P6 ship.toml 0"),
-    ("x_mm", 0, 100_000, "P10 ship.toml 1", "P10 ship.toml 1"),
+static BLOCK_RANGES: [(&str, &str, &str, i64, i64); 3] = [
     (
-        "y_mm",
-        -1_000_000,
-        1_000_000,
-        "P6 ship.toml 0",
-        "P6 ship.toml 0",
+        "blocks",
+        "[{kg = ",
+        ", x_mm = 50000, y_mm = 0, z_mm = 0, half_mm = 0}]",
+        1,
+        1_000_000_000,
     ),
     (
-        "z_mm",
+        "blocks",
+        "[{kg = 1, x_mm = 50000, y_mm = ",
+        ", z_mm = 0, half_mm = 0}]",
         -1_000_000,
         1_000_000,
-        "P6 ship.toml 0",
-        "P6 ship.toml 0",
     ),
-    ("half_mm", 0, 50_000, "P6 ship.toml 0", "P10 ship.toml 1"),
+    (
+        "blocks",
+        "[{kg = 1, x_mm = 50000, y_mm = 0, z_mm = ",
+        ", half_mm = 0}]",
+        -1_000_000,
+        1_000_000,
+    ),
 ];
+
+/// Where the block stands: the stations bound it.
+static BLOCK_ALONG: [(&str, &str, &str, i64, i64); 1] = [(
+    "blocks",
+    "[{kg = 1, x_mm = ",
+    ", y_mm = 0, z_mm = 0, half_mm = 0}]",
+    0,
+    100_000,
+)];
+
+/// Half of the block's length: the stations bound it above.
+static BLOCK_HALF: [(&str, &str, &str, i64, i64); 1] = [(
+    "blocks",
+    "[{kg = 1, x_mm = 50000, y_mm = 0, z_mm = 0, half_mm = ",
+    "}]",
+    0,
+    50_000,
+)];
 
 #[test]
 fn ranges_in_blocks(rt: HostRuntime) -> Result<(), Fail> {
-    let alloc = rt.alloc();
-    for (key, low, high, below, above) in &BLOCK_RANGES {
-        let (low, high) = (*low, *high);
-        for (value, want) in [(low, ""), (high, ""), (low - 1, *below), (high + 1, *above)] {
-            let mut block = String::from_str(alloc, "[{")?;
-            for (name, own) in [("kg", 1), ("x_mm", 50_000), ("y_mm", 0), ("z_mm", 0)] {
-                let number: i64 = if *key == name { value } else { own };
-                write!(block, "{name} = {number}, ")?;
-            }
-            let half: i64 = if *key == "half_mm" { value } else { 0 };
-            write!(block, "half_mm = {half}}}]")?;
-            let ship = ship_with(alloc, "blocks", block.as_str())?;
-            let refused = ship_refusal(alloc, ship.as_str())?;
-            assert_eq!(rt; refused.as_str(), want, "{key} {value}");
-        }
-    }
-    Ok(())
+    check_ranges(&rt, &BLOCK_RANGES, OUT_OF_LIMITS, OUT_OF_LIMITS)?;
+    check_ranges(&rt, &BLOCK_ALONG, "P10 ship.toml 1", "P10 ship.toml 1")?;
+    check_ranges(&rt, &BLOCK_HALF, OUT_OF_LIMITS, "P10 ship.toml 1")
 }
 
 /// Where a block stands, half of its length, and the words of its fault.
@@ -331,129 +366,160 @@ static BEYOND: [(i64, i64, &str); 6] = [
     (0, 1_000_001, "P6 ship.toml 0"),
 ];
 
+/// Reads a block that stands there.
+fn check_block(rt: &(impl Abort + AllocGlobal), x: i64, half: i64, want: &str) -> Result<(), Fail> {
+    let block = format!(in rt.alloc();
+        "[{{kg = 1, x_mm = {x}, y_mm = 0, z_mm = 0, half_mm = {half}}}]"
+    )?;
+    check_value(rt, "blocks", block.as_str(), want)
+}
+
 #[test]
 fn lengths_beyond_a_kilometre(rt: HostRuntime) -> Result<(), Fail> {
-    let alloc = rt.alloc();
     for (x, half, want) in &BEYOND {
-        let block = format!(in alloc;
-            "[{{kg = 1, x_mm = {x}, y_mm = 0, z_mm = 0, half_mm = {half}}}]"
-        )?;
-        let ship = ship_with(alloc, "blocks", block.as_str())?;
-        let refused = ship_refusal(alloc, ship.as_str())?;
-        assert_eq!(rt; refused.as_str(), *want);
+        check_block(&rt, *x, *half, want)?;
     }
     Ok(())
 }
 
-/// The keys of a frame: the least and the greatest number of each.
-static FRAME_RANGES: [(&str, i64); 3] = [
-    ("shear_max_kg", 1_000_000_000),
-    ("hog_max_kgmm", 1_000_000_000_000_000),
-    ("sag_max_kgmm", 1_000_000_000_000_000),
+static FRAME_RANGES: [(&str, &str, &str, i64, i64); 3] = [
+    (
+        "frames",
+        "[{x_mm = 0, shear_max_kg = ",
+        ", hog_max_kgmm = 5, sag_max_kgmm = 5}]",
+        0,
+        1_000_000_000,
+    ),
+    (
+        "frames",
+        "[{x_mm = 0, shear_max_kg = 5, hog_max_kgmm = ",
+        ", sag_max_kgmm = 5}]",
+        0,
+        1_000_000_000_000_000,
+    ),
+    (
+        "frames",
+        "[{x_mm = 0, shear_max_kg = 5, hog_max_kgmm = 5, sag_max_kgmm = ",
+        "}]",
+        0,
+        1_000_000_000_000_000,
+    ),
 ];
 
 #[test]
 fn ranges_in_frames(rt: HostRuntime) -> Result<(), Fail> {
-    let alloc = rt.alloc();
-    for (key, high) in &FRAME_RANGES {
-        let high = *high;
-        for (value, want) in [
-            (0, ""),
-            (high, ""),
-            (-1, "P6 ship.toml 0"),
-            (high + 1, "P6 ship.toml 0"),
-        ] {
-            let mut frame = String::from_str(alloc, "[{x_mm = 0")?;
-            for name in ["shear_max_kg", "hog_max_kgmm", "sag_max_kgmm"] {
-                let number: i64 = if *key == name { value } else { 5 };
-                write!(frame, ", {name} = {number}")?;
-            }
-            frame.push_str("}]")?;
-            let ship = ship_with(alloc, "frames", frame.as_str())?;
-            let refused = ship_refusal(alloc, ship.as_str())?;
-            assert_eq!(rt; refused.as_str(), want, "{key} {value}");
-        }
+    check_ranges(&rt, &FRAME_RANGES, OUT_OF_LIMITS, OUT_OF_LIMITS)
+}
+
+fn write_block(text: &mut String, kg: u32) -> Result<(), Fail> {
+    Ok(write!(
+        text,
+        "{{kg = {kg}, x_mm = 1, y_mm = 1, z_mm = 1, half_mm = 1}},"
+    )?)
+}
+
+/// Writes an array of blocks: one of so many kg, and so many others.
+fn write_blocks(text: &mut String, first_kg: u32, others: u32) -> Result<(), Fail> {
+    text.push_str("[")?;
+    write_block(text, first_kg)?;
+    for _ in 0..others {
+        write_block(text, 1)?;
     }
-    Ok(())
+    Ok(text.push_str("]")?)
+}
+
+/// Reads so many blocks, the first of so many kg.
+fn check_blocks(
+    rt: &(impl Abort + AllocGlobal),
+    first_kg: u32,
+    others: u32,
+    want: &str,
+) -> Result<(), Fail> {
+    let mut blocks = String::new(rt.alloc());
+    write_blocks(&mut blocks, first_kg, others)?;
+    check_value(rt, "blocks", blocks.as_str(), want)
 }
 
 #[test]
 fn greatest_number_of_blocks(rt: HostRuntime) -> Result<(), Fail> {
-    let alloc = rt.alloc();
-    for (count, want) in [(200u32, ""), (201, "P6 ship.toml 0")] {
-        let mut blocks = String::from_str(alloc, "[")?;
-        for number in 0..count {
-            // one too many is found before the first
-            let kg = if count > 200 && number == 0 { 0 } else { 1 };
-            write!(
-                blocks,
-                "{{kg = {kg}, x_mm = 1, y_mm = 1, z_mm = 1, half_mm = 1}},"
-            )?;
-        }
-        blocks.push_str("]")?;
-        let ship = ship_with(alloc, "blocks", blocks.as_str())?;
-        let refused = ship_refusal(alloc, ship.as_str())?;
-        assert_eq!(rt; refused.as_str(), want);
+    check_blocks(&rt, 1, 199, "")?;
+    // one too many is found before the first, which has no mass
+    check_blocks(&rt, 0, 200, "P6 ship.toml 0")
+}
+
+/// Writes an array of stations: the numbers from one to before another, and the last station of the box ship.
+fn write_stations(text: &mut String, from: u32, past: u32) -> Result<(), Fail> {
+    text.push_str("[")?;
+    for x in from..past {
+        write!(text, "{x}, ")?;
+    }
+    Ok(text.push_str("100000]")?)
+}
+
+fn write_frames(text: &mut String, count: u32) -> Result<(), Fail> {
+    for x in 0..count {
+        write!(
+            text,
+            "{{x_mm = {x}, shear_max_kg = 1, hog_max_kgmm = 1, sag_max_kgmm = 1}},"
+        )?;
     }
     Ok(())
+}
+
+/// Writes the keys from the stations on: so many stations and a last one, one block, and a frame at each station but the last.
+fn write_stations_and_frames(text: &mut String, count: u32) -> Result<(), Fail> {
+    text.push_str("stations_mm = ")?;
+    write_stations(text, 0, count)?;
+    text.push_str("\nblocks = [{kg = 1, x_mm = 1, y_mm = 1, z_mm = 1, half_mm = 1}]\n")?;
+    text.push_str("frames = [")?;
+    write_frames(text, count)?;
+    Ok(text.push_str("]\n")?)
+}
+
+fn check_frames(rt: &(impl Abort + AllocGlobal), count: u32, want: &str) -> Result<(), Fail> {
+    let mut ship = first_keys(rt.alloc(), 6, "", "")?;
+    write_stations_and_frames(&mut ship, count)?;
+    check_ship(rt, ship.as_str(), want, "frames")
 }
 
 #[test]
 fn greatest_number_of_frames(rt: HostRuntime) -> Result<(), Fail> {
-    let alloc = rt.alloc();
     // the table of areas has five stations, so a ship of others is told by it
-    for (count, want) in [(16u32, "P4 bonjean.csv 1"), (17, "P6 ship.toml 0")] {
-        let mut stations = String::from_str(alloc, "[")?;
-        let mut frames = String::from_str(alloc, "[")?;
-        for x in 0..count {
-            write!(stations, "{x}, ")?;
-            write!(
-                frames,
-                "{{x_mm = {x}, shear_max_kg = 1, hog_max_kgmm = 1, sag_max_kgmm = 1}},"
-            )?;
-        }
-        write!(
-            stations,
-            "100000]\nblocks = [{{kg = 1, x_mm = 1, y_mm = 1, z_mm = 1, half_mm = 1}}]\nframes = "
-        )?;
-        frames.push_str("]\n")?;
-        let mut ship = first_keys(alloc, 6, "", "")?;
-        write!(ship, "stations_mm = {stations}{frames}")?;
-        let refused = ship_refusal(alloc, ship.as_str())?;
-        assert_eq!(rt; refused.as_str(), want);
-    }
-    Ok(())
+    check_frames(&rt, 16, "P4 bonjean.csv 1")?;
+    check_frames(&rt, 17, "P6 ship.toml 0")
+}
+
+/// Reads so many stations.
+fn check_stations(rt: &(impl Abort + AllocGlobal), count: u32, want: &str) -> Result<(), Fail> {
+    let mut stations = String::new(rt.alloc());
+    write_stations(&mut stations, 1, count)?;
+    check_value(rt, "stations_mm", stations.as_str(), want)
 }
 
 #[test]
 fn greatest_number_of_stations(rt: HostRuntime) -> Result<(), Fail> {
-    let alloc = rt.alloc();
     // the block of the box ship reaches aft of the first of these stations
-    for (count, want) in [(64u32, "P10 ship.toml 1"), (65, "P6 ship.toml 0")] {
-        let mut stations = String::from_str(alloc, "[")?;
-        for x in 1..count {
-            write!(stations, "{x}, ")?;
-        }
-        stations.push_str("100000]")?;
-        let ship = ship_with(alloc, "stations_mm", stations.as_str())?;
-        let refused = ship_refusal(alloc, ship.as_str())?;
-        assert_eq!(rt; refused.as_str(), want);
+    check_stations(&rt, 64, "P10 ship.toml 1")?;
+    check_stations(&rt, 65, "P6 ship.toml 0")
+}
+
+fn write_fills(text: &mut String, count: u32) -> Result<(), Fail> {
+    text.push_str("[")?;
+    for number in 0..count {
+        write!(text, "{{tank = \"T{number}\", kg = 1}},")?;
     }
-    Ok(())
+    Ok(text.push_str("]")?)
+}
+
+/// Reads so many fills.
+fn check_fills(rt: &(impl Abort + AllocGlobal), count: u32, want: &str) -> Result<(), Fail> {
+    let mut fills = String::new(rt.alloc());
+    write_fills(&mut fills, count)?;
+    check_value(rt, "fills", fills.as_str(), want)
 }
 
 #[test]
 fn greatest_number_of_fills(rt: HostRuntime) -> Result<(), Fail> {
-    let alloc = rt.alloc();
-    for (count, want) in [(200u32, "P12 1"), (201, "P6 ship.toml 0")] {
-        let mut fills = String::from_str(alloc, "[")?;
-        for number in 0..count {
-            write!(fills, "{{tank = \"T{number}\", kg = 1}},")?;
-        }
-        fills.push_str("]")?;
-        let ship = ship_with(alloc, "fills", fills.as_str())?;
-        let refused = ship_refusal(alloc, ship.as_str())?;
-        assert_eq!(rt; refused.as_str(), want);
-    }
-    Ok(())
+    check_fills(&rt, 200, "P12 1")?;
+    check_fills(&rt, 201, "P6 ship.toml 0")
 }

@@ -1,162 +1,250 @@
 //! A whole profile: what it gives, the order of its files, and the fills in its tanks.
 use super::files::{
-    BONJEAN, CELLS, Files, GM, HYDRO, KN, SHIP, TANKS, box_refusal, box_ship, check_values,
-    read_box, refusal, ship_refusal, ship_with,
+    BONJEAN, CELLS, GM, HYDRO, KN, SHIP, TANKS, box_files, check_files, check_values, check_words,
+    refusal, seen, ship_with, words,
 };
-use crate::{File, Key, ProfileFault};
+use crate::{Curves, File, Key, Profile, ProfileBytes, ProfileFault};
 use ship_tables::TableFault;
+use std::alloc::Global;
 use std::process::Abort;
 use std::test::Fail;
-use units_core::{Body, Cell};
+use units_core::{Body, Cell, Place};
 
-/// A body's mass, where it stands, and its free surface moment.
-fn figures(body: &Body) -> [i64; 6] {
-    let place = body.place();
-    [
-        i64::from(body.kg()),
-        i64::from(place.x.get()),
-        i64::from(place.y.get()),
-        i64::from(place.z.get()),
-        i64::from(place.half.get()),
-        body.fsm(),
-    ]
+/// The files of the box ship.
+fn box_ship() -> ProfileBytes<'static> {
+    box_files(SHIP, CELLS, TANKS, None)
 }
 
-#[test]
-fn dimensions_of_the_box_ship(rt: HostRuntime) -> Result<(), Fail> {
-    let profile = box_ship(rt.alloc())?;
-    assert_eq!(rt; profile.lbp().get(), 100_000);
-    assert_eq!(rt; profile.downflooding(), 60);
-    assert_eq!(rt; profile.draught_max().get(), 6_100);
-    Ok(())
+/// A part of a profile.
+#[derive(Clone, Copy)]
+enum Part {
+    Dimensions,
+    Limits,
+    Stations,
+    Frames,
+    Blocks,
+    Hydro,
+    Levers,
+    Bonjean,
+    LeastGm,
+    Fills,
+    Cells,
+    Tanks,
+    Fillings,
 }
 
-#[test]
-fn limits_of_the_box_ship(rt: HostRuntime) -> Result<(), Fail> {
-    let profile = box_ship(rt.alloc())?;
-    assert_eq!(rt; profile.trim_max().get(), 500);
-    assert_eq!(rt; profile.list_max(), 500);
-    assert_eq!(rt; profile.closing_max(), 5_000);
-    Ok(())
+fn write_dimensions(text: &mut String, profile: &Profile) -> Result<(), Fail> {
+    let (lbp, draught) = (profile.lbp().get(), profile.draught_max().get());
+    let angle = profile.downflooding();
+    Ok(write!(text, "{lbp} {angle} {draught}")?)
 }
 
-/// Where the stations of the box ship stand, and her frames.
-static STATIONS: [i32; 5] = [0, 25_000, 50_000, 75_000, 100_000];
+fn write_limits(text: &mut String, profile: &Profile) -> Result<(), Fail> {
+    let trim = profile.trim_max().get();
+    let (list, closing) = (profile.list_max(), profile.closing_max());
+    Ok(write!(text, "{trim} {list} {closing}")?)
+}
 
-#[test]
-fn stations_of_the_box_ship(rt: HostRuntime) -> Result<(), Fail> {
-    let profile = box_ship(rt.alloc())?;
-    assert_eq!(rt; profile.stations().len(), STATIONS.len());
-    for (station, want) in profile.stations().iter().zip(STATIONS.iter()) {
-        assert_eq!(rt; station.get(), *want);
+fn write_stations(text: &mut String, profile: &Profile) -> Result<(), Fail> {
+    for station in profile.stations() {
+        let x = station.get();
+        write!(text, "{x} ")?;
     }
     Ok(())
 }
 
-#[test]
-fn frames_of_the_box_ship(rt: HostRuntime) -> Result<(), Fail> {
-    let profile = box_ship(rt.alloc())?;
-    for (frame, want) in profile.frames().as_slice().iter().zip(STATIONS.iter()) {
-        assert_eq!(rt; frame.x.get(), *want);
-    }
-    Ok(())
-}
-
-#[test]
-fn loads_on_the_box_ship(rt: HostRuntime) -> Result<(), Fail> {
-    let profile = box_ship(rt.alloc())?;
+/// Writes where each frame stands, and the greatest loads there.
+fn write_frames(text: &mut String, profile: &Profile) -> Result<(), Fail> {
     for frame in profile.frames().as_slice() {
-        assert_eq!(rt; frame.shear_max, 100_000);
-        assert_eq!(rt; frame.hog_max, 1_000_000_000);
-        assert_eq!(rt; frame.sag_max, 1_000_000_000);
+        let (x, shear) = (frame.x.get(), frame.shear_max);
+        let (hog, sag) = (frame.hog_max, frame.sag_max);
+        write!(text, "{x} {shear} {hog} {sag} / ")?;
     }
-    assert_eq!(rt; profile.frames().as_slice().len(), 5);
     Ok(())
 }
 
-#[test]
-fn blocks_of_the_box_ship(rt: HostRuntime) -> Result<(), Fail> {
-    let profile = box_ship(rt.alloc())?;
-    assert_eq!(rt; profile.blocks().len(), 1);
-    let block = profile.blocks().first().ok_or("a block")?;
-    assert_eq!(rt; figures(block), [8_200_000, 50_000, 0, 6_000, 50_000, 0]);
+/// Writes x, y, z and half of a place.
+fn write_place(text: &mut String, place: Place) -> Result<(), Fail> {
+    let (x, y) = (place.x.get(), place.y.get());
+    let (z, half) = (place.z.get(), place.half.get());
+    Ok(write!(text, "{x} {y} {z} {half}")?)
+}
+
+/// Writes the mass of a body, where it stands, and its free surface moment.
+fn write_body(text: &mut String, body: &Body) -> Result<(), Fail> {
+    let (kg, fsm) = (body.kg(), body.fsm());
+    write!(text, "{kg} at ")?;
+    write_place(text, body.place())?;
+    Ok(write!(text, " with {fsm} / ")?)
+}
+
+fn write_blocks(text: &mut String, profile: &Profile) -> Result<(), Fail> {
+    for body in profile.blocks() {
+        write_body(text, body)?;
+    }
     Ok(())
 }
 
-#[test]
-fn cells_of_the_box_ship(rt: HostRuntime) -> Result<(), Fail> {
-    let profile = box_ship(rt.alloc())?;
-    let cell = Cell::read(b"030782").ok_or("a cell")?;
-    let place = profile.cell(cell).ok_or("a place")?;
-    assert_eq!(rt; place.y.get(), 8_000);
-    let absent = Cell::read(b"0990082").ok_or("a cell")?;
-    assert!(rt; profile.cell(absent).is_none());
+fn write_column(text: &mut String, column: &[i128]) -> Result<(), Fail> {
+    for value in column {
+        write!(text, "{value} ")?;
+    }
+    Ok(text.push_str("/ ")?)
+}
+
+/// Writes how many curves there are, their arguments and the last curve.
+fn write_curves(text: &mut String, curves: &Curves) -> Result<(), Fail> {
+    let count = curves.columns();
+    write!(text, "{count} / ")?;
+    write_column(text, curves.arguments())?;
+    match curves.column(count.saturating_sub(1)) {
+        Some(column) => write_column(text, column),
+        None => Ok(()),
+    }
+}
+
+fn write_least_gm(text: &mut String, profile: &Profile) -> Result<(), Fail> {
+    match profile.least_gm() {
+        Some(curves) => write_curves(text, curves),
+        None => Ok(text.push_str("none")?),
+    }
+}
+
+/// Writes the number of each tank that is filled, and how many kg are in it.
+fn write_fills(text: &mut String, profile: &Profile) -> Result<(), Fail> {
+    for fill in profile.fills() {
+        let (tank, kg) = (fill.tank, fill.kg);
+        write!(text, "{tank} {kg} / ")?;
+    }
     Ok(())
 }
 
-#[test]
-fn hydrostatics_of_the_box_ship(rt: HostRuntime) -> Result<(), Fail> {
-    let profile = box_ship(rt.alloc())?;
-    assert_eq!(rt; profile.hydro().kmt(), [17_667, 10_333, 8_556].as_slice());
+/// Cells, of which the ship has the first.
+static ASKED_CELLS: [&str; 2] = ["030782", "0990082"];
+
+fn write_cells(text: &mut String, profile: &Profile) -> Result<(), Fail> {
+    for name in &ASKED_CELLS {
+        let cell = Cell::read(name.as_bytes()).ok_or("a cell")?;
+        match profile.cell(cell) {
+            Some(place) => write_place(text, place)?,
+            None => text.push_str(" / none")?,
+        }
+    }
     Ok(())
 }
 
-#[test]
-fn levers_of_the_box_ship(rt: HostRuntime) -> Result<(), Fail> {
-    let profile = box_ship(rt.alloc())?;
-    assert_eq!(rt; profile.levers().columns(), 13);
-    let lever = profile.levers().column(12).ok_or("a curve")?;
-    assert_eq!(rt; lever, [6_110, 6_110, 6_110].as_slice());
+/// Names of tanks, of which the ship has the first.
+static ASKED_TANKS: [&str; 2] = ["DB1", "DB2"];
+
+fn write_tanks(text: &mut String, profile: &Profile) -> Result<(), Fail> {
+    for name in &ASKED_TANKS {
+        match profile.tank(name.as_bytes()) {
+            Some(number) => write!(text, "{number}")?,
+            None => text.push_str(" / none")?,
+        }
+    }
     Ok(())
 }
 
-#[test]
-fn areas_of_the_box_ship(rt: HostRuntime) -> Result<(), Fail> {
-    let profile = box_ship(rt.alloc())?;
-    assert_eq!(rt; profile.bonjean().columns(), 5);
-    assert_eq!(rt; profile.bonjean().arguments(), [0, 8_000].as_slice());
+/// Fillings, of which the ship's tank takes the first: one beyond the tank's table, and one of a tank that isn't there.
+static ASKED_FILLINGS: [(u16, u32); 3] = [(0, 100_001), (0, 500_001), (1, 0)];
+
+fn write_fillings(text: &mut String, profile: &Profile) -> Result<(), Fail> {
+    for (tank, kg) in &ASKED_FILLINGS {
+        match profile.tank_item(*tank, *kg) {
+            Some(body) => write_body(text, &body)?,
+            None => text.push_str("none / ")?,
+        }
+    }
     Ok(())
 }
 
+fn write_part(text: &mut String, profile: &Profile, part: Part) -> Result<(), Fail> {
+    match part {
+        Part::Dimensions => write_dimensions(text, profile),
+        Part::Limits => write_limits(text, profile),
+        Part::Stations => write_stations(text, profile),
+        Part::Frames => write_frames(text, profile),
+        Part::Blocks => write_blocks(text, profile),
+        Part::Hydro => write_column(text, profile.hydro().kmt()),
+        Part::Levers => write_curves(text, profile.levers()),
+        Part::Bonjean => write_curves(text, profile.bonjean()),
+        Part::LeastGm => write_least_gm(text, profile),
+        Part::Fills => write_fills(text, profile),
+        Part::Cells => write_cells(text, profile),
+        Part::Tanks => write_tanks(text, profile),
+        Part::Fillings => write_fillings(text, profile),
+    }
+}
+
+fn shown_part(alloc: Global, profile: &Profile, part: Part) -> Result<String, Fail> {
+    let mut text = String::new(alloc);
+    write_part(&mut text, profile, part)?;
+    Ok(text)
+}
+
+/// A part of the profile that these files are.
+fn part_in(alloc: Global, files: &ProfileBytes<'_>, part: Part) -> Result<String, Fail> {
+    let read = Profile::read(alloc, files);
+    seen(read, |profile: &Profile| shown_part(alloc, profile, part))?
+}
+
+fn check_part(
+    rt: &(impl Abort + AllocGlobal),
+    files: &ProfileBytes<'_>,
+    part: Part,
+    want: &str,
+) -> Result<(), Fail> {
+    let shown = part_in(rt.alloc(), files, part)?;
+    check_words(rt, shown.as_str(), want, "a part");
+    Ok(())
+}
+
+/// The parts of the box ship's profile.
+static PARTS: [(Part, &str); 13] = [
+    (Part::Dimensions, "100000 60 6100"),
+    (Part::Limits, "500 500 5000"),
+    (Part::Stations, "0 25000 50000 75000 100000 "),
+    (
+        Part::Frames,
+        "0 100000 1000000000 1000000000 / 25000 100000 1000000000 1000000000 / \
+50000 100000 1000000000 1000000000 / 75000 100000 1000000000 1000000000 / \
+100000 100000 1000000000 1000000000 / ",
+    ),
+    (Part::Blocks, "8200000 at 50000 0 6000 50000 with 0 / "),
+    (Part::Hydro, "17667 10333 8556 / "),
+    (
+        Part::Levers,
+        "13 / 4100000 8200000 12300000 / 6110 6110 6110 / ",
+    ),
+    (Part::Bonjean, "5 / 0 8000 / 0 1600000 / "),
+    (Part::LeastGm, "none"),
+    (Part::Fills, ""),
+    (Part::Cells, "50000 8000 10000 3029 / none"),
+    (Part::Tanks, "0 / none"),
+    (
+        Part::Fillings,
+        "100001 at 50000 0 200 5000 with 410004100 / none / none / ",
+    ),
+];
+
 #[test]
-fn no_least_gm(rt: HostRuntime) -> Result<(), Fail> {
-    let profile = box_ship(rt.alloc())?;
-    assert!(rt; profile.least_gm().is_none());
+fn profile_of_the_box_ship(rt: HostRuntime) -> Result<(), Fail> {
+    for (part, want) in &PARTS {
+        check_part(&rt, &box_ship(), *part, want)?;
+    }
     Ok(())
 }
 
 #[test]
 fn least_gm_where_there_is_one(rt: HostRuntime) -> Result<(), Fail> {
-    let profile = read_box(rt.alloc(), SHIP, CELLS, TANKS, Some(GM))?;
-    let least = profile.least_gm().ok_or("a table")?;
-    assert_eq!(rt; least.columns(), 1);
-    Ok(())
-}
-
-#[test]
-fn names_of_tanks(rt: HostRuntime) -> Result<(), Fail> {
-    let profile = box_ship(rt.alloc())?;
-    let number = profile.tank(b"DB1").ok_or("a tank")?;
-    assert_eq!(rt; number, 0);
-    assert!(rt; profile.tank(b"DB2").is_none());
-    Ok(())
-}
-
-#[test]
-fn tank_of_the_box_ship(rt: HostRuntime) -> Result<(), Fail> {
-    let profile = box_ship(rt.alloc())?;
-    let filled = profile.tank_item(0, 100_001).ok_or("a filling")?;
-    let wanted = [100_001, 50_000, 0, 200, 5_000, 410_004_100];
-    assert_eq!(rt; figures(&filled), wanted);
-    Ok(())
-}
-
-#[test]
-fn fillings_beyond_the_tank(rt: HostRuntime) -> Result<(), Fail> {
-    let profile = box_ship(rt.alloc())?;
-    assert!(rt; profile.tank_item(0, 500_001).is_none());
-    assert!(rt; profile.tank_item(1, 0).is_none());
-    Ok(())
+    let files = box_files(SHIP, CELLS, TANKS, Some(GM));
+    check_part(
+        &rt,
+        &files,
+        Part::LeastGm,
+        "1 / 4100000 12300000 / 150 150 / ",
+    )
 }
 
 /// The tanks of a box ship that has two.
@@ -166,26 +254,11 @@ const TWO_TANKS: &str =
 /// Two fills, in another order than the tanks.
 static TWO_FILLS: &str = "[{tank = \"SB\", kg = 7}, {tank = \"DB1\", kg = 500000}]";
 
-/// The numbers of the tanks that are filled so, and how many kg are in them.
-static FILLED: [(u16, u32); 2] = [(1, 7), (0, 500_000)];
-
 #[test]
 fn fills_of_tanks(rt: HostRuntime) -> Result<(), Fail> {
     let ship = ship_with(rt.alloc(), "fills", TWO_FILLS)?;
-    let profile = read_box(rt.alloc(), ship.as_str(), CELLS, TWO_TANKS, None)?;
-    assert_eq!(rt; profile.fills().len(), FILLED.len());
-    for (fill, want) in profile.fills().iter().zip(FILLED.iter()) {
-        assert_eq!(rt; fill.tank, want.0);
-        assert_eq!(rt; fill.kg, want.1);
-    }
-    Ok(())
-}
-
-#[test]
-fn no_fills(rt: HostRuntime) -> Result<(), Fail> {
-    let profile = box_ship(rt.alloc())?;
-    assert!(rt; profile.fills().is_empty());
-    Ok(())
+    let files = box_files(ship.as_str(), CELLS, TWO_TANKS, None);
+    check_part(&rt, &files, Part::Fills, "1 7 / 0 500000 / ")
 }
 
 /// Fills, and the words of their faults: each in turn, an unknown tank, then one that was filled before.
@@ -220,67 +293,78 @@ fn faults_of_fills(rt: HostRuntime) -> Result<(), Fail> {
     check_values(&rt, "fills", &FILLS)
 }
 
-/// The words of the fault of these files; none where they are a profile.
-fn check_files(rt: &(impl Abort + AllocGlobal), files: &Files<'_>, want: &str) -> Result<(), Fail> {
-    let refused = refusal(rt.alloc(), files)?;
-    assert_eq!(rt; refused.as_str(), want);
-    Ok(())
+/// The text of a file from this turn on, and before it another.
+fn since(turn: u8, first: u8, text: &'static str, before: &'static str) -> &'static [u8] {
+    if turn < first {
+        before.as_bytes()
+    } else {
+        text.as_bytes()
+    }
 }
 
-/// No file has anything that is good.
-static NONE: Files<'static> = Files {
-    ship: "",
-    cells: "",
-    hydro: "",
-    kn: "",
-    bonjean: "",
-    tanks: "x",
-    gm: Some("x"),
-};
+/// Files with a fault in each, of which each turn mends one more, in their order.
+fn mended(turn: u8) -> ProfileBytes<'static> {
+    ProfileBytes {
+        ship: since(turn, 1, SHIP, ""),
+        cells: since(turn, 2, CELLS, ""),
+        hydro: since(turn, 3, HYDRO, ""),
+        kn: since(turn, 4, KN, ""),
+        bonjean: since(turn, 5, BONJEAN, ""),
+        tanks: since(turn, 6, TANKS, "x"),
+        gm: Some(since(turn, 7, GM, "x")),
+    }
+}
+
+static TURNS: [(u8, &str); 8] = [
+    (0, "P2 lbp_mm"),
+    (1, "P13 cells.csv"),
+    (2, "P13 hydro.csv"),
+    (3, "P13 kn.csv"),
+    (4, "P13 bonjean.csv"),
+    (5, "P4 tanks.csv 1"),
+    (6, "P4 gm.csv 1"),
+    (7, ""),
+];
 
 #[test]
 fn first_file_with_a_fault(rt: HostRuntime) -> Result<(), Fail> {
-    let mut files = NONE;
-    check_files(&rt, &files, "P2 lbp_mm")?;
-    files.ship = SHIP;
-    check_files(&rt, &files, "P13 cells.csv")?;
-    files.cells = CELLS;
-    check_files(&rt, &files, "P13 hydro.csv")?;
-    files.hydro = HYDRO;
-    check_files(&rt, &files, "P13 kn.csv")?;
-    files.kn = KN;
-    check_files(&rt, &files, "P13 bonjean.csv")?;
-    files.bonjean = BONJEAN;
-    check_files(&rt, &files, "P4 tanks.csv 1")?;
-    files.tanks = TANKS;
-    check_files(&rt, &files, "P4 gm.csv 1")?;
-    files.gm = Some(GM);
-    check_files(&rt, &files, "")
-}
-
-#[test]
-fn fills_after_the_last_file(rt: HostRuntime) -> Result<(), Fail> {
-    let alloc = rt.alloc();
-    let ship = ship_with(alloc, "fills", "[{tank = \"DB2\", kg = 1}]")?;
-    for (gm, want) in [("x", "P4 gm.csv 1"), (GM, "P12 1")] {
-        let refused = box_refusal(alloc, ship.as_str(), CELLS, TANKS, Some(gm))?;
-        assert_eq!(rt; refused.as_str(), want);
+    for (turn, want) in &TURNS {
+        check_files(&rt, &mended(*turn), want, want)?;
     }
     Ok(())
 }
 
+/// Reads the box ship with a fill of an unknown tank, and another table of the least metacentric height.
+fn check_fill(rt: &(impl Abort + AllocGlobal), gm: &str, want: &str) -> Result<(), Fail> {
+    let ship = ship_with(rt.alloc(), "fills", "[{tank = \"DB2\", kg = 1}]")?;
+    let files = box_files(ship.as_str(), CELLS, TANKS, Some(gm));
+    check_files(rt, &files, want, gm)
+}
+
+#[test]
+fn fills_after_the_last_file(rt: HostRuntime) -> Result<(), Fail> {
+    check_fill(&rt, "x", "P4 gm.csv 1")?;
+    check_fill(&rt, GM, "P12 1")
+}
+
+/// Where a container of 10 mm stands, and the words of its fault.
+static ALONG: [(i32, &str); 4] = [
+    (5, ""),
+    (4, "P10 cells.csv 2"),
+    (99_995, ""),
+    (99_996, "P10 cells.csv 2"),
+];
+
+fn check_cell(rt: &(impl Abort + AllocGlobal), x: i32, want: &str) -> Result<(), Fail> {
+    let cells = format!(in rt.alloc(); "h,h,h,h,h\n0010082,{x},0,0,5")?;
+    let files = box_files(SHIP, cells.as_str(), TANKS, None);
+    check_files(rt, &files, want, cells.as_str())
+}
+
 #[test]
 fn places_reach_from_the_first_station_to_the_last(rt: HostRuntime) -> Result<(), Fail> {
-    let alloc = rt.alloc();
-    for (x, want) in [
-        (5, ""),
-        (4, "P10 cells.csv 2"),
-        (99_995, ""),
-        (99_996, "P10 cells.csv 2"),
-    ] {
-        let cells = format!(in alloc; "h,h,h,h,h\n0010082,{x},0,0,5")?;
-        let refused = box_refusal(alloc, SHIP, cells.as_str(), TANKS, None)?;
-        assert_eq!(rt; refused.as_str(), want);
+    for (x, want) in &ALONG {
+        check_cell(&rt, *x, want)?;
     }
     Ok(())
 }
@@ -289,7 +373,7 @@ fn places_reach_from_the_first_station_to_the_last(rt: HostRuntime) -> Result<()
 fn every_prefix_of_ship_toml(rt: HostRuntime) -> Result<(), Fail> {
     for length in 0..SHIP.len() {
         let ship = SHIP.get(..length).ok_or("a prefix")?;
-        let refused = ship_refusal(rt.alloc(), ship)?;
+        let refused = refusal(rt.alloc(), &box_files(ship, CELLS, TANKS, None))?;
         let of_another_file = refused.as_str().contains(".csv");
         assert!(rt; !of_another_file, "{length}");
     }
@@ -323,8 +407,8 @@ static TEXTS: [(ProfileFault, &str); 14] = [
 #[test]
 fn texts_of_faults(rt: HostRuntime) -> Result<(), Fail> {
     for (fault, want) in &TEXTS {
-        let text = format!(in rt.alloc(); "{fault}")?;
-        assert_eq!(rt; text.as_str(), *want);
+        let text = words(rt.alloc(), Some(*fault))?;
+        check_words(&rt, text.as_str(), want, "a fault");
     }
     Ok(())
 }
@@ -343,12 +427,10 @@ static TABLE_FAULTS: [TableFault; 8] = [
 
 #[test]
 fn faults_of_tables_keep_their_texts(rt: HostRuntime) -> Result<(), Fail> {
-    let alloc = rt.alloc();
     for fault in &TABLE_FAULTS {
-        let text = format!(in alloc; "{fault}")?;
-        let same = ProfileFault::from(*fault);
-        let of_profile = format!(in alloc; "{same}")?;
-        assert_eq!(rt; of_profile.as_str(), text.as_str());
+        let text = format!(in rt.alloc(); "{fault}")?;
+        let same = words(rt.alloc(), Some(ProfileFault::from(*fault)))?;
+        check_words(&rt, same.as_str(), text.as_str(), "a fault");
     }
     Ok(())
 }
