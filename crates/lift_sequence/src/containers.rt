@@ -2,6 +2,7 @@ ghost use Rattle.std.specs.Prelude.{◌≡◌, ◌↔◌, IsTrue};
 ghost use Rattle.lift_sequence.specs.Aboard.{container_of};
 ghost use Rattle.lift_sequence.specs.Legal.{differ, is_empty};
 
+use crate::operations::copied;
 use arrayvec::ArrayVec;
 use stow_messages::Item;
 use units_core::Kg;
@@ -17,9 +18,10 @@ pub struct Container {
 pub fn container_of(item: &Item) -> Container
     ensures { result ≡ container_of item.now }
 {
-    let mut id = ArrayVec::new();
-    let _ = id.try_extend_from_slice(item.id.as_slice());
-    Container { id, kg: item.kg }
+    Container {
+        id: copied(&item.id),
+        kg: item.kg,
+    }
 }
 
 /// Two identifications differ, and none of them is empty: an empty one fits any container.

@@ -26,7 +26,7 @@ pub enum Op {
 }
 
 /// An equal text.
-fn copied<const MOST: usize>(text: &ArrayVec<u8, MOST>) -> ArrayVec<u8, MOST>
+pub fn copied<const MOST: usize>(text: &ArrayVec<u8, MOST>) -> ArrayVec<u8, MOST>
     ensures { result ≡ text.now }
 {
     let mut copy = ArrayVec::new();
