@@ -2,9 +2,8 @@ ghost use Rattle.std.specs.Prelude.{◌≡◌, ◌↔◌, IsTrue};
 ghost use Rattle.lift_sequence.specs.Aboard.{container_of};
 ghost use Rattle.lift_sequence.specs.Legal.{differ, is_empty};
 
-use crate::operations::copied;
 use arrayvec::ArrayVec;
-use stow_messages::Item;
+use stow_messages::{Item, copied};
 use units_core::Kg;
 
 /// A container aboard: its identification, which may be empty, and its gross mass.

@@ -1,46 +1,39 @@
 ghost use Rattle.std.specs.Prelude.{◌≡◌, ◌≢◌};
 ghost use Rattle.lift_sequence.specs.Arrival.{fault_at};
 
-use std::fmt;
+use thiserror::Error;
 use units_core::Cell;
 
 /// Why an item, a fill or a step can't be. It prints as its code, S1 to S9.
-#[derive(Clone, Copy, Debug, PartialEq, Eq)]
+#[derive(Clone, Copy, Debug, PartialEq, Eq, Error)]
 pub enum SeqCode {
     /// The ship has no such cell.
+    #[error("S1")]
     UnknownCell,
     /// A container stands in the cell.
+    #[error("S2")]
     CellTaken,
     /// A container in this other cell wants the same room; it is the one of least bay.
+    #[error("S3")]
     Overlap(Cell),
     /// No container stands in the cell.
+    #[error("S4")]
     CellEmpty,
     /// Another container stands in the cell: both identifications are there, and they differ.
+    #[error("S5")]
     WrongContainer,
     /// The table of the tank hasn't this mass.
+    #[error("S6")]
     TankOver,
     /// More than 120,000 steps.
+    #[error("S7")]
     TooManySteps,
     /// Want of memory.
+    #[error("S8")]
     NoMemory,
     /// The ship has no tank of this name.
+    #[error("S9")]
     UnknownTank,
-}
-
-impl fmt::Display for SeqCode {
-    fn fmt<W: fmt::Write>(&self, f: &mut fmt::Formatter<W>) -> fmt::Result {
-        f.write_str(match self {
-            SeqCode::UnknownCell => "S1",
-            SeqCode::CellTaken => "S2",
-            SeqCode::Overlap(_) => "S3",
-            SeqCode::CellEmpty => "S4",
-            SeqCode::WrongContainer => "S5",
-            SeqCode::TankOver => "S6",
-            SeqCode::TooManySteps => "S7",
-            SeqCode::NoMemory => "S8",
-            SeqCode::UnknownTank => "S9",
-        })
-    }
 }
 
 /// The cause, and the number of the item, the fill or the step, each from 1; 0 for want of memory.

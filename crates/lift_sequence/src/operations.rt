@@ -4,7 +4,7 @@ ghost use Rattle.lift_sequence.specs.Sequence.{lift_at, op_of, ops_of};
 
 use arrayvec::ArrayVec;
 use std::alloc::{AllocError, Global};
-use stow_messages::{Lift, StepRow};
+use stow_messages::{Lift, StepRow, copied};
 use units_core::Cell;
 
 /// A step of a sequence.
@@ -23,15 +23,6 @@ pub enum Op {
         to: Cell,
         id: ArrayVec<u8, 17>,
     },
-}
-
-/// An equal text.
-pub fn copied<const MOST: usize>(text: &ArrayVec<u8, MOST>) -> ArrayVec<u8, MOST>
-    ensures { result ≡ text.now }
-{
-    let mut copy = ArrayVec::new();
-    let _ = copy.try_extend_from_slice(text.as_slice());
-    copy
 }
 
 impl Op {

@@ -14,7 +14,7 @@ mod sink;
 mod steps;
 mod sums;
 
-pub use criteria::{Criterion, Outside};
+pub use criteria::Criterion;
 pub use drafts::Summary;
 pub use faults::RunFault;
 pub use inputs::Inputs;

@@ -63,10 +63,9 @@ impl Element for FillRule {
         let table = table_of(value, Key::Fills)?;
         let name = text_in_table(table, Key::Fills, "tank")?;
         let kg = number_in_table(table, Key::Fills, "kg", 0, MAX_KG)?;
-        let mut tank = Vec::new(alloc);
-        if tank.extend_from_slice(name.as_bytes()).is_err() {
+        let Ok(tank) = Vec::from_slice(alloc, name.as_bytes()) else {
             return Err(ProfileFault::NoMemory);
-        }
+        };
         Ok(NamedFill {
             tank,
             kg: kg as u32,

@@ -255,19 +255,19 @@ names-at [] = refl
 names-at (rows ∷ tables) = ap (λ ns. table_name rows ∷ ns) (names-at tables)
 
 -- a row of `cells.csv` says where a container stands
-place-sound : (extent : Extent) (row : Row) → IsRow (cells_form extent).columns row → IsPlace (place_at row)
-place-sound extent row h =
+place-sound : (extent : Extent) (fields : Row) → IsRow (cells_form extent).columns fields → IsPlace (place_at fields)
+place-sound extent fields h =
     let cs = (cells_form extent).columns in
-    let x = number-within cs row 1 (neg_ℤ (pos 1000000)) (pos 1000000) h refl in
-    let y = number-within cs row 2 (neg_ℤ (pos 1000000)) (pos 1000000) h refl in
-    let z = number-within cs row 3 (neg_ℤ (pos 1000000)) (pos 1000000) h refl in
-    let half = number-within cs row 4 (pos 0) (pos 1000000) h refl in
+    let x = number-within cs fields 1 (neg_ℤ (pos 1000000)) (pos 1000000) h refl in
+    let y = number-within cs fields 2 (neg_ℤ (pos 1000000)) (pos 1000000) h refl in
+    let z = number-within cs fields 3 (neg_ℤ (pos 1000000)) (pos 1000000) h refl in
+    let half = number-within cs fields 4 (pos 0) (pos 1000000) h refl in
     record {
-      x_within = size (number_at row 1) 1000000 x.0 x.1;
-      y_within = size (number_at row 2) 1000000 y.0 y.1;
-      z_within = size (number_at row 3) 1000000 z.0 z.1;
+      x_within = size (number_at fields 1) 1000000 x.0 x.1;
+      y_within = size (number_at fields 2) 1000000 y.0 y.1;
+      z_within = size (number_at fields 3) 1000000 z.0 z.1;
       half_least = half.0;
-      half_within = size_above (number_at row 4) (pos 0) 1000000 (omega (arith, ints)) half.0 half.1;
+      half_within = size_above (number_at fields 4) (pos 0) 1000000 (omega (arith, ints)) half.0 half.1;
     }
 
 rows_placed : (extent : Extent) (rows : List Row) → AllByRecursion (IsRow (cells_form extent).columns) rows → AllByRecursion (λ r. IsPlace (place_at r)) rows

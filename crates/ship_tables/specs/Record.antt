@@ -111,7 +111,7 @@ least_gm_form = record {
 
 -- where the container of a row of `cells.csv` stands
 abbrev pub place_at : Row → Place
-place_at row = record { x = number_at row 1; y = number_at row 2; z = number_at row 3; half = number_at row 4 }
+place_at fields = record { x = number_at fields 1; y = number_at fields 2; z = number_at fields 3; half = number_at fields 4 }
 
 -- the cells that the text of `cells.csv` writes, each with where its container stands
 abbrev pub places_in : Extent → List ℕ → Result (List (Cell × Place)) TableFault

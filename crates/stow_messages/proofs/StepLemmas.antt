@@ -111,12 +111,12 @@ module _ (lifts : ℕ) (rows : List StepRow) (flags : List Bool) (are : AreFlags
       go false e =
           times-more n rows row ∙ (rw (are.once n, e, stays row n e) (omega arith))
 
-  pub flags-other : (row : StepRow) → ((n : ℕ) → is_lift n row ≡ false) → AreFlags lifts (rows ++ row ∷ []) flags
-  flags-other row other = record {
+  pub flags-other : (next : StepRow) → ((n : ℕ) → is_lift n next ≡ false) → AreFlags lifts (rows ++ next ∷ []) flags
+  flags-other next other = record {
     size = are.size;
-    each = λ i. are.each i ∙ sym (stays row (i + 1) (other (i + 1)));
-    none = stays row 0 (other 0) ∙ are.none;
-    once = λ n. once-more row n (λ e. let f = other n in cc);
+    each = λ i. are.each i ∙ sym (stays next (i + 1) (other (i + 1)));
+    none = stays next 0 (other 0) ∙ are.none;
+    once = λ n. once-more next n (λ e. let f = other n in cc);
   }
 
   stands-lift : (n j : ℕ) → j ≢ n → stands j (rows ++ Lift n ∷ []) ≡ stands j rows

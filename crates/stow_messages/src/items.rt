@@ -11,12 +11,12 @@ pub struct Item {
     pub kg: Kg,
 }
 
-/// An equal identification.
-pub fn copied(id: &ArrayVec<u8, 17>) -> ArrayVec<u8, 17>
-    ensures { result ≡ id.now }
+/// An equal text: an identification, or the name of a tank.
+pub fn copied<const MOST: usize>(text: &ArrayVec<u8, MOST>) -> ArrayVec<u8, MOST>
+    ensures { result ≡ text.now }
 {
     let mut copy = ArrayVec::new();
-    let _ = copy.try_extend_from_slice(id.as_slice());
+    let _ = copy.try_extend_from_slice(text.as_slice());
     copy
 }
 

@@ -17,7 +17,7 @@ mod weights;
 
 pub use faults::{StowCode, StowFault};
 pub use instructions::movins;
-pub use items::Item;
+pub use items::{Item, copied};
 pub use lifts::Lift;
 pub use plans::baplie;
 pub use step_faults::{StepsCode, StepsFault};

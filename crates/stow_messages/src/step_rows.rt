@@ -41,14 +41,10 @@ impl StepRow {
     {
         match self {
             StepRow::Lift(number) => StepRow::Lift(*number),
-            StepRow::Tank { name, kg } => {
-                let mut copy = ArrayVec::new();
-                let _ = copy.try_extend_from_slice(name.as_slice());
-                StepRow::Tank {
-                    name: copy,
-                    kg: *kg,
-                }
-            }
+            StepRow::Tank { name, kg } => StepRow::Tank {
+                name: copied(name),
+                kg: *kg,
+            },
             StepRow::Restow { from, to, id } => StepRow::Restow {
                 from: *from,
                 to: *to,

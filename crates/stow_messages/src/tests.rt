@@ -1,4 +1,4 @@
-use crate::{Item, Lift, StowCode, StowFault, baplie, movins};
+use crate::{Item, Lift, StowCode, StowFault, baplie, copied, movins};
 use arrayvec::ArrayVec;
 use std::alloc::{AllocError, Global};
 use std::process::Abort;
@@ -199,6 +199,14 @@ fn groups_of_segments(rt: HostRuntime) -> Result<(), Fail> {
             ("LOC+147+0030082 EQD+CN+AB MEA+AAE++KGM:7", "M6 segment 2"),
         ],
     )
+}
+
+#[test]
+fn texts_are_copied(rt: HostRuntime) -> Result<(), Fail> {
+    let mut name: ArrayVec<u8, 16> = ArrayVec::new();
+    let _ = name.try_extend_from_slice(b"DB1");
+    assert_eq!(rt; copied(&name), name);
+    Ok(())
 }
 
 #[test]

@@ -1,15 +1,9 @@
+use super::orders::short;
 use crate::{Op, ops};
-use arrayvec::ArrayVec;
 use std::alloc::Global;
 use std::test::Fail;
 use stow_messages::{Item, Lift, StepRow};
 use units_core::{Cell, Kg};
-
-fn id<const MOST: usize>(text: &str) -> ArrayVec<u8, MOST> {
-    let mut id = ArrayVec::new();
-    let _ = id.try_extend_from_slice(text.as_bytes());
-    id
-}
 
 fn cell(text: &str) -> Result<Cell, Fail> {
     Ok(Cell::read(text.as_bytes()).ok_or("a cell")?)
@@ -18,13 +12,13 @@ fn cell(text: &str) -> Result<Cell, Fail> {
 fn item(place: &str, name: &str, kg: u32) -> Result<Item, Fail> {
     Ok(Item {
         cell: cell(place)?,
-        id: id(name),
+        id: short(name),
         kg: Kg::new(kg).ok_or("a mass")?,
     })
 }
 
 fn fill(name: &str, kg: u32) -> Op {
-    Op::Fill { name: id(name), kg }
+    Op::Fill { name: short(name), kg }
 }
 
 fn two_lifts(alloc: Global) -> Result<Vec<Lift>, Fail> {
@@ -38,7 +32,7 @@ fn two_rows(alloc: Global) -> Result<Vec<StepRow>, Fail> {
     let mut rows = Vec::new(alloc);
     rows.push(StepRow::Lift(2))?;
     rows.push(StepRow::Tank {
-        name: id("DB1"),
+        name: short("DB1"),
         kg: 5,
     })?;
     Ok(rows)
@@ -61,5 +55,18 @@ fn steps_of_lifts(rt: HostRuntime) -> Result<(), Fail> {
     assert_eq!(rt; orders.len(), 2);
     let first = item("0030082", "A", 1)?;
     assert_eq!(rt; orders[0], Op::Lift(Lift::Load(first)));
+    Ok(())
+}
+
+#[test]
+fn steps_are_copied(rt: HostRuntime) -> Result<(), Fail> {
+    let filled = fill("DB1", 5);
+    assert_eq!(rt; filled.copy(), filled);
+    let restowed = Op::Restow {
+        from: cell("0030082")?,
+        to: cell("0050082")?,
+        id: short("A"),
+    };
+    assert_eq!(rt; restowed.copy(), restowed);
     Ok(())
 }

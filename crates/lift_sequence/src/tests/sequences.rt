@@ -1,10 +1,10 @@
 //! Steps one after another, and the first that can't be done.
 ghost use Rattle.lift_sequence.specs.Sequence.{IsOf};
 
-use super::orders::{ABCU, Order, XYZU, items, ops};
+use super::orders::{ABCU, Order, XYZU, items, op, ops};
 use super::ships::{AFT, ASHORE, BESIDE, Check, FORE, LONG, MIDDLE, on_box_ship};
 use crate::faults::NO_MEMORY;
-use crate::{Arrival, SeqCode, SeqFault, Sequence, Step};
+use crate::{Arrival, Op, SeqCode, SeqFault, Sequence, Step};
 use ship_profile::Profile;
 use std::alloc::{AllocError, Global};
 use std::process::Abort;
@@ -230,22 +230,35 @@ const NOTHING: Step = Step {
     put: None,
 };
 
-/// What the last step of a sequence does.
-fn last_step(sequence: &Sequence) -> Step {
-    let last = sequence.len();
-    if last == 0 {
-        return NOTHING;
-    }
-    sequence.step(last)
+/// The last step of a sequence: what it orders, and what it does.
+#[derive(Drop)]
+struct Last {
+    order: Option<Op>,
+    step: Step,
 }
 
-/// What the last of these orders does, or why they can't be carried out.
+/// The last step of a sequence; nothing where it has none.
+fn last_step(sequence: &Sequence) -> Last {
+    let last = sequence.len();
+    if last == 0 {
+        return Last {
+            order: None,
+            step: NOTHING,
+        };
+    }
+    Last {
+        order: Some(sequence.lift(last).copy()),
+        step: sequence.step(last),
+    }
+}
+
+/// The last of these orders as a step, or why they can't be carried out.
 fn last_step_from(
     alloc: Global,
     profile: &Profile,
     arrival: &Arrival,
     orders: &[Order],
-) -> Result<Step, SeqFault>
+) -> Result<Last, SeqFault>
     requires { IsOf profile.now arrival.now }
 {
     let Ok(ops) = ops(alloc, orders) else {
@@ -257,8 +270,8 @@ fn last_step_from(
     }
 }
 
-/// What the last of these orders does where nothing is aboard on arrival, or why they can't be carried out.
-fn last_step_of(alloc: Global, profile: &Profile, orders: &[Order]) -> Result<Step, SeqFault> {
+/// The last of these orders as a step where nothing is aboard on arrival, or why they can't be carried out.
+fn last_step_of(alloc: Global, profile: &Profile, orders: &[Order]) -> Result<Last, SeqFault> {
     match Arrival::new(alloc, profile, Vec::new(alloc), &[]) {
         Ok(arrival) => last_step_from(alloc, profile, &arrival, orders),
         Err(fault) => Err(fault),
@@ -287,7 +300,7 @@ fn check_body(rt: &impl Abort, body: Option<Body>, want: &[i64; 6]) {
     assert_eq!(rt; figures.as_slice(), want.as_slice());
 }
 
-/// The last of these orders takes out one body and puts in another.
+/// The last of these orders is the last step, and takes out one body and puts in another.
 fn check_last(
     rt: &(impl Abort + AllocGlobal),
     profile: &Profile,
@@ -295,9 +308,10 @@ fn check_last(
     out: &[i64; 6],
     put: &[i64; 6],
 ) -> Result<(), Fail> {
-    let step = last_step_of(rt.alloc(), profile, orders)?;
-    check_body(rt, step.out, out);
-    check_body(rt, step.put, put);
+    let last = last_step_of(rt.alloc(), profile, orders)?;
+    assert_eq!(rt; last.order, orders.last().map(op));
+    check_body(rt, last.step.out, out);
+    check_body(rt, last.step.put, put);
     Ok(())
 }
 
