@@ -1,7 +1,7 @@
 ghost use Rattle.std.specs.Prelude.{◌≡◌, ◌≢◌, ◌++◌, ℕ, ℤ, ◌≤◌, length, flat_map, nat_eq, OnOk, IfOk, IfErr, Some, None, pos};
 ghost use Rattle.std.specs.Option.{is_some, option_or, option_to_list};
-ghost use Rattle.units_core.specs.declared.cells.Cell.{Cell as ACell};
-ghost use Rattle.lift_sequence.specs.declared.containers.Container.{Container as Aboard_};
+ghost use Rattle.units_core.specs.declared.cells.Cell.{Cell as CellValue};
+ghost use Rattle.lift_sequence.specs.declared.containers.Container.{Container as ContainerValue};
 ghost use Rattle.indexmap.specs.IndexMap.{IsUnique};
 ghost use Rattle.units_core.specs.Bodies.{Mass};
 ghost use Rattle.units_core.specs.Cells.{cell_eq};
@@ -272,7 +272,7 @@ fn add_containers(
     bodies: &mut Vec<Body>,
 ) -> Result<(), AllocError>
     ensures added { OnOk result (bodies.new.items ≡ bodies.old.items
-        ++ flat_map (λ (e : ACell × Aboard_). option_to_list (body_in (place_of profile.now e.0) (Some e.1))) cells.now.entries) }
+        ++ flat_map (λ (e : CellValue × ContainerValue). option_to_list (body_in (place_of profile.now e.0) (Some e.1))) cells.now.entries) }
     ensures unique { IsUnique cell_eq cells.now }
 {
     for (cell, container) in cells.iter() {

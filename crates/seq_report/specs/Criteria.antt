@@ -1,6 +1,6 @@
 -- The criteria: the condition lies within the ship's tables (C0), and the initial metacentric height is at least 0.15 m (C1;
 -- 2008 IS Code, part A, 2.2.4). A condition is judged on fractions, never on the figures that are printed of it.
-use Rattle.std.specs.Prelude.{ℤ, pos, ◌*ℤ◌, int_le, Bool, true, false, Option, None, Some}
+use Rattle.std.specs.Prelude.{ℤ, pos, ◌*ℤ◌, int_le, Bool, true, not, List, [], ◌∷◌, find, Option, None, Some}
 use Rattle.units_core.specs.Ratio.{Ratio}
 use Rattle.ship_tables.specs.Record.{HydroTable}
 use Rattle.seq_report.specs.declared.sums.Sum.{Sum}
@@ -16,14 +16,23 @@ use Rattle.seq_report.specs.Floating.{Waterline, waterline, gm, figures_on}
 abbrev pub is_at_least : Ratio → ℤ → Bool
 is_at_least r k = int_le (k *ℤ r.bottom) r.top
 
--- whether C1 holds, and the figures
-abbrev pub judged : Bool → Figures → Verdict
-judged true figures = Passes figures
-judged false figures = Fails C1 figures
+-- the criteria in their order
+abbrev pub criteria : List Criterion
+criteria = C0 ∷ C1 ∷ []
+
+-- whether a criterion holds of a condition that lies within the tables
+abbrev pub holds : Sum → Waterline → Criterion → Bool
+holds s w C0 = true
+holds s w C1 = is_at_least (gm w.kmt s) (pos 150)
+
+-- the figures, and the first criterion that doesn't hold, if there is one
+abbrev pub judged : Option Criterion → Figures → Verdict
+judged None figures = Passes figures
+judged (Some criterion) figures = Fails criterion figures
 
 abbrev pub verdict_on : Sum → Option Waterline → Verdict
 verdict_on s None = Outside Hydro
-verdict_on s (Some w) = judged (is_at_least (gm w.kmt s) (pos 150)) (figures_on s w)
+verdict_on s (Some w) = judged (find (λ c. not (holds s w c)) criteria) (figures_on s w)
 
 abbrev pub verdict_of : HydroTable → Sum → Verdict
 verdict_of h s = verdict_on s (waterline h s.kg)

@@ -1,10 +1,11 @@
 -- The report: a heading, a line for each step, and the first of them that fails.
-use Rattle.std.specs.Prelude.{ℕ, ℤ, ◌+◌, List, [], ◌∷◌, ◌++◌, map, flat_map, codes, Option, Some, None, option_map}
+use Rattle.std.specs.Prelude.{ℕ, zero, suc, ℤ, List, [], ◌∷◌, ◌++◌, length, map, flat_map, slice_get, take, codes, Option, Some, None, option_map}
+use Rattle.std.specs.List.{range_with_len}
 use Rattle.std.specs.Fmt.{decimal, signed_decimal}
 use Rattle.std.specs.Option.{option_or}
 use Rattle.ship_profile.specs.Record.{ProfileRecord}
 use Rattle.lift_sequence.specs.declared.operations.Op.{Op}
-use Rattle.lift_sequence.specs.Aboard.{Aboard, moved}
+use Rattle.lift_sequence.specs.Aboard.{Aboard, after_all}
 use Rattle.lift_sequence.specs.Bodies.{bodies}
 use Rattle.seq_report.specs.declared.floating.Figures.{Figures}
 use Rattle.seq_report.specs.declared.criteria.Criterion.{Criterion}
@@ -95,15 +96,18 @@ step_line ship step at = record {
   verdict = verdict_of ship.tables.hydro (sum_of (bodies ship at));
 }
 
--- the lines of some steps behind the step of a number, one after another
-abbrev pub lines_behind : ProfileRecord → ℕ → Aboard → List Op → List Line
-lines_behind ship step at [] = []
-lines_behind ship step at (op ∷ more) =
-    record { lift = Some op; step = step_line ship (step + 1) (moved ship at op) } ∷ lines_behind ship (step + 1) (moved ship at op) more
+-- what leads to a line: nothing to the condition on arrival, line 0, and step k to line k
+abbrev pub lift_to : List Op → ℕ → Option Op
+lift_to ops zero = None
+lift_to ops (suc k) = slice_get ops k
 
--- the lines of a run: the condition on arrival, and each step
+-- line k: what is said with this aboard on arrival once the first k steps are done
+abbrev pub line_at : ProfileRecord → Aboard → List Op → ℕ → Line
+line_at ship arrival ops k = record { lift = lift_to ops k; step = step_line ship k (after_all ship arrival (take k ops)) }
+
+-- the lines of a run, from that of the condition on arrival to that of the last step
 abbrev pub lines_of : ProfileRecord → Aboard → List Op → List Line
-lines_of ship arrival ops = record { lift = None; step = step_line ship 0 arrival } ∷ lines_behind ship 0 arrival ops
+lines_of ship arrival ops = map (line_at ship arrival ops) (range_with_len 0 (suc (length ops)))
 
 -- the last line
 abbrev pub last_line : Option (ℕ × Criterion) → List ℕ

@@ -1,6 +1,6 @@
-ghost use Rattle.std.specs.Prelude.{◌≡◌, ◌≢◌, ◌≤◌, length, option_map, false, IfOk, IfErr, Ok, Err};
+ghost use Rattle.std.specs.Prelude.{◌≡◌, ◌≢◌, ◌≤◌, length, option_map, false, IfOk, IfErr, None, Ok, Err};
 ghost use Rattle.lift_sequence.specs.Arrival.{on_arrival};
-ghost use Rattle.lift_sequence.specs.Sequence.{IsOf};
+ghost use Rattle.lift_sequence.specs.Sequence.{IsOf, sequence_fault};
 ghost use Rattle.seq_report.specs.Refusal.{TellsMemory, arrival_in, is_write, items_in, lifts_in, orders_in, orders_on, rows_of, sequence_in, ship_in};
 
 use crate::faults::RunFault;
@@ -129,6 +129,7 @@ pub fn sequence(
 ) -> Result<Sequence, RunFault>
     requires { IsOf profile.now arrival.now }
     ensures ok { IfOk result (λ s. sequence_in profile.now (on_arrival arrival.now.items arrival.now.fills) ops.items ≡ Ok s.ops) }
+    ensures legal { IfOk result (λ s. sequence_fault profile.now (on_arrival arrival.now.items arrival.now.fills) s.ops ≡ None) }
     ensures few { IfOk result (λ s. length s.ops ≤ 120000) }
     ensures refused { IfErr result (λ e. e ≢ RunFault.NoMemory → sequence_in profile.now (on_arrival arrival.now.items arrival.now.fills) ops.items ≡ Err e) }
     ensures memory { IfErr result TellsMemory }

@@ -1,7 +1,7 @@
-ghost use Rattle.std.specs.Prelude.{◌≡◌, ◌≢◌, ℕ, ◌<◌, ◌≤◌, length, take, true, false, IfOk, IfErr, Ok, Err};
+ghost use Rattle.std.specs.Prelude.{◌≡◌, ◌≢◌, ℕ, ◌<◌, ◌≤◌, length, take, true, false, None, IfOk, IfErr, Ok, Err};
 ghost use Rattle.std.specs.Io.KnownBytes.{Appends};
 ghost use Rattle.lift_sequence.specs.Arrival.{on_arrival};
-ghost use Rattle.lift_sequence.specs.Sequence.{IsOf};
+ghost use Rattle.lift_sequence.specs.Sequence.{IsOf, sequence_fault};
 ghost use Rattle.seq_report.specs.Report.{lines_of};
 ghost use Rattle.seq_report.specs.Refusal.{Outcome, TellsMemory, outcome_for, outcome_from, outcome_of, outcome_on, outcome_with, is_refusal, is_write, is_write_fault};
 
@@ -21,7 +21,8 @@ fn report_on_steps(
     arrival: &Arrival,
     sequence: &Sequence,
 ) -> Result<Finished, AllocError>
-    requires { length sequence.now.ops ≤ 120000 }
+    requires few { length sequence.now.ops ≤ 120000 }
+    requires legal { sequence_fault profile.now (on_arrival arrival.now.items arrival.now.fills) sequence.now.ops ≡ None }
     ensures { IfOk result (λ made. made ≡ outcome_on (lines_of profile.now (on_arrival arrival.now.items arrival.now.fills) sequence.now.ops)) }
 {
     let mut stowage = arrival.stowage(alloc)?;

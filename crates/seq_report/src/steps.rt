@@ -1,13 +1,16 @@
-ghost use Rattle.std.specs.Prelude.{◌≡◌, ◌≤◌, ◌++◌, flat_map, length, IfOk, OnOk, option_map, string_bytes};
+ghost use Rattle.std.specs.Prelude.{◌≡◌, ◌≤◌, ◌++◌, flat_map, length, map, IfOk, None, OnOk, option_map, string_bytes};
+ghost use Rattle.std.specs.List.{range_with_len};
 ghost use Rattle.std.specs.Option.{option_or};
 ghost use Rattle.lift_sequence.specs.Aboard.{held, moved};
-ghost use Rattle.seq_report.specs.Report.{failure_of, first_of, line_of, lines_behind, step_line, text_of};
+ghost use Rattle.lift_sequence.specs.Legal.{fault_of};
+ghost use Rattle.lift_sequence.specs.Sequence.{first_fault};
+ghost use Rattle.seq_report.specs.Report.{failure_of, first_of, line_at, line_of, step_line, text_of};
 
 use crate::criteria::judge;
 use crate::drafts::Draft;
 use crate::lines::StepLine;
 use crate::sums::sum_of;
-use lift_sequence::{Op, Sequence, Stowage};
+use lift_sequence::{Op, SeqCode, Sequence, Stowage};
 use ship_profile::Profile;
 use std::alloc::{AllocError, Global};
 
@@ -46,17 +49,19 @@ pub fn add_step(
     draft.add(lift, &line)
 }
 
-/// Does a step of a sequence, which can be done where it comes: only memory can be wanting.
+/// Does a step that can be done: only memory can be wanting.
 fn make(stowage: &mut Stowage, profile: &Profile, op: &Op) -> Result<(), AllocError>
+    requires { fault_of profile.now (held stowage.old) op.now ≡ None }
     ensures { OnOk result (held stowage.new ≡ moved profile.now (held stowage.old) op.now) }
 {
     match stowage.make(profile, op) {
         Ok(_) => Ok(()),
-        Err(_) => Err(AllocError),
+        Err(SeqCode::NoMemory) => Err(AllocError),
+        Err(_) => unreachable!(),
     }
 }
 
-/// Does all steps of a sequence, and adds the line of each.
+/// Does all steps of a sequence, each of which can be done where it comes, and adds the line of each.
 pub fn add_steps(
     alloc: Global,
     profile: &Profile,
@@ -64,10 +69,12 @@ pub fn add_steps(
     sequence: &Sequence,
     draft: &mut Draft,
 ) -> Result<(), AllocError>
-    requires { length sequence.now.ops ≤ 120000 }
+    requires few { length sequence.now.ops ≤ 120000 }
+    requires legal { first_fault profile.now (held stowage.old) 1 sequence.now.ops ≡ None }
     ensures text { OnOk result (string_bytes draft.new.text ≡ string_bytes draft.old.text
-        ++ flat_map text_of (lines_behind profile.now 0 (held stowage.old) sequence.now.ops)) }
-    ensures first { OnOk result (draft.new.first ≡ option_or draft.old.first (first_of (lines_behind profile.now 0 (held stowage.old) sequence.now.ops))) }
+        ++ flat_map text_of (map (line_at profile.now (held stowage.old) sequence.now.ops) (range_with_len 1 (length sequence.now.ops)))) }
+    ensures first { OnOk result (draft.new.first ≡ option_or draft.old.first
+        (first_of (map (line_at profile.now (held stowage.old) sequence.now.ops) (range_with_len 1 (length sequence.now.ops))))) }
 {
     let mut step = 0;
     for index in 0..sequence.len() {

@@ -18,7 +18,10 @@ fn item(place: &str, name: &str, kg: u32) -> Result<Item, Fail> {
 }
 
 fn fill(name: &str, kg: u32) -> Op {
-    Op::Fill { name: short(name), kg }
+    Op::Fill {
+        name: short(name),
+        kg,
+    }
 }
 
 fn two_lifts(alloc: Global) -> Result<Vec<Lift>, Fail> {

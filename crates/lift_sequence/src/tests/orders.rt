@@ -19,6 +19,8 @@ pub const XYZU: &str = "XYZU7654320";
 pub enum Order {
     /// A container comes into a cell.
     Load(Cell),
+    /// A container of another identification does.
+    Loaded(Cell, &'static str),
     /// The container of an identification goes ashore from a cell.
     Discharge(Cell, &'static str),
     /// A tank holds so many kg.
@@ -35,10 +37,10 @@ pub fn short<const MOST: usize>(text: &str) -> ArrayVec<u8, MOST> {
 }
 
 /// A container in a cell.
-pub fn item(cell: Cell) -> Item {
+fn item(cell: Cell, id: &str) -> Item {
     Item {
         cell,
-        id: short(ABCU),
+        id: short(id),
         kg: Kg::new(CONTAINER_KG).unwrap(),
     }
 }
@@ -47,7 +49,7 @@ pub fn item(cell: Cell) -> Item {
 pub fn items(alloc: Global, cells: &[Cell]) -> Result<Vec<Item>, AllocError> {
     let mut items = Vec::new(alloc);
     for cell in cells {
-        items.push(item(*cell))?;
+        items.push(item(*cell, ABCU))?;
     }
     Ok(items)
 }
@@ -55,7 +57,8 @@ pub fn items(alloc: Global, cells: &[Cell]) -> Result<Vec<Item>, AllocError> {
 /// The step of an order.
 pub fn op(order: &Order) -> Op {
     match order {
-        Order::Load(cell) => Op::Lift(Lift::Load(item(*cell))),
+        Order::Load(cell) => Op::Lift(Lift::Load(item(*cell, ABCU))),
+        Order::Loaded(cell, id) => Op::Lift(Lift::Load(item(*cell, id))),
         Order::Discharge(cell, id) => Op::Lift(Lift::Discharge {
             cell: *cell,
             id: short(id),

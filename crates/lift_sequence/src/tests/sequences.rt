@@ -7,6 +7,7 @@ use crate::faults::NO_MEMORY;
 use crate::{Arrival, Op, SeqCode, SeqFault, Sequence, Step};
 use ship_profile::Profile;
 use std::alloc::{AllocError, Global};
+use std::ops::Range;
 use std::process::Abort;
 use std::test::Fail;
 use units_core::{Body, Cell};
@@ -147,7 +148,7 @@ fn cells_and_containers(rt: HostRuntime) -> Result<(), Fail> {
     on_box_ship(&rt, &Cases(&CONTAINERS))
 }
 
-static RESTOWS: [Case; 6] = [
+static RESTOWS: [Case; 10] = [
     Case {
         aboard: &[],
         orders: &[Order::Restow(MIDDLE, AFT)],
@@ -170,6 +171,39 @@ static RESTOWS: [Case; 6] = [
         want: Err(SeqFault {
             code: SeqCode::UnknownCell,
             at: 2,
+        }),
+    },
+    // what can't be taken out is told before what can't be put in
+    Case {
+        aboard: &[],
+        orders: &[Order::Restow(MIDDLE, ASHORE)],
+        want: Err(SeqFault {
+            code: SeqCode::CellEmpty,
+            at: 1,
+        }),
+    },
+    Case {
+        aboard: &[],
+        orders: &[Order::Loaded(BESIDE, XYZU), Order::Restow(BESIDE, AFT)],
+        want: Err(SeqFault {
+            code: SeqCode::WrongContainer,
+            at: 2,
+        }),
+    },
+    Case {
+        aboard: &[BESIDE, AFT],
+        orders: &[Order::Restow(BESIDE, AFT)],
+        want: Err(SeqFault {
+            code: SeqCode::CellTaken,
+            at: 1,
+        }),
+    },
+    Case {
+        aboard: &[BESIDE, FORE],
+        orders: &[Order::Restow(BESIDE, LONG)],
+        want: Err(SeqFault {
+            code: SeqCode::Overlap(FORE),
+            at: 1,
         }),
     },
     Case {
@@ -363,10 +397,10 @@ fn tank_steps(rt: HostRuntime) -> Result<(), Fail> {
     on_box_ship(&rt, &last)
 }
 
-/// So many lifts, which load a container and discharge it in turn.
-fn turns(alloc: Global, count: u32) -> Result<Vec<Order>, AllocError> {
+/// The lifts of these numbers, which load a container and discharge it in turn.
+fn turns(alloc: Global, numbers: Range<u32>) -> Result<Vec<Order>, AllocError> {
     let mut turns = Vec::new(alloc);
-    for number in 0..count {
+    for number in numbers {
         let order = if number % 2 == 0 {
             Order::Load(MIDDLE)
         } else {
@@ -377,14 +411,14 @@ fn turns(alloc: Global, count: u32) -> Result<Vec<Order>, AllocError> {
     Ok(turns)
 }
 
-/// So many lifts in turn have this answer.
+/// The lifts of these numbers have this answer.
 fn check_turns(
     rt: &(impl Abort + AllocGlobal),
     profile: &Profile,
-    count: u32,
+    numbers: Range<u32>,
     want: Result<usize, SeqFault>,
 ) -> Result<(), Fail> {
-    let turns = turns(rt.alloc(), count)?;
+    let turns = turns(rt.alloc(), numbers)?;
     let answer = length_of(rt.alloc(), profile, &[], &turns);
     assert_eq!(rt; answer, want);
     Ok(())
@@ -400,14 +434,15 @@ impl Check for Longest {
     }
 }
 
-/// As many lifts as a sequence may have, and one more.
+/// As many lifts as a sequence may have; and one more, also where the first of them can't be done.
 fn check_longest(rt: &(impl Abort + AllocGlobal), profile: &Profile) -> Result<(), Fail> {
     let too_many = SeqFault {
         code: SeqCode::TooManySteps,
         at: 120_001,
     };
-    check_turns(rt, profile, 120_000, Ok(120_000))?;
-    check_turns(rt, profile, 120_001, Err(too_many))
+    check_turns(rt, profile, 0..120_000, Ok(120_000))?;
+    check_turns(rt, profile, 0..120_001, Err(too_many))?;
+    check_turns(rt, profile, 1..120_002, Err(too_many))
 }
 
 #[test]

@@ -123,6 +123,21 @@ fn steps_file_faults(rt: HostRuntime) -> Result<(), Fail> {
     Ok(())
 }
 
+// The instruction is read before the steps file, and the steps file before the steps are gone through.
+#[test]
+fn refusals_in_their_order(rt: HostRuntime) -> Result<(), Fail> {
+    for (movins, refusal) in [(NO_HANDLING, "F4 M8 segment 2"), (OVER_IT, "F9 G2 line 2")] {
+        let run = Run {
+            baplie: ONE_ABOARD,
+            movins,
+            steps: Some(b"kind,a,b,c\nswap,1,,\n"),
+            ..IDLE
+        };
+        check_refusal(&rt, &run, refusal)?;
+    }
+    Ok(())
+}
+
 #[test]
 fn steps_that_can_not_be(rt: HostRuntime) -> Result<(), Fail> {
     for (steps, refusal) in [

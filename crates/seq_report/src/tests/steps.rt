@@ -1,5 +1,8 @@
 use super::{IDLE, LIMITS, Run, SHIP, TO_STARBOARD, check_passes, written};
+use crate::lifts::write_lift;
 use crate::{Criterion, Summary};
+use arrayvec::ArrayVec;
+use lift_sequence::Op;
 use std::alloc::Global;
 use std::process::Abort;
 use std::test::Fail;
@@ -71,11 +74,14 @@ fn hydrostatic_front_edge(rt: HostRuntime) -> Result<(), Fail> {
     check_failing_block(&rt, 4_099_999, 6_000, before, Criterion::C0)
 }
 
-// A metacentric height of 150 mm and a little less: 149 mm and two thirds are printed as 149.
+// The metacentric height is 149 mm, and then 149 mm and two thirds, which are printed rounded down and judged as they
+// are.
 #[test]
 fn gm_short(rt: HostRuntime) -> Result<(), Fail> {
     let short = "0 - 8200000 149 4000 FAIL C1";
-    check_failing_block(&rt, 8_200_000, 10_184, short, Criterion::C1)
+    check_failing_block(&rt, 8_200_000, 10_184, short, Criterion::C1)?;
+    let hardly = "0 - 8623000 149 4206 FAIL C1";
+    check_failing_block(&rt, 8_623_000, 10_000, hardly, Criterion::C1)
 }
 
 #[test]
@@ -202,5 +208,16 @@ fn first_failing_step(rt: HostRuntime) -> Result<(), Fail> {
         first: Some((1, Criterion::C0)),
     };
     assert_eq!(rt; outcome, Ok(summary));
+    Ok(())
+}
+
+// A blank in the name of a tank would split the line.
+#[test]
+fn blank_in_a_name(rt: HostRuntime) -> Result<(), Fail> {
+    let mut name = ArrayVec::new();
+    let _ = name.try_extend_from_slice(b"DB 1");
+    let mut text = String::new(rt.alloc());
+    write_lift(&mut text, Some(&Op::Fill { name, kg: 5 }))?;
+    assert_eq!(rt; text.as_str(), "TDB?1");
     Ok(())
 }
