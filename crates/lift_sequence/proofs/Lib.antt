@@ -1,3 +1,4 @@
+pub mod ArrivalSums
 pub mod Listings
 pub mod Overlaps
 pub mod States

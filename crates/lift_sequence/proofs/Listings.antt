@@ -1,5 +1,5 @@
 -- Every body that is aboard, listed by what is held, and by the ship's tanks and cells.
-use Rattle.std.proofs.Common.{◌≡◌, ℕ, suc, zero, ◌+◌, ◌≤◌, ◌<◌, List, [], ◌∷◌, ◌++◌, map, flat_map, length, Option, None, Some, Bool, true, false, cond, nat_eq, nat_lt, ℤ, pos, refl, sym, ap, ◌∙◌, arith, eqb-true}
+use Rattle.std.proofs.Common.{◌≡◌, ℕ, suc, zero, ◌+◌, ◌≤◌, ◌<◌, List, [], ◌∷◌, ◌++◌, map, flat_map, length, Option, None, Some, Bool, true, false, cond, nat_eq, nat_lt, ℤ, pos, ◌+ℤ◌, refl, sym, ap, ◌∙◌, arith, eqb-true}
 use Rattle.std.specs.Prelude.{find, slice_get}
 use Rattle.std.specs.Cmp.{unsigned_Decides}
 use Rattle.std.specs.List.{IsDistinct, AllByRecursion, range_with_len}
@@ -38,7 +38,7 @@ apart_from : (k a n : ℕ) → k < a → AllByRecursion (λ y. nat_eq k y ≡ fa
 apart_from k a zero h = tt
 apart_from k a (suc n) h = (grind arith, apart_from k (a + 1) n (omega arith))
 
-distinct_range : (a n : ℕ) → IsDistinct nat_eq (map (λ t. t) (range_with_len a n))
+pub distinct_range : (a n : ℕ) → IsDistinct nat_eq (map (λ t. t) (range_with_len a n))
 unfolding IsDistinct
 distinct_range a zero = tt
 distinct_range a (suc n) = (apart_from a (a + 1) n (omega arith), distinct_range (a + 1) n)
@@ -51,7 +51,7 @@ module _ (ship : ProfileRecord) where
   tank_row : ℕ → Option ℕ → List Mass
   tank_row tank held = option_to_list (filling_in ship tank held)
 
-  tank_given : (k kg : ℕ) (b : Bool) → nat_lt k (length ship.tables.tanks) ≡ b
+  pub tank_given : (k kg : ℕ) (b : Bool) → nat_lt k (length ship.tables.tanks) ≡ b
       → given (λ (t : ℕ). t) nat_eq (λ a b h. eqb-true a b h) (λ t held. option_to_list (filling_in ship t held)) (λ t. refl)
       (element (λ (t : ℕ). t) nat_eq (λ a b h. eqb-true a b h) (λ t held. option_to_list (filling_in ship t held)) (λ t. refl) (range_with_len 0 (length ship.tables.tanks)) k) kg
       ≡ option_to_list (tank_body ship k kg)
@@ -141,19 +141,35 @@ is_free None h = refl
 is_free (Some c) h = absurd (cc)
 
 -- so each that is put aboard is one body more in the ship's cells
+pub stowed_adds : (ship : ProfileRecord) (f : Mass → ℤ) (now : Aboard) (cell : Cell) (v : Container) → IsDistinct cell_eq (keys_of ship.tables.cells)
+    → stand_fault ship now.cells cell ≡ None
+    → total f (bodies_in_cells ship (with_cell now cell (Some v)).cells)
+    ≡ total f (bodies_in_cells ship now.cells) +ℤ total f (option_to_list (body_in (place_of ship cell) (Some v)))
+stowed_adds ship f now cell v tidy legal =
+    let s = stood (place_of ship cell) (is_some (now.cells cell)) (overlap now.cells cell) legal in
+    let one = one_more (λ (e : Cell × Place). e.0) cell_eq cells_same (λ e held. option_to_list (body_in (Some e.1) held)) (λ e. refl) f now.cells cell v ship.tables.cells
+    (is_free (now.cells cell) s.1) tidy in
+    let body : given (λ (e : Cell × Place). e.0) cell_eq cells_same (λ e held. option_to_list (body_in (Some e.1) held)) (λ e. refl)
+    (find (λ (x : Cell × Place). cell_eq cell x.0) ship.tables.cells) v ≡ option_to_list (body_in (place_of ship cell) (Some v))
+    = cell_given ship v (find (λ (x : Cell × Place). cell_eq cell x.0) ship.tables.cells)
+    ∙ ap (λ o. option_to_list (body_in o (Some v))) (sym (found ship cell ship.tables.cells)) in
+    one ∙ ap (λ (bs : List Mass). total f (bodies_in_cells ship now.cells) +ℤ total f bs) body
+
 pub stowed_more : (ship : ProfileRecord) (now next : Aboard) (cell : Cell) (v : Container) (n : ℕ) → IsDistinct cell_eq (keys_of ship.tables.cells)
     → pos n ≡ total (λ body. pos 1) (bodies_in_cells ship now.cells) → stand_fault ship now.cells cell ≡ None → next ≡ with_cell now cell (Some v)
     → pos (n + 1) ≡ total (λ body. pos 1) (bodies_in_cells ship next.cells)
 stowed_more ship now next cell v n tidy so_far legal moves =
     let f : Mass → ℤ = λ body. pos 1 in
     let s = stood (place_of ship cell) (is_some (now.cells cell)) (overlap now.cells cell) legal in
-    let one = one_more (λ (e : Cell × Place). e.0) cell_eq cells_same (λ e held. option_to_list (body_in (Some e.1) held)) (λ e. refl) f now.cells cell v ship.tables.cells
-    (is_free (now.cells cell) s.1) tidy in
-    let body : given (λ (e : Cell × Place). e.0) cell_eq cells_same (λ e held. option_to_list (body_in (Some e.1) held)) (λ e. refl)
-    (find (λ (x : Cell × Place). cell_eq cell x.0) ship.tables.cells) v ≡ option_to_list (body_in (Some s.0.0) (Some v))
-    = cell_given ship v (find (λ (x : Cell × Place). cell_eq cell x.0) ship.tables.cells)
-    ∙ ap (λ o. option_to_list (body_in o (Some v))) (sym (found ship cell ship.tables.cells) ∙ s.0.1) in
-    omega (arith, ints, so_far, one, ap (total f) body, ap (λ (a : Aboard). total f (bodies_in_cells ship a.cells)) moves)
+    let adds = stowed_adds ship f now cell v tidy legal in
+    omega (
+      arith,
+      ints,
+      so_far,
+      adds,
+      ap (λ (o : Option Place). total f (option_to_list (body_in o (Some v)))) s.0.1,
+      ap (λ (a : Aboard). total f (bodies_in_cells ship a.cells)) moves,
+    )
 
 -- and there are no more of them than cells
 pub stowed_few : (ship : ProfileRecord) (now : Aboard) (n : ℕ) → length ship.tables.cells ≤ 30000 → pos n ≡ total (λ body. pos 1) (bodies_in_cells ship now.cells) → n ≤ 30000

@@ -4,6 +4,7 @@ use Rattle.std.specs.List.{filter_map}
 use Rattle.std.specs.Option.{option_or, option_map, option_to_list}
 use Rattle.std.proofs.lemmas.List.{take_more, drop_more}
 use Rattle.std.proofs.lemmas.List.Elements.{filter_map-append}
+use Rattle.std.proofs.lemmas.Option.{none-some}
 use Rattle.units_core.specs.declared.cells.Cell.{Cell}
 use Rattle.stow_messages.specs.declared.items.Item.{Item}
 use Rattle.ship_profile.specs.declared.fills.TankFill.{TankFill}
@@ -27,6 +28,9 @@ module _ {X Y : Type 0} (h : X → Option Y) where
     by_cases : (o : Option Y) → h x ≡ o → filter_map h (x ∷ []) ≡ option_to_list o
     by_cases None e = rw e refl
     by_cases (Some y) e = rw e refl
+
+  pub filter_first : (x : X) (xs : List X) → filter_map h (x ∷ xs) ≡ option_to_list (h x) ++ filter_map h xs
+  filter_first x xs = filter_map-append h (x ∷ []) xs ∙ ap (λ ys. ys ++ filter_map h xs) (filter_one x)
 
   pub filter_more : (xs : List X) (i : ℕ) (x : X) (before after : List Y) (o : Option Y) → i < length xs → x ≡ get_or xs i x → before ≡ filter_map h (take i xs)
       → o ≡ h x → after ≡ before ++ option_to_list o → after ≡ filter_map h (take (i + 1) xs)
@@ -61,6 +65,11 @@ passed n o more e = rw e refl
 
 stopped : (n : ℕ) (o : Option SeqCode) (e : SeqCode) (more : Option SeqFault) → o ≡ Some e → option_or (option_map (fault_at n) o) more ≡ Some (fault_at n e)
 stopped n o e more h = rw h refl
+
+-- where neither a first one nor those behind it have a fault
+pub none_first : (n : ℕ) (o : Option SeqCode) (more : Option SeqFault) → option_or (option_map (fault_at n) o) more ≡ None → (o ≡ None) × (more ≡ None)
+none_first n None more h = (refl, h)
+none_first n (Some code) more h = absurd (none-some (fault_at n code) (sym h))
 
 -- what is left begins with the element that comes next
 front : {X : Type 0} (xs : List X) (i : ℕ) (x : X) → i < length xs → x ≡ get_or xs i x → drop i xs ≡ x ∷ drop (i + 1) xs

@@ -28,7 +28,7 @@ module _ {E K V B : Type 0} (key : E → K) (eq : K → K → Bool) (same : (a b
   given None v = []
   given (Some x) v = h x (Some v)
 
-  empty_rows : (es : List E) → rows (λ k. None) es ≡ []
+  pub empty_rows : (es : List E) → rows (λ k. None) es ≡ []
   empty_rows [] = refl
   empty_rows (x ∷ es) = λ i. none x i ++ empty_rows es i
 

@@ -1,10 +1,13 @@
-ghost use Rattle.std.specs.Prelude.{◌≡◌, ◌≢◌, ◌≤◌, ◌^◌, ◌++◌, [], length, map, filter_map, nat_eq, OnOk, IfOk, IfErr, Some, None};
+ghost use Rattle.std.specs.Prelude.{◌≡◌, ◌≢◌, ◌≤◌, ◌^◌, ◌++◌, ℤ, [], length, map, filter_map, nat_eq, OnOk, IfOk, IfErr, Some, None};
+ghost use Rattle.std.specs.List.{IsDistinct};
+ghost use Rattle.units_core.specs.Bodies.{Mass};
 ghost use Rattle.ship_profile.specs.Record.{IsSound, place_of, tank_body};
 ghost use Rattle.lift_sequence.specs.Aboard.{held, nothing, with_cell, container_of};
 ghost use Rattle.lift_sequence.specs.Arrival.{arrival_bodies, arrival_fault, fills_fault, items_fault, with_items, with_fills, on_arrival};
-ghost use Rattle.lift_sequence.specs.Bodies.{body_in};
+ghost use Rattle.lift_sequence.specs.Bodies.{bodies, body_in};
 ghost use Rattle.lift_sequence.specs.Legal.{stand_fault};
 ghost use Rattle.lift_sequence.specs.Sequence.{IsOf};
+ghost use Rattle.lift_sequence.specs.Totals.{total};
 
 use crate::containers::container_of;
 use crate::faults::{NO_MEMORY, SeqCode, SeqFault, fault_at};
@@ -125,6 +128,7 @@ fn joined(
 impl Arrival {
     /// The condition of a ship on arrival with these items of her bay plan and these fills. The first fault is answered: item by item
     /// [`SeqCode::UnknownCell`], `CellTaken` and `Overlap`, then fill by fill `TankOver`, with the number of the item or the fill, from 1.
+    /// Where no tank is filled twice, its bodies add up, in every value, to those of what is aboard.
     pub fn new(
         alloc: Global,
         profile: &Profile,
@@ -137,6 +141,8 @@ impl Arrival {
         ensures fills { IfOk result (λ a. a.fills ≡ fills.now) }
         ensures bodies { IfOk result (λ a. a.bodies ≡ arrival_bodies profile.now items.items fills.now) }
         ensures of { IfOk result (λ a. IsOf profile.now a) }
+        ensures sums { IfOk result (λ a. IsDistinct nat_eq (map (λ fill. fill.tank) fills.now) → (f : Mass → ℤ)
+            → total f a.bodies ≡ total f (bodies profile.now (on_arrival items.items fills.now))) }
         ensures refused { IfErr result (λ e. e.code ≢ SeqCode.NoMemory → arrival_fault profile.now items.items fills.now ≡ Some e) }
         ensures memory { IfErr result (λ e. e.code ≡ SeqCode.NoMemory → e.at ≡ 0) }
     {

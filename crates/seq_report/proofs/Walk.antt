@@ -1,19 +1,17 @@
 -- The lines of a report, step by step.
 use Rattle.std.proofs.Common.{◌≡◌, ◌∙◌, ℕ, suc, ◌+◌, List, [], ◌∷◌, ◌++◌, append_assoc, length, take, drop, map, flat_map, slice_get, Option, None, Some, refl, sym, ap, arith}
 use Rattle.std.specs.List.{range_with_len}
-use Rattle.std.specs.Option.{option_or, option_map}
+use Rattle.std.specs.Option.{option_or}
 use Rattle.std.proofs.lemmas.Grind.{flat_map-append}
 use Rattle.std.proofs.lemmas.List.{append-nil, drop_more, take_more}
 use Rattle.std.proofs.lemmas.List.FromFn.{length-map-range_with_len, map-range_with_len_more}
-use Rattle.std.proofs.lemmas.Option.{none-some, slice_get_within, get_or_from_slice_get}
+use Rattle.std.proofs.lemmas.Option.{slice_get_within, get_or_from_slice_get}
 use Rattle.ship_profile.specs.Record.{ProfileRecord}
-use Rattle.lift_sequence.specs.declared.faults.SeqCode.{SeqCode}
-use Rattle.lift_sequence.specs.declared.faults.SeqFault.{SeqFault}
 use Rattle.lift_sequence.specs.declared.operations.Op.{Op}
 use Rattle.lift_sequence.specs.Aboard.{Aboard, after_all, moved}
-use Rattle.lift_sequence.specs.Arrival.{fault_at}
 use Rattle.lift_sequence.specs.Legal.{fault_of}
 use Rattle.lift_sequence.specs.Sequence.{first_fault}
+use Rattle.lift_sequence.proofs.States.{none_first}
 use Rattle.seq_report.specs.declared.criteria.Criterion.{Criterion}
 use Rattle.seq_report.specs.Refusal.{outcome_on}
 use Rattle.seq_report.specs.Report.{Line, failure_of, first_of, header_of, last_line, lift_to, line_at, line_of, lines_of, report_of, step_line, text_of}
@@ -50,11 +48,7 @@ first_last : (lines : List Line) (line : Line) → first_of (lines ++ line ∷ [
 first_last [] line = or_none (failure_of line.step)
 first_last (first ∷ lines) line = ap (option_or (failure_of first.step)) (first_last lines line) ∙ or_assoc (failure_of first.step) (first_of lines) (failure_of line.step)
 
--- steps without a fault: the first has none, and those behind it have none
-none_first : (n : ℕ) (o : Option SeqCode) (more : Option SeqFault) → option_or (option_map (fault_at n) o) more ≡ None → (o ≡ None) × (more ≡ None)
-none_first n None more h = (refl, h)
-none_first n (Some code) more h = absurd (none-some (fault_at n code) (sym h))
-
+-- steps that can be done, one by one
 module _ (ship : ProfileRecord) (arrival : Aboard) (ops : List Op) (i : ℕ) (op : Op) (here : slice_get ops i ≡ Some op) where
   pub op_legal : (now : Aboard) → first_fault ship now (i + 1) (drop i ops) ≡ None → fault_of ship now op ≡ None
   op_legal now legal = (none_first (i + 1) _ _ (ap (first_fault ship now (i + 1)) (sym (front ops i op here)) ∙ legal)).0
