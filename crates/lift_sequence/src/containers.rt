@@ -9,7 +9,9 @@ use units_core::Kg;
 /// A container aboard: its identification, which may be empty, and its gross mass.
 #[derive(Debug, Drop, PartialEq, Eq)]
 pub struct Container {
+    /// Its identification, as the messages write it.
     pub id: ArrayVec<u8, 17>,
+    /// Its gross mass.
     pub kg: Kg,
 }
 

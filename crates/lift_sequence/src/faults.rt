@@ -36,10 +36,12 @@ pub enum SeqCode {
     UnknownTank,
 }
 
-/// The cause, and the number of the item, the fill or the step, each from 1; 0 for want of memory.
+/// An item, a fill or a step that can't be. Each is numbered from 1; want of memory has 0.
 #[derive(Clone, Copy, Debug, PartialEq, Eq)]
 pub struct SeqFault {
+    /// Why it can't be.
     pub code: SeqCode,
+    /// The number of the item, the fill or the step.
     pub at: u32,
 }
 

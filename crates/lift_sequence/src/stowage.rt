@@ -90,17 +90,22 @@ impl Stowage {
         self.cells.contains_key(&cell)
     }
 
-    /// Why a container can't be put into a cell.
-    fn stand_fault(&self, profile: &Profile, cell: Cell) -> Option<SeqCode>
-        ensures { result ≡ stand_fault profile.now (held self.now).cells cell }
+    /// The place of a cell into which a container can be put, or why none can.
+    fn free_place(&self, profile: &Profile, cell: Cell) -> Result<Place, SeqCode>
+        ensures place { IfOk result (λ p. place_of profile.now cell ≡ Some p) }
+        ensures legal { OnOk result (stand_fault profile.now (held self.now).cells cell ≡ None) }
+        ensures refused { IfErr result (λ e. stand_fault profile.now (held self.now).cells cell ≡ Some e) }
     {
-        if profile.cell(cell).is_none() {
-            return Some(SeqCode::UnknownCell);
-        }
+        let Some(place) = profile.cell(cell) else {
+            return Err(SeqCode::UnknownCell);
+        };
         if self.is_taken(cell) {
-            return Some(SeqCode::CellTaken);
+            return Err(SeqCode::CellTaken);
         }
-        self.overlap(cell).map(SeqCode::Overlap)
+        match self.overlap(cell) {
+            Some(rival) => Err(SeqCode::Overlap(rival)),
+            None => Ok(place),
+        }
     }
 
     /// Puts a container into a cell, and gives its body.
@@ -115,12 +120,7 @@ impl Stowage {
         ensures body { IfOk result (λ b. body_in (place_of profile.now cell) (Some container) ≡ Some b) }
         ensures refused { IfErr result (λ e. e ≢ SeqCode.NoMemory → stand_fault profile.now (held self.old).cells cell ≡ Some e) }
     {
-        if let Some(code) = self.stand_fault(profile, cell) {
-            return Err(code);
-        }
-        let Some(place) = profile.cell(cell) else {
-            return Err(SeqCode::UnknownCell);
-        };
+        let place = self.free_place(profile, cell)?;
         let body = body_of(place, container.kg);
         match self.cells.insert(cell, container) {
             Ok(_) => Ok(body),

@@ -13,6 +13,7 @@ use std::marker::Model;
 pub struct Summary {
     /// The condition on arrival, and each step behind it.
     pub lines: u32,
+    /// The number of the first step that fails, 0 for the condition on arrival, and its first criterion; `None` where all steps pass.
     pub first: Option<(u32, Criterion)>,
 }
 
@@ -33,12 +34,14 @@ impl Model for Finished {
 }
 
 impl Finished {
+    /// The whole text.
     pub fn text(&self) -> &str
         ensures { result.now ≡ self.now.text }
     {
         self.text.as_str()
     }
 
+    /// What it came to.
     pub fn summary(&self) -> Summary
         ensures { result ≡ self.now.summary }
     {

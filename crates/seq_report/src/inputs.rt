@@ -9,13 +9,16 @@ use ship_profile::{Profile, ProfileBytes, ProfileFault};
 use std::alloc::{AllocError, Global};
 use stow_messages::{Item, Lift, StepRow, StepsCode, StowCode, baplie, movins, steps};
 
-/// The texts that a run reads: the files of the ship's profile, the bay plan on arrival, the movement instruction, and the planner's steps
-/// file, if there is one. Without it the steps are the lifts of the instruction, in their order.
+/// The texts that a run reads. Without a steps file the steps are the lifts of the movement instruction, in their order.
 #[derive(Clone, Copy)]
 pub struct Inputs<'a> {
+    /// The files of the ship's profile.
     pub profile: ProfileBytes<'a>,
+    /// The bay plan on arrival (BAPLIE).
     pub baplie: &'a [u8],
+    /// The movement instruction (MOVINS).
     pub movins: &'a [u8],
+    /// The planner's steps file.
     pub steps: Option<&'a [u8]>,
 }
 

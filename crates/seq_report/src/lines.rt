@@ -12,7 +12,9 @@ use std::fmt::Write;
 /// A column of figures.
 #[derive(Clone, Copy, Debug, PartialEq, Eq)]
 pub enum Column {
+    /// The metacentric height, in mm.
     Gm,
+    /// The mean draught, in mm.
     Mean,
 }
 
@@ -44,8 +46,11 @@ impl Figures {
 /// What the line of a step says: its number, the displacement in kg, and how it is judged.
 #[derive(Clone, Copy, Debug)]
 pub struct StepLine {
+    /// The number of the step, 0 for the condition on arrival.
     pub step: u32,
+    /// The displacement in kg.
     pub kg: i128,
+    /// How the condition is judged.
     pub verdict: Verdict,
 }
 
