@@ -10,21 +10,21 @@ use crate::service::Service;
 fn is_plain(byte: u8) -> bool
     ensures { result ≡ is_plain byte }
 {
-    matches!(byte, 48..=57 | 65..=90 | 97..=122) || byte == 13 || byte == 10 || byte == 9
+    byte.is_ascii_alphanumeric() || byte == b'\r' || byte == b'\n' || byte == b'\t'
 }
 
 /// A byte that can't be a separator or the terminator.
 fn is_unfit(byte: u8) -> bool
     ensures { result ≡ is_unfit byte }
 {
-    is_plain(byte) || byte == 32
+    is_plain(byte) || byte == b' '
 }
 
 /// The release character that the advice sets, a space being none.
 fn release_of(byte: u8) -> Option<u8>
     ensures { result ≡ release_of byte }
 {
-    if byte == 32 { None } else { Some(byte) }
+    if byte == b' ' { None } else { Some(byte) }
 }
 
 /// There is a release character, and it can't be one beside these separators.

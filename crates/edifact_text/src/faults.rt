@@ -5,7 +5,7 @@ use thiserror::Error;
 pub enum Kind {
     /// The bay plan.
     Baplie,
-    /// The stowage instruction, by which a vessel is loaded and discharged.
+    /// The movement instruction, by which a vessel is loaded and discharged.
     Movins,
 }
 

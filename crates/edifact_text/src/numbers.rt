@@ -1,5 +1,5 @@
-ghost use Rattle.std.specs.Prelude.{◌≡◌, ℕ, length, ◌≤◌};
-ghost use Rattle.edifact_text.specs.Rows.{is_digit, number_from, count_of, is_one};
+ghost use Rattle.std.specs.Prelude.{◌≡◌};
+ghost use Rattle.edifact_text.specs.Rows.{count_of, is_one};
 ghost use Rattle.edifact_text.specs.Views.{meant};
 
 use crate::raw::Raw;
@@ -14,10 +14,10 @@ pub(crate) fn number(digits: &[u8]) -> Option<u64>
     }
     let mut value: u64 = 0;
     for digit in digits {
-        if *digit < 48 || *digit > 57 {
+        if !digit.is_ascii_digit() {
             return None;
         }
-        value = 10 * value + u64::from(*digit - 48);
+        value = 10 * value + u64::from(*digit - b'0');
     }
     Some(value)
 }
@@ -39,7 +39,7 @@ pub(crate) fn is_one(raw: Raw<'_>) -> bool
 {
     let mut left = raw;
     while let Some((byte, rest)) = left.split_first() {
-        if byte != 48 {
+        if byte != b'0' {
             return left.is(b"1");
         }
         left = rest;

@@ -84,7 +84,7 @@ pub(crate) fn are_at_most(bytes: &[u8], release: Option<u8>, separator: u8, most
 pub(crate) fn is_blank(byte: u8) -> bool
     ensures { result ≡ is_blank byte }
 {
-    byte == 13 || byte == 10 || byte == 9 || byte == 32
+    byte == b'\r' || byte == b'\n' || byte == b'\t' || byte == b' '
 }
 
 /// The bytes from the first that is no blank.

@@ -35,7 +35,7 @@ pub enum LineFault {
     NoMemory,
 }
 
-/// What is said where the first word is no command.
+/// What is said where the words aren't had, or the first is no command.
 const USAGE: &str = "usage: loadseq check FOLDER BAPLIE MOVINS [--steps FILE]";
 
 /// A word that has to be there.
@@ -91,6 +91,11 @@ fn usage(alloc: Global, text: &str) -> LineFault {
     }
 }
 
+/// The refusal of words that aren't had, or whose first is no command.
+pub fn no_command(alloc: Global) -> LineFault {
+    usage(alloc, USAGE)
+}
+
 /// The refusal of words that `clap` refuses.
 fn refused(alloc: Global, error: &clap::Error) -> LineFault
     ensures { IsUsage result → kind_of error.now ≢ ErrorKind.OutOfMemory }
@@ -137,5 +142,5 @@ pub fn read_line<'a>(alloc: Global, words: &'a [&'a str]) -> Result<Line<'a>, Li
             return check_line(alloc, behind);
         }
     }
-    Err(usage(alloc, USAGE))
+    Err(no_command(alloc))
 }

@@ -8,8 +8,9 @@ mod folders;
 mod serving;
 mod stops;
 
+use command_line::no_command;
 use files::Disk;
-use serving::serve;
+use serving::{serve, stopped};
 use std::alloc::{AllocError, Global};
 use std::io::ErrorKind;
 use std::process::ExitCode;
@@ -21,18 +22,30 @@ mod command_line_tests;
 #[cfg(test)]
 mod tests;
 
-/// The exit status where the system doesn't give the words of the command line: that of wrong words.
-const UNREADABLE_WORDS: u8 = 3;
+/// What ends the run where the system doesn't give the words of the command line: they are wrong words.
+fn unread(alloc: Global, error: &io::Error) -> Stop {
+    if error.kind() == ErrorKind::OutOfMemory {
+        return Stop::NoMemory;
+    }
+    Stop::from(no_command(alloc))
+}
 
 /// The words after the program's name.
-fn words(rt: &HostRuntime) -> io::Result<Vec<String>> {
+fn words(rt: &HostRuntime) -> Result<Vec<String>, Stop> {
+    let given = match env::args(rt) {
+        Ok(given) => given,
+        Err(error) => return Err(unread(rt.alloc(), &error)),
+    };
     let mut words = Vec::new(rt.alloc());
-    for word in env::args(rt)?.skip(1) {
-        words.push(word)?;
+    for word in given.skip(1) {
+        if words.push(word).is_err() {
+            return Err(Stop::NoMemory);
+        }
     }
     Ok(words)
 }
 
+/// The words as they are lent to the program.
 fn borrowed(alloc: Global, words: &[String]) -> Result<Vec<&str>, AllocError> {
     let mut list = Vec::new(alloc);
     for word in words {
@@ -41,19 +54,20 @@ fn borrowed(alloc: Global, words: &[String]) -> Result<Vec<&str>, AllocError> {
     Ok(list)
 }
 
-fn main(rt: HostRuntime) -> ExitCode {
-    let words = match words(&rt) {
-        Ok(words) => words,
-        Err(error) if error.kind() == ErrorKind::OutOfMemory => {
-            return ExitCode::from(Stop::NoMemory.status());
-        }
-        Err(_) => return ExitCode::from(UNREADABLE_WORDS),
-    };
-    let Ok(list) = borrowed(rt.alloc(), &words) else {
-        return ExitCode::from(Stop::NoMemory.status());
-    };
-    let mut disk = Disk::new(&rt);
+/// The program over the system's words, files and streams.
+fn run(rt: &HostRuntime) -> Result<u8, Stop> {
+    let words = words(rt)?;
+    let list = borrowed(rt.alloc(), &words)?;
+    let mut disk = Disk::new(rt);
     let mut out = rt.stdout();
     let mut err = rt.stderr();
-    ExitCode::from(serve(rt.alloc(), &mut disk, &list, &mut out, &mut err))
+    Ok(serve(rt.alloc(), &mut disk, &list, &mut out, &mut err))
+}
+
+fn main(rt: HostRuntime) -> ExitCode {
+    let status = match run(&rt) {
+        Ok(status) => status,
+        Err(stop) => stopped(&stop, &mut rt.stderr()),
+    };
+    ExitCode::from(status)
 }

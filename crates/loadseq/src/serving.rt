@@ -1,7 +1,7 @@
 ghost use Rattle.std.specs.Prelude.{◌≡◌, ◌≤◌, IfOk, Ok, false};
 ghost use Rattle.std.specs.Io.KnownBytes.{Appends};
 ghost use Rattle.seq_report.specs.Refusal.{Outcome, outcome_of};
-ghost use Rattle.loadseq.specs.Statuses.{status_on};
+ghost use Rattle.loadseq.specs.Statuses.{status_of, status_on};
 
 use crate::command_line::{Line, read_line};
 use crate::files::Readers;
@@ -35,6 +35,14 @@ fn check<R: Readers, O: Write>(
     report_to(alloc, &texts.inputs(), &mut Through::new(out))
 }
 
+/// Writes the one line on what stopped a run to `err`, and gives the exit status. A fault of `err` changes nothing.
+pub fn stopped<E: Write>(stop: &Stop, err: &mut E) -> u8
+    ensures { result ≡ status_of stop.now }
+{
+    let _ = writeln!(err, "{stop}");
+    stop.status()
+}
+
 /// The whole program over readers and writers: what it writes goes to `out`, and one line on what stopped it to
 /// `err`. It answers the exit status: 0 all steps pass, 1 some step fails, 2 an input is refused, 3 wrong words or
 /// help, 4 want of memory, 5 a file isn't read or `out` isn't written. A fault of `err` changes nothing.
@@ -53,9 +61,6 @@ pub fn serve<R: Readers, O: Write, E: Write>(
     };
     match outcome {
         Ok(status) => status,
-        Err(stop) => {
-            let _ = writeln!(err, "{stop}");
-            stop.status()
-        }
+        Err(stop) => stopped(&stop, err),
     }
 }

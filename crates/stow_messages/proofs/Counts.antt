@@ -29,7 +29,7 @@ few_more most entries more location (Ok o) e h = with_one most entries more loca
 few_more most entries more location (Err x) e h = cc e
 
 -- what follows from one step of a chain, whatever the rest makes of it
-followed : {A B : Type 0} (r : Result A StowFault) (f : A → Result B StowFault) (all : B) (P : Type 0) → (r >>= f) ≡ Ok all → ((a : A) → r ≡ Ok a → f a ≡ Ok all → P) → P
+pub followed : {A B : Type 0} (r : Result A StowFault) (f : A → Result B StowFault) (all : B) (P : Type 0) → (r >>= f) ≡ Ok all → ((a : A) → r ≡ Ok a → f a ≡ Ok all → P) → P
 followed (Ok a) f all P e go = go a refl e
 followed (Err x) f all P e go = cc e
 

@@ -12,7 +12,8 @@ use Rattle.stow_messages.specs.declared.step_rows.StepRow.{StepRow}
 use Rattle.stow_messages.specs.declared.step_rows.StepRow.TheVariants.{Lift, Tank, Restow}
 use Rattle.stow_messages.specs.declared.step_faults.StepsFault.{StepsFault}
 use Rattle.stow_messages.specs.declared.step_faults.StepsCode.TheVariants as code
-use Rattle.stow_messages.specs.Steps.{is_lift, stands, AreFlags, EachLiftOnce, missing_from, fault_at, IsWithin, at_record, with_record, rows_from, rows_under}
+use Rattle.stow_messages.specs.StepsSoFar.{AreFlags, IsWithin}
+use Rattle.stow_messages.specs.Steps.{is_lift, stands, EachLiftOnce, missing_from, fault_at, at_record, with_record, rows_from, rows_under}
 
 -- a record of four fields
 pub four_fields : (fields : Fields) (kind first second third : List ℕ) → length fields ≡ 4 → field_at fields 0 ≡ Some kind
@@ -118,9 +119,6 @@ module _ (lifts : ℕ) (rows : List StepRow) (flags : List Bool) (are : AreFlags
     none = stays next 0 (other 0) ∙ are.none;
     once = λ n. once-more next n (λ e. let f = other n in cc);
   }
-
-  stands-lift : (n j : ℕ) → j ≢ n → stands j (rows ++ Lift n ∷ []) ≡ stands j rows
-  stands-lift n j other = stays (Lift n) j (let test : (j == n) ≡ false = grind (arith, nat_tests) in test)
 
   flag-set : (n : ℕ) → 1 ≤ n → n ≤ lifts → (i : ℕ) → get_or (set flags (n - 1) true) i false ≡ stands (i + 1) (rows ++ Lift n ∷ [])
   flag-set n low high i = go (i + 1 == n) refl

@@ -3,7 +3,9 @@ use Rattle.std.proofs.Common.{◌≡◌, List, [], ◌∷◌, Option, Some, None
 use Rattle.std.specs.Prelude.{find}
 use Rattle.std.specs.Option.{option_or}
 use Rattle.edifact_text.specs.Interchange.{Numbered}
-use Rattle.stow_messages.specs.Groups.{Found, Part, Handled, Located, is_location, is_equipment, is_verified, is_gross, begins, until_part, part_at, parts_of, first_of, noted_part}
+use Rattle.stow_messages.specs.Groups.{Found, Part, Handled, Located, begins, until_part, part_at, parts_of, first_of, noted_part}
+use Rattle.stow_messages.specs.Kinds.{has_kind}
+use Rattle.stow_messages.specs.declared.groups.SegmentKind.TheVariants.{Location, Equipment, Verified, Gross}
 use Rattle.stow_messages.specs.Views.{more_found, more_part, parts_from}
 
 or_none : {A : Type 0} (o : Option A) → option_or o None ≡ o
@@ -29,11 +31,11 @@ one_more is_kind None s rest false e = rw e refl
 noted_more : (p : Part) (s : Numbered) (rest : List Numbered) → more_part (noted_part p s) rest ≡ more_part p (s ∷ rest)
 noted_more (Handled h) s rest = refl
 noted_more (Located f) s rest = ap Located (same_found (more_found f (s ∷ rest)) _ _ _
-    (one_more is_equipment f.equipment s rest (is_equipment s) refl)
-    (one_more is_verified f.verified s rest (is_verified s) refl)
-    (one_more is_gross f.gross s rest (is_gross s) refl))
+    (one_more (has_kind Equipment) f.equipment s rest (has_kind Equipment s) refl)
+    (one_more (has_kind Verified) f.verified s rest (has_kind Verified s) refl)
+    (one_more (has_kind Gross) f.gross s rest (has_kind Gross s) refl))
 
-begun_at : (s : Numbered) (rest : List Numbered) (b : Bool) → is_location s ≡ b → more_part (part_at s []) rest ≡ part_at s rest
+begun_at : (s : Numbered) (rest : List Numbered) (b : Bool) → has_kind Location s ≡ b → more_part (part_at s []) rest ≡ part_at s rest
 begun_at s rest true e = rw e refl
 begun_at s rest false e = rw e refl
 
@@ -64,7 +66,7 @@ module _ (handles : Bool) (s : Numbered) (rest : List Numbered) where
   new_parts : (q : Part) → q ≡ part_at s [] → begins handles s ≡ true → parts_of handles (s ∷ rest) ≡ parts_from handles (Some q) rest
   new_parts q is e =
       parts_one e
-      ∙ ap (λ (x : Part). x ∷ parts_of handles rest) (sym (begun_at s (until_part handles rest) (is_location s) refl))
+      ∙ ap (λ (x : Part). x ∷ parts_of handles rest) (sym (begun_at s (until_part handles rest) (has_kind Location s) refl))
       ∙ ap (λ (x : Part). more_part x (until_part handles rest) ∷ parts_of handles rest) (sym is)
 
   pub first_begins : (q : Part) → q ≡ part_at s [] → begins handles s ≡ true → parts_from handles None (s ∷ rest) ≡ parts_from handles (Some q) rest

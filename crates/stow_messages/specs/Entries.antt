@@ -9,7 +9,8 @@ use Rattle.stow_messages.specs.declared.items.Item.{Item}
 use Rattle.stow_messages.specs.declared.faults.StowFault.{StowFault}
 use Rattle.stow_messages.specs.declared.faults.StowCode.{StowCode}
 use Rattle.stow_messages.specs.declared.faults.StowCode.TheVariants.{BadCell, IdTooLong, BadWeight, WrongUnit, NoWeight, TooMany}
-use Rattle.stow_messages.specs.Groups.{has, Found}
+use Rattle.stow_messages.specs.Groups.{Found}
+use Rattle.stow_messages.specs.Kinds.{has}
 use Rattle.stow_messages.specs.Weights.{kg_in}
 
 -- what follows where there was no fault
@@ -59,3 +60,12 @@ item_of mark f cell id = weighed mark f cell id (measure_of f)
 abbrev pub with_entry : {X : Type 0} → ℕ → List X → Numbered → Option X → Result (List X) StowFault
 with_entry most entries location None = Ok entries
 with_entry most entries location (Some entry) = if nat_lt (length entries) most then Ok (entries ++ entry ∷ []) else fault_at TooMany location
+
+-- what a group gives: an entry, or none
+abbrev pub listed : {X : Type 0} → Option X → List X
+listed None = []
+listed (Some x) = x ∷ []
+
+abbrev pub given : {X : Type 0} → Result (Option X) StowFault → List X
+given (Ok entry) = listed entry
+given (Err e) = []

@@ -1,29 +1,10 @@
 -- How the segments of a message are cut into parts: a location of a cell (LOC+147) begins a group, and in a movement
 -- instruction a handling (HAN) is a part by itself. A group runs to the next part or to the end of the message.
-use Rattle.std.specs.Prelude.{ℕ, List, [], ◌∷◌, Option, Some, None, Bool, true, ◌&&◌, if◌then◌else◌, codes, find}
+use Rattle.std.specs.Prelude.{List, [], ◌∷◌, Option, Some, None, Bool, true, ◌&&◌, if◌then◌else◌, find}
 use Rattle.std.specs.Option.{option_or}
-use Rattle.std.specs.Str.{bytes_eq}
-use Rattle.edifact_text.specs.Interchange.{Numbered, component}
-
--- component j of element i of the segment is this text
-abbrev pub has : Numbered → ℕ → ℕ → List ℕ → Bool
-has s i j text = bytes_eq (component s.parts i j) text
-
--- the location of a cell, a handling, a container, its verified gross mass, its gross mass
-abbrev pub is_location : Numbered → Bool
-is_location s = has s 0 0 (codes "LOC") && has s 1 0 (codes "147")
-
-abbrev pub is_handling : Numbered → Bool
-is_handling s = has s 0 0 (codes "HAN")
-
-abbrev pub is_equipment : Numbered → Bool
-is_equipment s = has s 0 0 (codes "EQD")
-
-abbrev pub is_verified : Numbered → Bool
-is_verified s = has s 0 0 (codes "MEA") && has s 1 0 (codes "VGM")
-
-abbrev pub is_gross : Numbered → Bool
-is_gross s = has s 0 0 (codes "MEA") && has s 1 0 (codes "WT")
+use Rattle.edifact_text.specs.Interchange.{Numbered}
+use Rattle.stow_messages.specs.declared.groups.SegmentKind.TheVariants.{Location, Handling, Equipment, Verified, Gross}
+use Rattle.stow_messages.specs.Kinds.{has_kind}
 
 -- What counts of a group: its location, and the first container, verified mass and gross mass behind it.
 pub record Found : Type 0 where
@@ -35,9 +16,9 @@ pub record Found : Type 0 where
 abbrev pub found_in : Numbered → List Numbered → Found
 found_in location behind = record {
   location = location;
-  equipment = find is_equipment behind;
-  verified = find is_verified behind;
-  gross = find is_gross behind;
+  equipment = find (has_kind Equipment) behind;
+  verified = find (has_kind Verified) behind;
+  gross = find (has_kind Gross) behind;
 }
 
 -- a part of a message
@@ -45,17 +26,17 @@ pub data Part : Type 0 where
   Handled : Numbered → Part
   Located : Found → Part
 
--- Whether handlings are parts of this message, as they are of a movement instruction; in a bay plan they are not looked at.
--- What a segment begins, if anything, with the segments behind it.
+-- The segment begins a part. Handlings are parts of a movement instruction; in a bay plan they are not looked at.
 abbrev pub begins : Bool → Numbered → Bool
-begins handles s = if is_location s then true else handles && is_handling s
+begins handles s = if has_kind Location s then true else handles && has_kind Handling s
 
 abbrev pub until_part : Bool → List Numbered → List Numbered
 until_part handles [] = []
 until_part handles (s ∷ more) = if begins handles s then [] else s ∷ until_part handles more
 
+-- the part that a segment begins, with the segments behind it
 abbrev pub part_at : Numbered → List Numbered → Part
-part_at s behind = if is_location s then Located (found_in s behind) else Handled s
+part_at s behind = if has_kind Location s then Located (found_in s behind) else Handled s
 
 abbrev pub parts_of : Bool → List Numbered → List Part
 parts_of handles [] = []
@@ -71,11 +52,28 @@ first_of is_kind found s = option_or found (if is_kind s then Some s else None)
 abbrev pub noted : Found → Numbered → Found
 noted f s = record {
   location = f.location;
-  equipment = first_of is_equipment f.equipment s;
-  verified = first_of is_verified f.verified s;
-  gross = first_of is_gross f.gross s;
+  equipment = first_of (has_kind Equipment) f.equipment s;
+  verified = first_of (has_kind Verified) f.verified s;
+  gross = first_of (has_kind Gross) f.gross s;
 }
 
 abbrev pub noted_part : Part → Numbered → Part
 noted_part (Handled handling) s = Handled handling
 noted_part (Located f) s = Located (noted f s)
+
+-- the groups among the parts, in their order
+abbrev pub groups_in : List Part → List Found
+groups_in [] = []
+groups_in (Handled s ∷ more) = groups_in more
+groups_in (Located f ∷ more) = f ∷ groups_in more
+
+-- a group, and the last handling before it
+pub record HandledGroup : Type 0 where
+  pub handling : Option Numbered
+  pub group : Found
+
+-- the groups among the parts, in their order, where this is the last handling before the parts
+abbrev pub handled_in : Option Numbered → List Part → List HandledGroup
+handled_in last [] = []
+handled_in last (Handled s ∷ more) = handled_in (Some s) more
+handled_in last (Located f ∷ more) = record { handling = last; group = f } ∷ handled_in last more

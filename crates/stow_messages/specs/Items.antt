@@ -1,6 +1,7 @@
 -- The items of a bay plan (BAPLIE, UN/EDIFACT D.95B): those of its groups in their order. The first fault in the order of the
 -- groups is the plan's.
-use Rattle.std.specs.Prelude.{ℕ, List, [], ◌∷◌, Option, Result, Ok, Err, false}
+use Rattle.std.specs.Prelude.{◌≡◌, ℕ, List, [], ◌∷◌, Option, Result, Ok, Err, is_ok, false, true, flat_map}
+use Rattle.std.specs.List.{list_all}
 use Rattle.edifact_text.specs.Interchange.{Opened}
 use Rattle.edifact_text.specs.Reading.{opened}
 use Rattle.edifact_text.specs.declared.faults.EdiFault.{EdiFault}
@@ -8,8 +9,8 @@ use Rattle.edifact_text.specs.declared.faults.Kind.TheVariants.{Baplie}
 use Rattle.stow_messages.specs.declared.items.Item.{Item}
 use Rattle.stow_messages.specs.declared.faults.StowFault.{StowFault}
 use Rattle.stow_messages.specs.declared.faults.StowCode.TheVariants.{Envelope}
-use Rattle.stow_messages.specs.Entries.{◌>>=◌, cell_at, id_of, item_of, with_entry}
-use Rattle.stow_messages.specs.Groups.{Found, Part, Handled, Located, parts_of}
+use Rattle.stow_messages.specs.Entries.{◌>>=◌, cell_at, id_of, item_of, with_entry, given}
+use Rattle.stow_messages.specs.Groups.{Found, Part, Handled, Located, parts_of, groups_in}
 
 abbrev pub item_in : ℕ → Found → Result (Option Item) StowFault
 item_in mark f =
@@ -37,3 +38,16 @@ items_behind (Err e) = Err (record { code = Envelope e; segment = 0 })
 
 abbrev pub bay_plan : List ℕ → Result (List Item) StowFault
 bay_plan text = items_behind (opened Baplie text)
+
+-- the groups of a message
+abbrev pub item_groups : Opened → List Found
+item_groups m = groups_in (parts_of false m.segments)
+
+-- What this comes to: no group of the message has a fault, and the items are those that the groups give, in their order.
+pub record AreItemsOf (m : Opened) (items : List Item) : Type 0 where
+  pub sound : list_all (λ f. is_ok (item_in m.mark f)) (item_groups m) ≡ true
+  pub each : items ≡ flat_map (λ f. given (item_in m.mark f)) (item_groups m)
+
+-- the text spells a message, and these are its items
+abbrev pub AreItems : List ℕ → List Item → Type 0
+AreItems text items = (m : Opened) × (opened Baplie text ≡ Ok m) × AreItemsOf m items

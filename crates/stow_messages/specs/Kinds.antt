@@ -1,10 +1,13 @@
--- What a segment is in a message, told once by its tag and its qualifier. No segment is of two kinds, so this says the same as the
--- tests of `Groups`, one for each kind.
-use Rattle.std.specs.Prelude.{if◌then◌else◌, codes}
-use Rattle.edifact_text.specs.Interchange.{Numbered}
+-- What a segment is in a message, told by its tag and, where that asks for it, by its qualifier.
+use Rattle.std.specs.Prelude.{ℕ, List, Bool, true, false, if◌then◌else◌, codes}
+use Rattle.std.specs.Str.{bytes_eq}
+use Rattle.edifact_text.specs.Interchange.{Numbered, component}
 use Rattle.stow_messages.specs.declared.groups.SegmentKind.{SegmentKind}
 use Rattle.stow_messages.specs.declared.groups.SegmentKind.TheVariants.{Location, Handling, Equipment, Verified, Gross, Other}
-use Rattle.stow_messages.specs.Groups.{has}
+
+-- component j of element i of the segment is this text
+abbrev pub has : Numbered → ℕ → ℕ → List ℕ → Bool
+has s i j text = bytes_eq (component s.parts i j) text
 
 -- a measurement, by its qualifier
 abbrev pub measurement_of : Numbered → SegmentKind
@@ -17,3 +20,16 @@ kind_of s =
     else if has s 0 0 (codes "EQD") then Equipment
     else if has s 0 0 (codes "MEA") then measurement_of s
     else Other
+
+-- the segment is of this kind
+abbrev pub same : SegmentKind → SegmentKind → Bool
+same Location Location = true
+same Handling Handling = true
+same Equipment Equipment = true
+same Verified Verified = true
+same Gross Gross = true
+same Other Other = true
+same _ _ = false
+
+abbrev pub has_kind : SegmentKind → Numbered → Bool
+has_kind kind s = same kind (kind_of s)

@@ -4,5 +4,6 @@ pub mod Items
 pub mod Kinds
 pub mod Lifts
 pub mod Steps
+pub mod StepsSoFar
 pub mod Views
 pub mod Weights

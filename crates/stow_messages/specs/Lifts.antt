@@ -1,7 +1,8 @@
 -- The lifts of a movement instruction (MOVINS, UN/EDIFACT D.95B): those of its groups in their order, each handled as the last
 -- handling before it says. The first fault in the order of the segments is the instruction's, and those of a group come before
 -- those of the segment that ends it.
-use Rattle.std.specs.Prelude.{ℕ, List, [], ◌∷◌, Option, Some, None, Result, Ok, Err, Bool, true, ◌||◌, if◌then◌else◌, codes}
+use Rattle.std.specs.Prelude.{◌≡◌, ℕ, List, [], ◌∷◌, Option, Some, None, Result, Ok, Err, is_ok, Bool, true, ◌||◌, if◌then◌else◌, codes, flat_map}
+use Rattle.std.specs.List.{list_all}
 use Rattle.std.specs.Option.{is_some, option_map}
 use Rattle.arrayvec.specs.ArrayVec.{ArrayVec}
 use Rattle.units_core.specs.declared.cells.Cell.{Cell}
@@ -15,8 +16,9 @@ use Rattle.stow_messages.specs.declared.lifts.Handling.{Handling}
 use Rattle.stow_messages.specs.declared.lifts.Handling.TheVariants.{Loading, Discharging}
 use Rattle.stow_messages.specs.declared.faults.StowFault.{StowFault}
 use Rattle.stow_messages.specs.declared.faults.StowCode.TheVariants.{Envelope, LiftWithoutHandling, UnknownHandling}
-use Rattle.stow_messages.specs.Entries.{◌>>=◌, fault_at, or_fault_at, cell_at, id_of, item_of, with_entry}
-use Rattle.stow_messages.specs.Groups.{has, Found, Part, Handled, Located, parts_of}
+use Rattle.stow_messages.specs.Entries.{◌>>=◌, fault_at, or_fault_at, cell_at, id_of, item_of, with_entry, given}
+use Rattle.stow_messages.specs.Groups.{Found, Part, Handled, Located, parts_of, HandledGroup, handled_in}
+use Rattle.stow_messages.specs.Kinds.{has}
 
 -- what a handling says: LOA to load, DIS to discharge, and no other code
 abbrev pub handling_at : Numbered → Result Handling StowFault
@@ -61,3 +63,32 @@ lifts_behind (Err e) = Err (record { code = Envelope e; segment = 0 })
 
 abbrev pub movement_instruction : List ℕ → Result (List Lift) StowFault
 movement_instruction text = lifts_behind (opened Movins text)
+
+-- a part that is a handling loads or discharges
+abbrev pub is_understood : Part → Bool
+is_understood (Handled s) = is_ok (handling_at s)
+is_understood (Located f) = true
+
+-- what the last handling says, if there was one
+abbrev pub handling_of : Option Numbered → Result (Option Handling) StowFault
+handling_of None = Ok None
+handling_of (Some s) = handling_at s >>= (λ handling. Ok (Some handling))
+
+-- the lift of a group under the last handling before it
+abbrev pub lift_under : ℕ → HandledGroup → Result (Option Lift) StowFault
+lift_under mark g = handling_of g.handling >>= (λ handling. lift_in mark handling g.group)
+
+-- the groups of a message, each with the last handling before it
+abbrev pub lift_groups : Opened → List HandledGroup
+lift_groups m = handled_in None (parts_of true m.segments)
+
+-- What this comes to: each handling of the message is understood, no group has a fault under the last handling before it, and the
+-- lifts are those that the groups give, in their order.
+pub record AreLiftsOf (m : Opened) (lifts : List Lift) : Type 0 where
+  pub understood : list_all is_understood (parts_of true m.segments) ≡ true
+  pub sound : list_all (λ g. is_ok (lift_under m.mark g)) (lift_groups m) ≡ true
+  pub each : lifts ≡ flat_map (λ g. given (lift_under m.mark g)) (lift_groups m)
+
+-- the text spells a message, and these are its lifts
+abbrev pub AreLifts : List ℕ → List Lift → Type 0
+AreLifts text lifts = (m : Opened) × (opened Movins text ≡ Ok m) × AreLiftsOf m lifts

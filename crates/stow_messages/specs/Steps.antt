@@ -1,7 +1,7 @@
 -- The steps file: in which order the lifts of a movement instruction are done, with the changes of tanks and the restows among
 -- them. It is a table of comma-separated values: a heading of four fields, whose text isn't looked at, then a record for each
 -- step, `lift,N,,`, `tank,NAME,KG,` or `restow,FROM,TO,ID`. Each lift stands once. The first fault is the file's.
-use Rattle.std.specs.Prelude.{◌≡◌, ℕ, zero, suc, ◌+◌, ℤ, pos, negsuc, List, [], ◌∷◌, ◌++◌, length, Option, Some, None, option_map, Result, Ok, Err, Bool, false, nat_le, nat_lt, ◌≤◌, ◌==◌, ◌&&◌, if◌then◌else◌, slice_index_or, ⊤, codes}
+use Rattle.std.specs.Prelude.{◌≡◌, ℕ, zero, suc, ◌+◌, ℤ, pos, negsuc, List, [], ◌∷◌, ◌++◌, length, Option, Some, None, option_map, Result, Ok, Err, Bool, false, nat_le, nat_lt, ◌==◌, ◌&&◌, if◌then◌else◌, codes}
 use Rattle.std.specs.List.{filter, list_any}
 use Rattle.std.specs.Str.{bytes_eq}
 use Rattle.arrayvec.specs.ArrayVec.{ArrayVec}
@@ -127,17 +127,3 @@ steps_of lifts text = rows_under lifts (records_of text) >>= complete lifts
 -- What this comes to: of the rows, one is lift n for each n from 1 to the number of lifts, and none for any other n.
 abbrev pub EachLiftOnce : ℕ → List StepRow → Type 0
 EachLiftOnce lifts rows = (n : ℕ) → length (filter (is_lift n) rows) ≡ (if nat_le 1 n && nat_le n lifts then 1 else 0)
-
--- The flags of a reader of rows: one for each lift, which says whether the lift stands among the rows. No other lift stands there,
--- and none twice.
-pub record AreFlags (lifts : ℕ) (rows : List StepRow) (flags : List Bool) : Type 0 where
-  pub size : length flags ≡ lifts
-  pub each : (i : ℕ) → slice_index_or flags i false ≡ stands (i + 1) rows
-  pub none : stands 0 rows ≡ false
-  pub once : (n : ℕ) → length (filter (is_lift n) rows) ≡ (if stands n rows then 1 else 0)
-
--- a row that is a lift is one of the lifts
-abbrev pub IsWithin : ℕ → StepRow → Type 0
-IsWithin lifts (Lift n) = (1 ≤ n) × (n ≤ lifts)
-IsWithin lifts (Tank name kg) = ⊤
-IsWithin lifts (Restow from to id) = ⊤

@@ -6,7 +6,9 @@ use Rattle.stow_messages.specs.declared.groups.Group.{Group}
 use Rattle.stow_messages.specs.declared.parts.Part as declared
 use Rattle.stow_messages.specs.declared.parts.Part.TheVariants as code
 use Rattle.stow_messages.specs.declared.parts.Parts.{Parts}
-use Rattle.stow_messages.specs.Groups.{Found, Part, Handled, Located, is_equipment, is_verified, is_gross, until_part, parts_of}
+use Rattle.stow_messages.specs.Groups.{Found, Part, Handled, Located, until_part, parts_of}
+use Rattle.stow_messages.specs.Kinds.{has_kind}
+use Rattle.stow_messages.specs.declared.groups.SegmentKind.TheVariants.{Equipment, Verified, Gross}
 use Rattle.std.specs.Option.{option_or}
 use Rattle.std.specs.Prelude.{find, Bool}
 
@@ -26,9 +28,9 @@ part_view (code.Located g) = Located (found_view g)
 abbrev pub more_found : Found → List Numbered → Found
 more_found f behind = record {
   location = f.location;
-  equipment = option_or f.equipment (find is_equipment behind);
-  verified = option_or f.verified (find is_verified behind);
-  gross = option_or f.gross (find is_gross behind);
+  equipment = option_or f.equipment (find (has_kind Equipment) behind);
+  verified = option_or f.verified (find (has_kind Verified) behind);
+  gross = option_or f.gross (find (has_kind Gross) behind);
 }
 
 abbrev pub more_part : Part → List Numbered → Part

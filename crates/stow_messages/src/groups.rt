@@ -2,8 +2,8 @@ ghost use Rattle.std.specs.Prelude.{◌≡◌, ◌≢◌, Ok, Err, IfErr, OnOk};
 ghost use Rattle.std.specs.Str.{bytes_eq};
 ghost use Rattle.edifact_text.specs.Views.{meant, numbered_view};
 ghost use Rattle.stow_messages.specs.Entries.{cell_at, id_at, id_of, kg_at, item_of, with_entry};
-ghost use Rattle.stow_messages.specs.Groups.{has, noted, started};
-ghost use Rattle.stow_messages.specs.Kinds.{kind_of, measurement_of};
+ghost use Rattle.stow_messages.specs.Groups.{noted, started};
+ghost use Rattle.stow_messages.specs.Kinds.{has, kind_of, measurement_of};
 ghost use Rattle.stow_messages.specs.Lifts.{names_a_container};
 ghost use Rattle.stow_messages.specs.Views.{found_view};
 
@@ -152,6 +152,7 @@ pub fn put<X: Drop>(
     ensures ok { OnOk result (with_entry most entries.old.items (numbered_view location.now) entry ≡ Ok entries.new.items) }
     ensures refused { IfErr result (λ e. e.code ≢ StowCode.NoMemory →
         with_entry most entries.old.items (numbered_view location.now) entry ≡ Err e) }
+    ensures memory { IfErr result (λ e. e.code ≡ StowCode.NoMemory → e.segment ≡ 0) }
 {
     let entry = match entry {
         Some(entry) => entry,

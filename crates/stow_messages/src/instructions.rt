@@ -1,6 +1,6 @@
 ghost use Rattle.std.specs.Prelude.{◌≡◌, ◌≢◌, ◌≤◌, [], None, length, Ok, Err, IfOk, IfErr, OnOk};
 ghost use Rattle.edifact_text.specs.Views.{numbered_view};
-ghost use Rattle.stow_messages.specs.Lifts.{handling_at, lift_of, lift_in, lifts_from, movement_instruction, ordered};
+ghost use Rattle.stow_messages.specs.Lifts.{AreLifts, handling_at, lift_of, lift_in, lifts_from, movement_instruction, ordered};
 ghost use Rattle.stow_messages.specs.Views.{found_view, parts_left};
 
 use crate::faults::{StowCode, StowFault};
@@ -79,6 +79,7 @@ fn add(
 ) -> Result<(), StowFault>
     ensures ok { OnOk result (ordered mark handling lifts.old.items (found_view group.now) ≡ Ok lifts.new.items) }
     ensures refused { IfErr result (λ e. e.code ≢ StowCode.NoMemory → ordered mark handling lifts.old.items (found_view group.now) ≡ Err e) }
+    ensures memory { IfErr result (λ e. e.code ≡ StowCode.NoMemory → e.segment ≡ 0) }
 {
     let lift = lift_in(group, handling, mark)?;
     put(lifts, MAX_LIFTS, &group.location, lift)
@@ -88,6 +89,7 @@ fn add(
 fn lifts_of(alloc: Global, parts: Parts<'_>, mark: u8) -> Result<Vec<Lift>, StowFault>
     ensures ok { IfOk result (λ lifts. lifts_from mark None [] (parts_left parts.entry) ≡ Ok lifts.items) }
     ensures refused { IfErr result (λ e. e.code ≢ StowCode.NoMemory → lifts_from mark None [] (parts_left parts.entry) ≡ Err e) }
+    ensures memory { IfErr result (λ e. e.code ≡ StowCode.NoMemory → e.segment ≡ 0) }
 {
     let mut lifts = Vec::new(alloc);
     let mut handling = None;
@@ -103,10 +105,12 @@ fn lifts_of(alloc: Global, parts: Parts<'_>, mark: u8) -> Result<Vec<Lift>, Stow
 /// The lifts of a movement instruction: the message MOVINS of directory D.95B in a text of ISO 9735. A handling,
 /// `HAN+LOA` to load or `HAN+DIS` to discharge, holds for the groups behind it until the next; a group is read as in
 /// a bay plan, but the masses of a discharge are not looked at. The first fault is answered, with the number of its
-/// segment.
+/// segment; want of memory has segment 0.
 pub fn movins(alloc: Global, bytes: &[u8]) -> Result<Vec<Lift>, StowFault>
     ensures ok { IfOk result (λ lifts. movement_instruction bytes.now ≡ Ok lifts.items) }
     ensures refused { IfErr result (λ e. e.code ≢ StowCode.NoMemory → movement_instruction bytes.now ≡ Err e) }
+    ensures memory { IfErr result (λ e. e.code ≡ StowCode.NoMemory → e.segment ≡ 0) }
+    ensures meaning { IfOk result (λ lifts. AreLifts bytes.now lifts.items) }
     ensures few { IfOk result (λ lifts. length lifts.items ≤ 200000) }
 {
     match open(bytes, Kind::Movins) {

@@ -1,5 +1,5 @@
 ghost use Rattle.std.specs.Prelude.{◌≡◌, ◌≢◌, ◌≤◌, [], length, Ok, Err, IfOk, IfErr, OnOk};
-ghost use Rattle.stow_messages.specs.Items.{added, bay_plan, item_in, items_from};
+ghost use Rattle.stow_messages.specs.Items.{AreItems, added, bay_plan, item_in, items_from};
 ghost use Rattle.stow_messages.specs.Views.{found_view, parts_left};
 
 use crate::faults::{StowCode, StowFault};
@@ -25,6 +25,7 @@ fn item_in(group: &Group<'_>, mark: u8) -> Result<Option<Item>, StowFault>
 fn add(items: &mut Vec<Item>, group: &Group<'_>, mark: u8) -> Result<(), StowFault>
     ensures ok { OnOk result (added mark items.old.items (found_view group.now) ≡ Ok items.new.items) }
     ensures refused { IfErr result (λ e. e.code ≢ StowCode.NoMemory → added mark items.old.items (found_view group.now) ≡ Err e) }
+    ensures memory { IfErr result (λ e. e.code ≡ StowCode.NoMemory → e.segment ≡ 0) }
 {
     let item = item_in(group, mark)?;
     put(items, MAX_ITEMS, &group.location, item)
@@ -34,6 +35,7 @@ fn add(items: &mut Vec<Item>, group: &Group<'_>, mark: u8) -> Result<(), StowFau
 fn items_of(alloc: Global, parts: Parts<'_>, mark: u8) -> Result<Vec<Item>, StowFault>
     ensures ok { IfOk result (λ items. items_from mark [] (parts_left parts.entry) ≡ Ok items.items) }
     ensures refused { IfErr result (λ e. e.code ≢ StowCode.NoMemory → items_from mark [] (parts_left parts.entry) ≡ Err e) }
+    ensures memory { IfErr result (λ e. e.code ≡ StowCode.NoMemory → e.segment ≡ 0) }
 {
     let mut items = Vec::new(alloc);
     for part in parts {
@@ -47,10 +49,13 @@ fn items_of(alloc: Global, parts: Parts<'_>, mark: u8) -> Result<Vec<Item>, Stow
 
 /// The items of a bay plan: the message BAPLIE of directory D.95B in a text of ISO 9735. A location of a cell
 /// (`LOC+147`) begins a group; the first `EQD` behind it names the container, and the first `MEA+VGM`, else
-/// the first `MEA+WT`, is its gross mass in kg. The first fault is answered, with the number of its segment.
+/// the first `MEA+WT`, is its gross mass in kg. The first fault is answered, with the number of its segment;
+/// want of memory has segment 0.
 pub fn baplie(alloc: Global, bytes: &[u8]) -> Result<Vec<Item>, StowFault>
     ensures ok { IfOk result (λ items. bay_plan bytes.now ≡ Ok items.items) }
     ensures refused { IfErr result (λ e. e.code ≢ StowCode.NoMemory → bay_plan bytes.now ≡ Err e) }
+    ensures memory { IfErr result (λ e. e.code ≡ StowCode.NoMemory → e.segment ≡ 0) }
+    ensures meaning { IfOk result (λ items. AreItems bytes.now items.items) }
     ensures few { IfOk result (λ items. length items.items ≤ 30000) }
 {
     match open(bytes, Kind::Baplie) {

@@ -2,7 +2,8 @@ ghost use Rattle.std.specs.Prelude.{◌≡◌, ◌≢◌, ℕ, ◌≤◌, ◌<�
 ghost use Rattle.csv.specs.Records.{fields_of};
 ghost use Rattle.csv_text.specs.Reading.{Fields, Gave, HasLeft};
 ghost use Rattle.stow_messages.specs.declared.step_rows.StepRow.{StepRow};
-ghost use Rattle.stow_messages.specs.Steps.{AreFlags, EachLiftOnce, IsWithin, at_record, complete, joined, missing_from, rows_from, rows_under, steps_of, with_record};
+ghost use Rattle.stow_messages.specs.StepsSoFar.{AreFlags, IsWithin};
+ghost use Rattle.stow_messages.specs.Steps.{EachLiftOnce, at_record, complete, joined, missing_from, rows_from, rows_under, steps_of, with_record};
 
 use crate::step_faults::{StepsCode, StepsFault, fault_at};
 use crate::step_rows::{FIELDS, StepRow, row_of};

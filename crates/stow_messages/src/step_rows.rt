@@ -1,7 +1,8 @@
 ghost use Rattle.std.specs.Prelude.{◌≡◌, ℕ, IfOk};
 ghost use Rattle.csv.specs.Records.{fields_of};
 ghost use Rattle.std.specs.Str.{bytes_eq};
-ghost use Rattle.stow_messages.specs.Steps.{within, text_of, lift_number, lift_row, tank_row, restow_row, row_by, row_of, IsWithin};
+ghost use Rattle.stow_messages.specs.Steps.{within, text_of, lift_number, lift_row, tank_row, restow_row, row_by, row_of};
+ghost use Rattle.stow_messages.specs.StepsSoFar.{IsWithin};
 
 use crate::items::copied;
 use crate::step_faults::StepsCode;

@@ -1,6 +1,7 @@
 use Rattle.std.proofs.Common.{◌≡◌, ◌≤◌, ◌-◌, List, length}
 use Rattle.csv_text.specs.Reading.{Fields, HasLeft}
-use Rattle.stow_messages.specs.Steps.{AreFlags, rows_from}
+use Rattle.stow_messages.specs.Steps.{rows_from}
+use Rattle.stow_messages.specs.StepsSoFar.{AreFlags}
 use Rattle.stow_messages.proofs.step_files.add_records.Given as goal
 
 -- what is left to read follows what was gathered

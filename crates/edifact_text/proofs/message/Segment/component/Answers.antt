@@ -1,4 +1,3 @@
-use Rattle.std.proofs.Common.{◌∙◌}
 use Rattle.edifact_text.specs.Interchange.{component}
 use Rattle.edifact_text.specs.Views.{numbered_view, elements_view}
 use Rattle.edifact_text.proofs.ReadingLemmas.{parts_at}
