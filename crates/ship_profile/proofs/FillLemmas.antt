@@ -1,13 +1,13 @@
 -- The fills of a ship's tanks.
-use Rattle.std.proofs.Common.{◌≡◌, ◌∙◌, ℕ, ◌+◌, ◌<◌, ◌≤◌, ◌^◌, nat_eq, not, Bool, true, false, List, [], ◌∷◌, ◌++◌, length, map, All, Option, Some, None, Result, Ok, refl, arith, sym, ap}
+use Rattle.std.proofs.Common.{◌≡◌, ℕ, ◌+◌, ◌<◌, nat_eq, not, Bool, true, false, List, [], ◌∷◌, ◌++◌, length, map, Some, Ok, refl, arith}
 use Rattle.std.proofs.lemmas.List.Quantifiers.{position-Some}
-use Rattle.std.specs.List.{AllByRecursion, IsDistinct, list_any}
+use Rattle.std.specs.List.{AllByRecursion, IsDistinct}
 use Rattle.std.specs.Str.{bytes_eq}
 use Rattle.ship_tables.specs.Record.{Tank, TablesRecord, tank_of}
 use Rattle.ship_profile.specs.declared.faults.Key.TheVariants as key
 use Rattle.ship_profile.specs.declared.faults.ProfileFault.TheVariants.{BadKey, UnknownTank}
 use Rattle.ship_profile.specs.declared.fills.TankFill.{TankFill}
-use Rattle.ship_profile.specs.Outcome.{or_fault, demand, one_by_one}
+use Rattle.ship_profile.specs.Outcome.{or_fault}
 use Rattle.ship_profile.specs.Record.{is_filled, fill_in, fills_in, IsFill, AreFills}
 use Rattle.ship_profile.specs.Ship.{NamedFill, IsNamedFill, AreNamedFills}
 use Rattle.ship_profile.proofs.ListLemmas.{all-push, each_at, all_by, distinct-push}

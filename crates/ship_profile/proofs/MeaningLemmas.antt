@@ -1,12 +1,11 @@
 -- What is read keeps what it should: each number is within its limits, stations and frames rise, blocks stand within the stations.
-use Rattle.std.proofs.Common.{◌≡◌, ◌∙◌, codes, ℕ, ◌+◌, ◌<◌, ◌≤◌, ◌^◌, nat_le, Bool, true, false, ◌&&◌, ℤ, pos, neg_ℤ, ◌≤ℤ◌, ◌+ℤ◌, ◌-ℤ◌, int_le, unsigned_abs, List, [], ◌∷◌, ◌++◌, length, map, All, Option, None, Some, Result, Ok, Err, option_map, refl, arith, ap, sym}
-use Rattle.std.proofs.lemmas.Bool.{and_parts}
+use Rattle.std.proofs.Common.{◌≡◌, ◌∙◌, codes, ℕ, ◌+◌, ◌≤◌, ◌^◌, nat_le, true, ℤ, pos, neg_ℤ, ◌≤ℤ◌, unsigned_abs, List, [], ◌∷◌, ◌++◌, length, map, Option, None, Some, Result, Ok, option_map, refl, arith, ap}
 use Rattle.std.proofs.lemmas.Bool.Decides.{nat_tests}
 use Rattle.std.proofs.lemmas.Int.{ints}
 use Rattle.std.proofs.lemmas.List.{map-append}
 use Rattle.std.specs.Bool.{⊤}
 use Rattle.std.specs.List.{AllByRecursion}
-use Rattle.toml.specs.Data.{Data, Members, get_member, as_array, as_integer, as_str}
+use Rattle.toml.specs.Data.{Data, Members, get_member, as_array, as_integer}
 use Rattle.units_core.specs.Bodies.{Mass}
 use Rattle.units_core.specs.Interpolation.{IsRising}
 use Rattle.ship_tables.specs.declared.extents.Extent.{Extent}
@@ -19,10 +18,10 @@ use Rattle.ship_profile.specs.declared.faults.ProfileFault.{ProfileFault}
 use Rattle.ship_profile.specs.declared.faults.ProfileFault.TheVariants.{MissingKey, BadKey, OutOfLimits, NotRising, FrameNotStation, OutsideStations, TooFewRows}
 use Rattle.ship_profile.specs.declared.frames.Frame.{Frame}
 use Rattle.ship_profile.specs.Keys.{items_in, name_of, number_of, number_in_table, length_in_table, text_in_table, table_of, elements_of, elements_at, optional_of}
-use Rattle.ship_profile.specs.Outcome.{◌>>=◌, or_fault, demand, within, one_by_one}
-use Rattle.ship_profile.specs.Ship.{extent_of, is_above, last_of, is_one_of, station_of, stations_of, block_in, block_of, blocks_of, frame_in, frame_of, frames_of, NamedFill, named_fill_of, named_fills_of, AreStations, IsBlock, AreBlocks, IsFrame, AreFrames, IsNamedFill, AreNamedFills}
+use Rattle.ship_profile.specs.Outcome.{or_fault, demand, within, one_by_one}
+use Rattle.ship_profile.specs.Ship.{is_above, last_of, is_one_of, station_of, stations_of, block_in, block_of, blocks_of, frame_in, frame_of, frames_of, NamedFill, named_fill_of, AreStations, IsBlock, AreBlocks, IsFrame, AreFrames, IsNamedFill, AreNamedFills}
 use Rattle.ship_profile.proofs.ListLemmas.{all-push, each_at, all_of, rising-push, last-map, size, sizes_within, one_of}
-use Rattle.ship_profile.proofs.OutcomeLemmas.{went_on, same_ok, was_there, passed, within-limits, one_by_one-keeps, one_by_one-length}
+use Rattle.ship_profile.proofs.OutcomeLemmas.{went_on, same_ok, passed, within-limits, one_by_one-keeps, one_by_one-length}
 
 number_of-limits : (key : Key) (low high : ℤ) (d : Data) (z : ℤ) → number_of key low high d ≡ Ok z → (low ≤ℤ z) × (z ≤ℤ high)
 number_of-limits key low high d z e =

@@ -1,12 +1,14 @@
--- What was read is what the document says.
-use Rattle.std.proofs.Common.{◌≡◌, ◌∙◌, codes, ℕ, ◌+◌, ◌≤◌, nat_le, ℤ, pos, neg_ℤ, ◌≤ℤ◌, unsigned_abs, not, int_le, List, [], ◌∷◌, ◌++◌, length, append_assoc, Option, None, Some, Result, Ok, Err, option_map, refl, arith, ap, sym}
+-- What was read is what the document and the files of the tables say.
+use Rattle.std.proofs.Common.{◌≡◌, ◌∙◌, codes, ℕ, ◌+◌, nat_le, ℤ, pos, neg_ℤ, ◌≤ℤ◌, unsigned_abs, not, int_le, List, [], ◌∷◌, ◌++◌, length, append_assoc, Option, None, Some, Result, Ok, Err, option_map, refl, arith, ap, sym}
 use Rattle.std.proofs.lemmas.Int.{ints}
 use Rattle.std.proofs.lemmas.List.{append-nil}
 use Rattle.toml.specs.Data.{Data, string, integer, float, boolean, datetime, array, table, Items, Members, get_member, as_integer, as_str, as_array, as_table}
 use Rattle.units_core.specs.Bodies.{Mass}
 use Rattle.ship_tables.specs.declared.extents.Extent.{Extent}
 use Rattle.ship_tables.specs.Extents.{holds}
-use Rattle.ship_tables.specs.Record.{TablesRecord, tank_of}
+use Rattle.ship_tables.specs.declared.faults.TableFault.{TableFault}
+use Rattle.ship_tables.specs.Record.{TablesRecord, tank_of, tables_of}
+use Rattle.ship_tables.proofs.WrittenLemmas.{tables-written}
 use Rattle.ship_profile.specs.declared.faults.File.TheVariants as file
 use Rattle.ship_profile.specs.declared.faults.Key.{Key}
 use Rattle.ship_profile.specs.declared.faults.Key.TheVariants as key
@@ -15,8 +17,8 @@ use Rattle.ship_profile.specs.declared.faults.ProfileFault.TheVariants.{BadToml,
 use Rattle.ship_profile.specs.declared.fills.TankFill.{TankFill}
 use Rattle.ship_profile.specs.declared.frames.Frame.{Frame}
 use Rattle.ship_profile.specs.Keys.{document_of, document_in, items_in, name_of, number_of, number_in_table, length_in_table, text_in_table, table_of, number_at, elements_of, elements_at, optional_of}
-use Rattle.ship_profile.specs.Outcome.{◌>>=◌, or_fault, demand, within, one_by_one}
-use Rattle.ship_profile.specs.Record.{ProfileRecord, is_filled, fill_in, fills_in}
+use Rattle.ship_profile.specs.Outcome.{or_fault, demand, within, one_by_one}
+use Rattle.ship_profile.specs.Record.{Texts, ProfileRecord, from_tables, tables_in, is_filled, fill_in, fills_in}
 use Rattle.ship_profile.specs.Ship.{ShipRecord, extent_of, is_above, last_of, is_one_of, station_of, stations_of, block_in, block_of, blocks_of, frame_in, frame_of, frames_of, downflooding_of, ship_of, NamedFill, named_fill_of, named_fills_of}
 use Rattle.ship_profile.specs.Written.{HasNumber, Pairwise, HasArray, IsNumber, IsBlockTable, IsFrameTable, IsFillTable, IsShipOf, AreFillsAt, IsFillOf, IsWritten}
 use Rattle.ship_profile.proofs.MeaningLemmas.{number-limits}
@@ -245,14 +247,22 @@ ship-is ms s e =
       frames = elements-has IsFrameTable key.Frames 1 16 (frame_of stations.0) (frame-is stations.0) ms frames.0 frames.1;
     })
 
+-- tables that were read
+tables-read : {A : Type 0} (r : Result A TableFault) (a : A) → from_tables r ≡ Ok a → r ≡ Ok a
+tables-read (Ok b) a e = cc
+tables-read (Err x) a e = cc
+
 -- a profile that was read part by part
-pub parts-written : (text : List ℕ) (ms : Members) (p : ProfileRecord) (named : List NamedFill) → document_in text ≡ Ok ms → ship_of ms ≡ Ok p.ship → named_fills_of ms ≡ Ok named
-    → fills_in p.tables named ≡ Ok p.fills → IsWritten text p
-parts-written text ms p named d s n f = record {
-  document = ms;
-  document_is = was_there BadToml (document_of text) ms d;
-  ship = ship-is ms p.ship s;
-  named = named;
-  named_are = fills-at ms (get_member (name_of key.Fills) ms) named refl n;
-  fills = all-related (IsFillOf p.tables) (fill_in p.tables) (fill-of p.tables) named p.fills f;
-}
+pub parts-written : (texts : Texts) (ms : Members) (p : ProfileRecord) (named : List NamedFill) → document_in texts.ship ≡ Ok ms → ship_of ms ≡ Ok p.ship → named_fills_of ms ≡ Ok named
+    → tables_in p.ship texts.tables ≡ Ok p.tables → fills_in p.tables named ≡ Ok p.fills → IsWritten texts p
+parts-written texts ms p named d s n t f =
+    let stations = p.ship.stations in
+    record {
+      document = ms;
+      document_is = was_there BadToml (document_of texts.ship) ms d;
+      ship = ship-is ms p.ship s;
+      named = named;
+      named_are = fills-at ms (get_member (name_of key.Fills) ms) named refl n;
+      fills = all-related (IsFillOf p.tables) (fill_in p.tables) (fill-of p.tables) named p.fills f;
+      tables = tables-written (extent_of stations) (length stations) texts.tables p.tables (tables-read (tables_of (extent_of stations) (length stations) texts.tables) p.tables t);
+    }

@@ -1,6 +1,6 @@
 -- The profile of a ship: the record that her files write, where every rule of them holds, or else the first fault in the order of the
 -- files: `ship.toml` whole, the tables one after another, and then the tanks of the fills.
-use Rattle.std.specs.Prelude.{◌≡◌, ℕ, ◌+◌, ◌<◌, ◌≤◌, ◌^◌, Bool, not, nat_eq, List, [], length, map, All, Option, Result, Ok, Err, option_map}
+use Rattle.std.specs.Prelude.{ℕ, ◌+◌, ◌<◌, ◌≤◌, ◌^◌, Bool, not, nat_eq, List, [], length, map, All, Option, Result, Ok, Err, option_map}
 use Rattle.std.specs.List.{list_any, IsDistinct}
 use Rattle.toml.specs.Data.{Members}
 use Rattle.units_core.specs.declared.bodies.Place.{Place}

@@ -1,19 +1,18 @@
 -- What `ship.toml` says: the ship's length and limits, her stations, the blocks of the light ship, the frames at which loads are judged,
 -- and the tanks that are filled. Lengths are in mm, masses in kg.
-use Rattle.std.specs.Prelude.{◌≡◌, codes, ℕ, ◌+◌, ◌-◌, ◌<◌, ◌≤◌, ◌^◌, ℤ, pos, ◌+ℤ◌, ◌-ℤ◌, ◌≤ℤ◌, neg_ℤ, unsigned_abs, int_lt, int_le, Bool, true, false, ◌==◌, ◌&&◌, List, [], ◌∷◌, map, length, slice_get, All, Contains, Option, Some, None, option_map, Result, Ok, Err}
+use Rattle.std.specs.Prelude.{◌≡◌, codes, ℕ, ◌+◌, ◌-◌, ◌≤◌, ◌^◌, ℤ, pos, ◌≤ℤ◌, neg_ℤ, unsigned_abs, int_lt, int_le, Bool, true, List, map, length, slice_get, All, Contains, Option, Some, None, option_map, Result, Ok}
 use Rattle.std.specs.List.{list_any}
 use Rattle.std.specs.Ordering.{int_eq}
 use Rattle.toml.specs.Data.{Data, Members, get_member}
 use Rattle.ship_tables.specs.declared.extents.Extent.{Extent}
 use Rattle.ship_tables.specs.Extents.{holds}
 use Rattle.ship_tables.specs.Record.{IsPlace}
-use Rattle.units_core.specs.declared.bodies.Place.{Place}
 use Rattle.units_core.specs.Bodies.{Mass}
 use Rattle.units_core.specs.Interpolation.{at, IsRising, IsWithin}
 use Rattle.ship_profile.specs.declared.faults.File.TheVariants as file
 use Rattle.ship_profile.specs.declared.faults.Key.TheVariants as key
 use Rattle.ship_profile.specs.declared.faults.ProfileFault.{ProfileFault}
-use Rattle.ship_profile.specs.declared.faults.ProfileFault.TheVariants.{OutOfLimits, NotRising, FrameNotStation, OutsideStations, Downflooding}
+use Rattle.ship_profile.specs.declared.faults.ProfileFault.TheVariants.{NotRising, FrameNotStation, OutsideStations, Downflooding}
 use Rattle.ship_profile.specs.declared.frames.Frame.{Frame}
 use Rattle.ship_profile.specs.Keys.{number_of, number_in_table, length_in_table, text_in_table, table_of, number_at, elements_at, optional_of, name_of}
 use Rattle.ship_profile.specs.Outcome.{◌>>=◌, demand}

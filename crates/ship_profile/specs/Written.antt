@@ -1,14 +1,15 @@
--- What a profile says is what its `ship.toml` says: each number of it stands at its key in the document, each station, block, frame and fill
--- in its array at the same place.
+-- What a profile says is what its files say: each number of `ship.toml` stands at its key in the document, each station, block, frame and fill
+-- in its array at the same place, and each number of the tables stands in its column.
 use Rattle.std.specs.Prelude.{◌≡◌, codes, ℕ, ℤ, pos, List, [], ◌∷◌, Option, Some, None}
 use Rattle.std.specs.Bool.{⊤}
 use Rattle.toml.specs.Data.{Data, string, integer, array, table, Items, Members, get_member}
 use Rattle.units_core.specs.Bodies.{Mass}
 use Rattle.ship_tables.specs.Record as tables
+use Rattle.ship_tables.specs.Written as table_files
 use Rattle.ship_profile.specs.declared.fills.TankFill.{TankFill}
 use Rattle.ship_profile.specs.declared.frames.Frame.{Frame}
 use Rattle.ship_profile.specs.Keys.{document_of, items_in}
-use Rattle.ship_profile.specs.Record.{ProfileRecord}
+use Rattle.ship_profile.specs.Record.{Texts, ProfileRecord}
 use Rattle.ship_profile.specs.Ship.{ShipRecord, NamedFill}
 
 -- an integer stands at a key
@@ -78,11 +79,12 @@ pub record IsFillOf (ts : tables.TablesRecord) (f : TankFill) (n : NamedFill) : 
   pub tank : tables.tank_of ts n.tank ≡ Some f.tank
   pub kg : f.kg ≡ n.kg
 
--- what the text of `ship.toml` says of a profile
-pub record IsWritten (text : List ℕ) (p : ProfileRecord) : Type 0 where
+-- what the texts of the files say of a profile: the document of `ship.toml`, and the tables
+pub record IsWritten (texts : Texts) (p : ProfileRecord) : Type 0 where
   pub document : Members
-  pub document_is : document_of text ≡ Some document
+  pub document_is : document_of texts.ship ≡ Some document
   pub ship : IsShipOf document p.ship
   pub named : List NamedFill
   pub named_are : AreFillsAt document (get_member (codes "fills") document) named
   pub fills : Pairwise (IsFillOf p.tables) p.fills named
+  pub tables : table_files.IsWritten texts.tables p.tables

@@ -1,17 +1,14 @@
 ghost use Rattle.std.specs.Prelude.{◌≡◌, ◌≢◌, Ok, Err, IfOk, IfErr};
-ghost use Rattle.toml.specs.View.{view, table_view};
+ghost use Rattle.toml.specs.View.{table_view};
 ghost use Rattle.ship_profile.specs.Ship.{block_in, block_of, blocks_of, AreBlocks};
 
 use crate::arrays::{Element, elements_at};
 use crate::faults::{File, Key, ProfileFault};
-use crate::keys::{MAX_MM, length, length_in_table, number_in_table, table_of};
+use crate::keys::{MAX_KG, MAX_MM, length, length_in_table, number_in_table, table_of};
 use ship_tables::Extent;
 use std::alloc::Global;
 use toml::{Table, Value};
 use units_core::{Body, Place};
-
-/// The greatest mass of a block, in kg.
-const MAX_KG: i64 = 1_000_000_000;
 
 /// Blocks, each within the stations.
 #[derive(Clone, Copy)]

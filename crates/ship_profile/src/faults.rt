@@ -9,12 +9,19 @@ use thiserror::Error;
 /// A file of the profile. It prints as its name.
 #[derive(Clone, Copy, Debug, PartialEq, Eq)]
 pub enum File {
+    /// `ship.toml`: the limits, stations, blocks, frames and fills.
     Ship,
+    /// `cells.csv`: the cells, and where a container in each stands.
     Cells,
+    /// `hydro.csv`: the hydrostatic table.
     Hydro,
+    /// `kn.csv`: the righting levers.
     Levers,
+    /// `bonjean.csv`: the immersed areas at the stations.
     Bonjean,
+    /// `tanks.csv`: the fillings of the tanks.
     Tanks,
+    /// `gm.csv`: the least metacentric heights.
     LeastGm,
 }
 

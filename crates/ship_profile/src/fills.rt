@@ -5,14 +5,11 @@ ghost use Rattle.ship_profile.specs.Ship.{named_fill_of, named_fills_of, AreName
 
 use crate::arrays::{Element, read_elements};
 use crate::faults::{Key, ProfileFault};
-use crate::keys::{number_in_table, table_of, text_in_table, value_at};
+use crate::keys::{MAX_KG, number_in_table, table_of, text_in_table, value_at};
 use ship_tables::Tables;
 use std::alloc::Global;
 use std::marker::Model;
 use toml::{Table, Value};
-
-/// The greatest mass of a fill, in kg.
-const MAX_KG: i64 = 1_000_000_000;
 
 /// A fill as it is written.
 #[derive(Debug, Drop)]
@@ -88,7 +85,9 @@ pub fn read_fills(alloc: Global, table: &Table) -> Result<Vec<NamedFill>, Profil
 /// A tank that is filled, by its number, and how many kg are in it.
 #[derive(Clone, Copy, Debug, PartialEq, Eq)]
 pub struct TankFill {
+    /// The number of the tank, from 0 in the order of `tanks.csv`.
     pub tank: u16,
+    /// The mass of its filling, in kg.
     pub kg: u32,
 }
 

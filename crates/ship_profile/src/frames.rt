@@ -4,15 +4,12 @@ ghost use Rattle.ship_profile.specs.Ship.{frame_in, frame_of, frames_of, is_one_
 
 use crate::arrays::{Element, elements_at};
 use crate::faults::{File, Key, ProfileFault};
-use crate::keys::{length_in_table, number_in_table, table_of};
+use crate::keys::{MAX_KG, length_in_table, number_in_table, table_of};
 use crate::stations::is_above;
 use std::alloc::Global;
 use std::marker::Model;
 use toml::{Table, Value};
 use units_core::Mm;
-
-/// The greatest shear force, in kg.
-const MAX_SHEAR: i64 = 1_000_000_000;
 
 /// The greatest bending moment, in kg mm.
 const MAX_BENDING: i64 = 1_000_000_000_000_000;
@@ -38,9 +35,9 @@ pub struct Frames {
 
 impl Model for Frames {
     ghost use Rattle.std.specs.Prelude.{List, length, ◌≤◌};
-    ghost use Rattle.ship_profile.specs.declared.frames.Frame.{Frame as AFrame};
+    ghost use Rattle.ship_profile.specs.declared.frames.Frame.{Frame};
 
-    ghost Value = { List AFrame };
+    ghost Value = { List Frame };
 
     ghost view = { λ f. f.frames.items };
 
@@ -69,7 +66,7 @@ fn read_frame(table: &Table) -> Result<Frame, ProfileFault>
     ensures { result ≡ frame_in (table_view table.now) }
 {
     let x = length_in_table(table, Key::Frames, "x_mm")?;
-    let shear_max = number_in_table(table, Key::Frames, "shear_max_kg", 0, MAX_SHEAR)?;
+    let shear_max = number_in_table(table, Key::Frames, "shear_max_kg", 0, MAX_KG)?;
     let hog_max = number_in_table(table, Key::Frames, "hog_max_kgmm", 0, MAX_BENDING)?;
     let sag_max = number_in_table(table, Key::Frames, "sag_max_kgmm", 0, MAX_BENDING)?;
     Ok(Frame {

@@ -1,4 +1,4 @@
-ghost use Rattle.std.specs.Prelude.{◌≡◌, ◌≢◌, ◌≤ℤ◌, ◌≤◌, ◌^◌, pos, neg_ℤ, unsigned_abs, Ok, Err, IfOk, IfErr, option_map, option_copied};
+ghost use Rattle.std.specs.Prelude.{◌≡◌, ◌≢◌, ◌≤ℤ◌, ◌≤◌, ◌^◌, pos, neg_ℤ, unsigned_abs, Ok, Err, IfOk, IfErr, option_map};
 ghost use Rattle.toml.specs.Data.{get_member};
 ghost use Rattle.toml.specs.View.{view, table_view};
 ghost use Rattle.ship_profile.specs.Keys.{document_in, number_of, number_in_table, length_in_table, text_in_table, table_of, number_at};
@@ -10,6 +10,9 @@ use units_core::Mm;
 
 /// The greatest length either way, in mm.
 pub const MAX_MM: i64 = 1_000_000;
+
+/// The greatest mass, and the greatest shear force, in kg.
+pub const MAX_KG: i64 = 1_000_000_000;
 
 /// The document that the text of `ship.toml` is.
 pub fn read_document(alloc: Global, text: &[u8]) -> Result<Table, ProfileFault>

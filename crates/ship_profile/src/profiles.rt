@@ -74,12 +74,13 @@ fn read_tables(alloc: Global, ship: &Ship, bytes: &ProfileBytes<'_>) -> Result<T
 impl Profile {
     /// Reads the profile that the texts of its files write, or the first fault of them: `ship.toml` whole, then the tables
     /// in the order `cells.csv`, `hydro.csv`, `kn.csv`, `bonjean.csv`, `tanks.csv`, `gm.csv`, then the tanks of the fills.
+    /// Each number of the profile is the one that stands in its file: at its key, or in its column and in the record of its row.
     /// Only this takes memory; where it is refused the answer is [`ProfileFault::NoMemory`].
     pub fn read(alloc: Global, bytes: &ProfileBytes<'_>) -> Result<Profile, ProfileFault>
         ensures ok { IfOk result (λ p. record_of (texts_of bytes.now) ≡ Ok p) }
         ensures refused { IfErr result (λ e. e ≢ ProfileFault.NoMemory → record_of (texts_of bytes.now) ≡ Err e) }
         ensures meaning { IfOk result (λ p. IsSound p) }
-        ensures written { IfOk result (λ p. IsWritten bytes.now.ship.now p) }
+        ensures written { IfOk result (λ p. IsWritten (texts_of bytes.now) p) }
     {
         let document = read_document(alloc, bytes.ship)?;
         let ship = read_ship(alloc, &document)?;

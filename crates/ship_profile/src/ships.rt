@@ -5,7 +5,7 @@ ghost use Rattle.ship_profile.specs.Ship.{ship_of, downflooding_of, extent_of, I
 use crate::blocks::read_blocks;
 use crate::faults::{Key, ProfileFault};
 use crate::frames::{Frames, read_frames};
-use crate::keys::{length_at, number_at};
+use crate::keys::{MAX_KG, MAX_MM, length_at, number_at};
 use crate::stations::read_stations;
 use ship_tables::Extent;
 use std::alloc::Global;
@@ -65,12 +65,12 @@ pub fn read_ship(alloc: Global, table: &Table) -> Result<Ship, ProfileFault>
     ensures refused { IfErr result (λ e. e ≢ ProfileFault.NoMemory → ship_of (table_view table.now) ≡ Err e) }
     ensures meaning { IfOk result (λ s. IsSoundShip s) }
 {
-    let lbp = length_at(table, Key::Lbp, 1, 1_000_000)?;
+    let lbp = length_at(table, Key::Lbp, 1, MAX_MM)?;
     let downflooding = read_downflooding(table)?;
     let draught_max = length_at(table, Key::DraughtMax, 1, 100_000)?;
     let trim_max = length_at(table, Key::TrimMax, 0, 100_000)?;
     let list_max = number_at(table, Key::ListMax, 0, 10_000)?;
-    let closing_max = number_at(table, Key::ClosingMax, 0, 1_000_000_000)?;
+    let closing_max = number_at(table, Key::ClosingMax, 0, MAX_KG)?;
     let stations = read_stations(alloc, table)?;
     let extent = extent_of(stations.as_slice());
     let blocks = read_blocks(alloc, extent, table)?;

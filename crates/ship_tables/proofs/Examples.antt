@@ -1,10 +1,12 @@
 -- The definitions on small texts, computed.
-use Rattle.std.proofs.Common.{◌≡◌, codes, pos, neg_ℤ, [], ◌∷◌, Some, None, Ok, Err, refl}
+use Rattle.std.proofs.Common.{◌≡◌, codes, pos, neg_ℤ, [], ◌∷◌, Some, None, Ok, Err, map, refl}
 use Rattle.csv.proofs.OnLiterals.{csv_on_literals}
+use Rattle.csv_text.specs.Numbers.{number_in}
 use Rattle.ship_tables.specs.declared.extents.Extent.{Extent}
 use Rattle.ship_tables.specs.declared.faults.File.TheVariants as file
 use Rattle.ship_tables.specs.declared.faults.TableFault.TheVariants.{BadCsv, OutOfLimits, NotRising, DoubleCell, OutsideStations, TooFewRows}
-use Rattle.ship_tables.specs.Record.{places_in, hydro_in, curves_in, least_gm_form, tanks_in, tank_body, TablesRecord, TankTable, filling_in}
+use Rattle.ship_tables.specs.Record.{places_in, hydro_in, curves_in, least_gm_form, tanks_in, TankTable, filling_in}
+use Rattle.ship_tables.specs.Written.{records_under, field_as, IsColumn, IsNumbers}
 
 -- from 0 to 100 m
 ship : Extent
@@ -79,3 +81,16 @@ filled = refl
 too_full : filling_in 500001 (Some double_bottom) ≡ None
 unfolding double_bottom
 too_full = refl
+
+-- columns of texts: numbers, one of which is none, and the names of two tanks
+column : IsNumbers 1 (codes "kg,gm\n1,2\n2, -3") (pos 2 ∷ neg_ℤ (pos 3) ∷ [])
+unfolding csv_on_literals
+column = refl
+
+not_a_number : map (field_as number_in 1) (records_under (codes "kg,gm\n1,x\n2")) ≡ None ∷ None ∷ []
+unfolding csv_on_literals
+not_a_number = refl
+
+names : IsColumn Some 0 (codes "tank,kg\nA,0\nA,1\nB,0") (codes "A" ∷ codes "A" ∷ codes "B" ∷ [])
+unfolding csv_on_literals
+names = refl

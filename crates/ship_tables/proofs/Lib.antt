@@ -7,3 +7,4 @@ pub mod ReadLemmas
 pub mod RowLemmas
 pub mod SoundLemmas
 pub mod ValueLemmas
+pub mod WrittenLemmas

@@ -20,9 +20,8 @@ use Rattle.ship_tables.specs.declared.layouts.Field.{Field}
 use Rattle.ship_tables.specs.declared.layouts.Field.TheVariants as field
 use Rattle.ship_tables.specs.declared.layouts.Stands.{Stands}
 use Rattle.ship_tables.specs.Extents.{encloses, holds}
-use Rattle.ship_tables.specs.Outcome.{◌>>=◌}
 use Rattle.ship_tables.specs.Tables.{Form, Read, Row, number_at, cells_in, table_name, tables_read, file_in}
-use Rattle.ship_tables.specs.Record.{length_column, size_column, area_column, cells_form, hydro_form, levers_form, bonjean_form, tanks_form, least_gm_form, place_at, places_in, numbers_of, hydro_table, hydro_in, columns_from, curve_table, curves_in, tank_table, tank_at, tanks_in, least_gm_in, HydroTable, CurveTable, Tank, TankTable, TablesRecord, Texts, IsAtLeast, IsHydroTable, IsCurve, AreCurves, AreDisplacements, IsLeverTable, IsBonjeanTable, IsLeastGmTable, IsTankTable, IsTank, IsPlace, StandsWithin, AreTables, IsSound, tables_of}
+use Rattle.ship_tables.specs.Record.{length_column, size_column, cells_form, hydro_form, levers_form, bonjean_form, tanks_form, least_gm_form, place_at, places_in, numbers_of, hydro_table, hydro_in, columns_from, curve_table, curves_in, tank_table, tank_at, tanks_in, least_gm_in, HydroTable, CurveTable, Tank, TablesRecord, Texts, IsAtLeast, IsHydroTable, IsCurve, AreCurves, IsLeverTable, IsBonjeanTable, IsLeastGmTable, IsTankTable, IsTank, IsPlace, StandsWithin, IsSound, tables_of}
 use Rattle.ship_tables.proofs.SoundLemmas.{IsField, IsRow, IsRows, IsFile, StandsIn, went_on, file_in-sound, several-sound}
 
 pub same_ok : {A : Type 0} (a b : A) → ◌≡◌ {A = Result A TableFault} (Ok a) (Ok b) → a ≡ b
@@ -116,7 +115,7 @@ hydro-sound r t =
     }
 
 -- a file of an argument and n values from 0 to m
-slice_get-replicate : (n j : ℕ) (c : Column) → j < n → slice_get (replicate n c) j ≡ Some c
+pub slice_get-replicate : (n j : ℕ) (c : Column) → j < n → slice_get (replicate n c) j ≡ Some c
 slice_get-replicate zero j c h = absurd (omega arith)
 slice_get-replicate (suc n) zero c h = refl
 slice_get-replicate (suc n) (suc j) c h = slice_get-replicate n j c (omega arith)

@@ -1,5 +1,5 @@
 -- The rows of a file, gathered one after another.
-use Rattle.std.proofs.Common.{◌≡◌, ◌≢◌, ◌∙◌, ℕ, zero, suc, ◌+◌, ◌*◌, ◌^◌, ◌<◌, ◌≤◌, ◌==◌, nat_lt, Bool, length, length-append, map, mul-le-mul, Fits, w32, arith, List, [], ◌∷◌, ◌++◌, true, false, Option, None, Some, Ok, Err, refl, ap, sym, inl, inr}
+use Rattle.std.proofs.Common.{◌≡◌, ◌≢◌, ◌∙◌, ℕ, zero, suc, ◌+◌, ◌*◌, ◌^◌, ◌<◌, ◌≤◌, ◌==◌, nat_lt, length, length-append, map, mul-le-mul, Fits, w32, arith, List, [], ◌∷◌, ◌++◌, true, false, Option, None, Some, Err, refl, ap, sym, inl, inr}
 use Rattle.std.proofs.lemmas.Bool.{cases_Bool}
 use Rattle.std.proofs.lemmas.Bool.Decides.{nat_tests}
 use Rattle.std.proofs.lemmas.List.{append-nil, map-append}
@@ -11,11 +11,11 @@ use Rattle.units_core.specs.declared.cells.Cell.{Cell}
 use Rattle.units_core.specs.Cells.{cell_eq}
 use Rattle.ship_tables.specs.declared.faults.File.{File}
 use Rattle.ship_tables.specs.declared.faults.TableFault.{TableFault}
-use Rattle.ship_tables.specs.declared.faults.TableFault.TheVariants.{BadCsv, TooFewRows}
+use Rattle.ship_tables.specs.declared.faults.TableFault.TheVariants.{BadCsv}
 use Rattle.ship_tables.specs.declared.layouts.Rule.{Rule}
 use Rattle.ship_tables.specs.declared.layouts.Rule.TheVariants as rule
 use Rattle.ship_tables.specs.Outcome.{in_turn, first_fault}
-use Rattle.ship_tables.specs.Tables.{Form, Read, so_far, heading_read, tables_after, tables_read, Row, first_cell, first_name, table_name, cells_in, belongs, double_fault, rule_fault, room_fault, begin_fault, most_tables, ended_rows, table_fault, place_fault, row_fault, added, is_short, enough, read_under, read_of, seen_by, remembered, names_by}
+use Rattle.ship_tables.specs.Tables.{Form, Read, heading_read, tables_after, tables_read, Row, first_cell, first_name, table_name, cells_in, belongs, double_fault, rule_fault, room_fault, begin_fault, most_tables, ended_rows, table_fault, place_fault, row_fault, added, enough, read_under, read_of, seen_by, remembered, names_by}
 use Rattle.ship_tables.specs.Record.{numbers_of, columns_from}
 use Rattle.ship_tables.proofs.NameLemmas.{begun}
 

@@ -1,6 +1,6 @@
 -- What the rows of a file keep: each field is within its column's limits, no table has too few rows or too many, each row keeps the rule
 -- after those before it, and bodies stand where they can.
-use Rattle.std.proofs.Common.{◌≡◌, ◌∙◌, ℕ, zero, suc, ◌+◌, ◌-◌, ◌<◌, ◌≤◌, ◌==◌, ◌||◌, ◌&&◌, if◌then◌else◌, nat_le, nat_lt, Bool, true, false, ℤ, pos, ◌≤ℤ◌, ◌<ℤ◌, ◌-ℤ◌, int_lt, int_le, List, [], ◌∷◌, ◌++◌, length, map, zip, slice_get, length-append, Option, None, Some, Result, Ok, Err, refl, ap, sym, arith, inl, inr}
+use Rattle.std.proofs.Common.{◌≡◌, ◌∙◌, ℕ, zero, suc, ◌+◌, ◌-◌, ◌<◌, ◌≤◌, ◌==◌, ◌||◌, ◌&&◌, if◌then◌else◌, nat_le, nat_lt, Bool, true, false, ℤ, pos, ◌≤ℤ◌, ◌<ℤ◌, ◌-ℤ◌, int_lt, int_le, List, [], ◌∷◌, ◌++◌, length, map, zip, slice_get, length-append, Option, None, Some, Result, Ok, Err, refl, sym, arith, inl, inr}
 use Rattle.std.specs.Bool.{⊤}
 use Rattle.std.proofs.lemmas.Bool.{cases_Bool, and_parts}
 use Rattle.std.proofs.lemmas.Bool.Decides.{nat_tests}
@@ -29,7 +29,7 @@ use Rattle.ship_tables.specs.declared.layouts.Stands.{Stands}
 use Rattle.ship_tables.specs.Extents.{encloses}
 use Rattle.ship_tables.specs.Outcome.{◌>>=◌, or_fault, unless, each, in_turn}
 use Rattle.ship_tables.specs.Tables.{Form, Read, so_far, heading_read, Row, number_at, first_cell, first_name, table_name, cells_in, within, field_in, row_in, belongs, is_beyond, step_fault, rise_fault, double_fault, rule_fault, most_tables, place_fault, row_fault, tables_after, tables_read, with_row, added, is_short, enough, read_under, read_of, file_in}
-use Rattle.ship_tables.proofs.NameLemmas.{begun, not_named}
+use Rattle.ship_tables.proofs.NameLemmas.{not_named}
 use Rattle.ship_tables.proofs.ReadLemmas.{cells_in-push, comes-room, comes-follows, comes-stands, comes-new, comes-table, names-belongs, other_name}
 
 -- a result that went on
@@ -167,7 +167,7 @@ there c (r ∷ rows) (suc k) h = there c rows k (omega arith)
 cell_eq_sym : (a b : Cell) → cell_eq a b ≡ false → cell_eq b a ≡ false
 cell_eq_sym a b e = grind (arith, nat_tests)
 
-all-push : {X : Type 0} (P : X → Type 0) (xs : List X) (x : X) → AllByRecursion P xs → P x → AllByRecursion P (xs ++ x ∷ [])
+pub all-push : {X : Type 0} (P : X → Type 0) (xs : List X) (x : X) → AllByRecursion P xs → P x → AllByRecursion P (xs ++ x ∷ [])
 all-push P [] x h p = (p, tt)
 all-push P (y ∷ ys) x h p = (h.0, all-push P ys x h.1 p)
 

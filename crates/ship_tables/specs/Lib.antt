@@ -3,3 +3,4 @@ pub mod Gathering
 pub mod Outcome
 pub mod Record
 pub mod Tables
+pub mod Written

@@ -1,6 +1,6 @@
 ghost use Rattle.std.specs.Prelude.{◌≡◌, ◌≢◌, ◌<◌, length, option_map, slice_get, Ok, Err, IfOk, IfErr};
 ghost use Rattle.ship_tables.specs.Tables.{form_of};
-ghost use Rattle.ship_tables.specs.Record.{numbers_of, columns_from, curve_table, curves_in, bonjean_form, least_gm_in, text_of};
+ghost use Rattle.ship_tables.specs.Record.{numbers_of, curve_table, curves_in, bonjean_form, least_gm_in, text_of};
 
 use crate::faults::TableFault;
 use crate::forms::{AREA, DRAUGHT, bonjean_layout, least_gm_layout};

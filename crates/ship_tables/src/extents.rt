@@ -6,7 +6,9 @@ use units_core::{Mm, Place};
 /// How far the ship reaches along her length: from her first station to her last.
 #[derive(Clone, Copy, Debug, PartialEq, Eq)]
 pub struct Extent {
+    /// Her first station, in mm forward of the after perpendicular.
     pub aft: Mm,
+    /// Her last station, in mm forward of the after perpendicular.
     pub fore: Mm,
 }
 

@@ -48,6 +48,9 @@ const FREE_SURFACE: Column = Column::Number {
     high: 1_000_000_000_000,
 };
 
+/// The number of angles of heel at which the righting levers are given: 0, 5, .., 60 degrees.
+pub const ANGLES: usize = 13;
+
 /// The greatest step of a mass from row to row, in kg.
 const MAX_GAP: i64 = 100_000_000;
 

@@ -100,7 +100,9 @@ pub fn read_row(
     if fields.len() != layout.columns.len() {
         return Err(TableFault::BadCsv(layout.file, line));
     }
-    let mut read = Vec::new(alloc);
+    let Ok(mut read) = Vec::with_capacity(alloc, layout.columns.len()) else {
+        return Err(TableFault::NoMemory);
+    };
     for (place, column) in layout.columns.iter().enumerate() {
         let field = read_field(layout.file, line, *column, text_at(fields, place))?;
         if read.push(field).is_err() {

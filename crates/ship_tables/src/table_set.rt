@@ -1,10 +1,11 @@
 ghost use Rattle.std.specs.Prelude.{◌≡◌, ◌≢◌, ◌≤◌, length, option_map, Ok, Err, IfOk, IfErr, IfSome};
 ghost use Rattle.ship_tables.specs.Record.{texts_of, tables_of, place_of, tank_of, tank_body, IsSound, IsHydroTable, IsLeverTable, IsBonjeanTable, IsLeastGmTable, IsPlace};
+ghost use Rattle.ship_tables.specs.Written.{IsWritten};
 
 use crate::curves::{Curves, read_bonjean, read_curves, read_least_gm};
 use crate::extents::Extent;
 use crate::faults::TableFault;
-use crate::forms::levers_layout;
+use crate::forms::{ANGLES, levers_layout};
 use crate::hydrostatics::{Hydro, read_hydro};
 use crate::places::{CellPlaces, read_places};
 use crate::tanks::{Tanks, read_tanks};
@@ -37,7 +38,8 @@ impl Model for Tables {
 impl Tables {
     /// Reads the tables that the texts of their files write, for a ship of this extent and so many stations, or the first fault
     /// of them: the files come in the order `cells.csv`, `hydro.csv`, `kn.csv`, `bonjean.csv`, `tanks.csv`, `gm.csv`, and each is
-    /// read from its beginning. Only this takes memory; where it is refused the answer is [`TableFault::NoMemory`].
+    /// read from its beginning. Each number of the tables is the one that stands in its file, in its column and in the record of
+    /// its row. Only this takes memory; where it is refused the answer is [`TableFault::NoMemory`].
     pub fn read(
         alloc: Global,
         extent: Extent,
@@ -47,10 +49,11 @@ impl Tables {
         ensures ok { IfOk result (λ t. tables_of extent stations (texts_of texts.now) ≡ Ok t) }
         ensures refused { IfErr result (λ e. e ≢ TableFault.NoMemory → tables_of extent stations (texts_of texts.now) ≡ Err e) }
         ensures meaning { IfOk result (λ t. IsSound extent stations t) }
+        ensures written { IfOk result (λ t. IsWritten (texts_of texts.now) t) }
     {
         let cells = read_places(alloc, &extent, texts.cells)?;
         let hydro = read_hydro(alloc, texts.hydro)?;
-        let levers = read_curves(alloc, &levers_layout(), 13, texts.levers)?;
+        let levers = read_curves(alloc, &levers_layout(), ANGLES, texts.levers)?;
         let bonjean = read_bonjean(alloc, stations, texts.bonjean)?;
         let tanks = read_tanks(alloc, &extent, texts.tanks)?;
         let least_gm = read_least_gm(alloc, texts.least_gm)?;

@@ -3,7 +3,6 @@ ghost use Rattle.std.specs.Str.{bytes_eq};
 ghost use Rattle.units_core.specs.Bodies.{IsWithinLimits};
 ghost use Rattle.units_core.specs.Interpolation.{at, interval, reading, Encloses, Rises, IsWithin};
 ghost use Rattle.units_core.specs.Ratio.{floor_of};
-ghost use Rattle.ship_tables.specs.Tables.{tables_after};
 ghost use Rattle.ship_tables.specs.Record.{TankTable, IsTankTable, IsAtLeast, tank_table, tanks_in, filling, filling_in, IsPlace};
 
 use crate::curves::numbers;

@@ -411,6 +411,42 @@ fn ranges_in_frames(rt: HostRuntime) -> Result<(), Fail> {
     check_ranges(&rt, &FRAME_RANGES, OUT_OF_LIMITS, OUT_OF_LIMITS)
 }
 
+/// Where a frame stands: the ends of the range, at which there is no station, and one past each.
+static FRAMES_ALONG: [(i64, &str); 4] = [
+    (-1_000_001, "P6 ship.toml 0"),
+    (-1_000_000, "P9 1"),
+    (1_000_000, "P9 1"),
+    (1_000_001, "P6 ship.toml 0"),
+];
+
+#[test]
+fn frames_along_the_ship(rt: HostRuntime) -> Result<(), Fail> {
+    for (x, want) in &FRAMES_ALONG {
+        check_number(
+            &rt,
+            "frames",
+            "[{x_mm = ",
+            ", shear_max_kg = 0, hog_max_kgmm = 0, sag_max_kgmm = 0}]",
+            *x,
+            want,
+        )?;
+    }
+    Ok(())
+}
+
+/// The keys from the stations on, of a ship whose first station is aft of the after perpendicular and has a frame.
+static AFT: &str = "stations_mm = [-25000, 0, 50000, 75000, 100000]
+blocks = [{kg = 1, x_mm = 0, y_mm = 0, z_mm = 0, half_mm = 25000}]
+frames = [{x_mm = -25000, shear_max_kg = 0, hog_max_kgmm = 0, sag_max_kgmm = 0}]
+";
+
+#[test]
+fn frame_at_a_negative_station(rt: HostRuntime) -> Result<(), Fail> {
+    let mut ship = first_keys(rt.alloc(), 6, "", "")?;
+    ship.push_str(AFT)?;
+    check_ship(&rt, ship.as_str(), "", AFT)
+}
+
 fn write_block(text: &mut String, kg: u32) -> Result<(), Fail> {
     Ok(write!(
         text,

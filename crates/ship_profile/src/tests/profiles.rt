@@ -1,7 +1,7 @@
 //! A whole profile: what it gives, the order of its files, and the fills in its tanks.
 use super::files::{
-    BONJEAN, CELLS, GM, HYDRO, KN, SHIP, TANKS, box_files, check_files, check_values, check_words,
-    refusal, seen, ship_with, words,
+    BONJEAN, CELLS, GM, HYDRO, KN, SHIP, TANKS, box_files, check_files, check_ship, check_values,
+    check_words, seen, ship_with, words,
 };
 use crate::{Curves, File, Key, Profile, ProfileBytes, ProfileFault};
 use ship_tables::TableFault;
@@ -262,7 +262,7 @@ fn fills_of_tanks(rt: HostRuntime) -> Result<(), Fail> {
 }
 
 /// Fills, and the words of their faults: each in turn, an unknown tank, then one that was filled before.
-static FILLS: [(&str, &str); 8] = [
+static FILLS: [(&str, &str); 9] = [
     ("[{tank = \"DB1\", kg = 1}]", ""),
     ("[{tank = \"DB2\", kg = 1}]", "P12 1"),
     ("[{tank = \"\", kg = 1}]", "P12 1"),
@@ -276,6 +276,10 @@ static FILLS: [(&str, &str); 8] = [
     ),
     (
         "[{tank = \"DB1\", kg = 1}, {tank = \"DB1\", kg = 2}]",
+        "P3 fills",
+    ),
+    (
+        "[{tank = \"DB1\", kg = 1}, {tank = \"DB1\", kg = 0}]",
         "P3 fills",
     ),
     (
@@ -369,13 +373,151 @@ fn places_reach_from_the_first_station_to_the_last(rt: HostRuntime) -> Result<()
     Ok(())
 }
 
+/// The prefixes of `ship.toml`: those up to each length, from the length before, have the fault beside it. One that ends in a key or
+/// before a value is no document; one that ends in a value or after it has the fault of what comes next.
+static PREFIXES: [(usize, &str); 78] = [
+    // no text at all
+    (1, "P2 lbp_mm"),
+    // each of the first keys: cut in its name or before its value, and in its value or after it
+    (10, "P1"),
+    (17, "P2 downflooding_deg"),
+    (36, "P1"),
+    (37, "P11 6"),
+    (39, "P2 draught_max_mm"),
+    (56, "P1"),
+    (61, "P2 trim_max_mm"),
+    (75, "P1"),
+    (79, "P2 list_max"),
+    (90, "P1"),
+    (94, "P2 closing_max_kg"),
+    (111, "P1"),
+    (116, "P2 stations_mm"),
+    (161, "P1"),
+    (163, "P2 blocks"),
+    // the block, key by key
+    (172, "P1"),
+    (174, "P2 blocks"),
+    (179, "P1"),
+    (187, "P2 blocks"),
+    (194, "P1"),
+    (200, "P2 blocks"),
+    (207, "P1"),
+    (209, "P2 blocks"),
+    (216, "P1"),
+    (221, "P2 blocks"),
+    (231, "P1"),
+    (237, "P2 frames"),
+    // the first frame, after which the ship is whole
+    (246, "P1"),
+    (248, "P2 frames"),
+    (255, "P1"),
+    (257, "P2 frames"),
+    (272, "P1"),
+    (279, "P2 frames"),
+    (294, "P1"),
+    (305, "P2 frames"),
+    (320, "P1"),
+    (331, ""),
+    // each further frame, of which a part is a fault
+    (340, "P1"),
+    (342, "P2 frames"),
+    (349, "P1"),
+    (355, "P2 frames"),
+    (370, "P1"),
+    (377, "P2 frames"),
+    (392, "P1"),
+    (403, "P2 frames"),
+    (418, "P1"),
+    (429, ""),
+    (438, "P1"),
+    (440, "P2 frames"),
+    (447, "P1"),
+    (453, "P2 frames"),
+    (468, "P1"),
+    (475, "P2 frames"),
+    (490, "P1"),
+    (501, "P2 frames"),
+    (516, "P1"),
+    (527, ""),
+    (536, "P1"),
+    (538, "P2 frames"),
+    (545, "P1"),
+    (551, "P2 frames"),
+    (566, "P1"),
+    (573, "P2 frames"),
+    (588, "P1"),
+    (599, "P2 frames"),
+    (614, "P1"),
+    (625, ""),
+    (634, "P1"),
+    (636, "P2 frames"),
+    (643, "P1"),
+    (650, "P2 frames"),
+    (665, "P1"),
+    (672, "P2 frames"),
+    (687, "P1"),
+    (698, "P2 frames"),
+    (713, "P1"),
+    (724, ""),
+];
+
+/// Reads the prefixes of `ship.toml` from one length to before another: each has this fault.
+fn check_prefixes_between(
+    rt: &(impl Abort + AllocGlobal),
+    from: usize,
+    past: usize,
+    want: &str,
+) -> Result<(), Fail> {
+    for length in from..past {
+        let ship = SHIP.get(..length).ok_or("a prefix")?;
+        check_ship(rt, ship, want, ship)?;
+    }
+    Ok(())
+}
+
+/// Reads every prefix of `ship.toml`.
+fn check_prefixes(rt: &(impl Abort + AllocGlobal), rows: &[(usize, &str)]) -> Result<(), Fail> {
+    let mut from = 0;
+    for (past, want) in rows {
+        check_prefixes_between(rt, from, *past, want)?;
+        from = *past;
+    }
+    assert_eq!(rt; from, SHIP.len() + 1);
+    Ok(())
+}
+
 #[test]
 fn every_prefix_of_ship_toml(rt: HostRuntime) -> Result<(), Fail> {
-    for length in 0..SHIP.len() {
-        let ship = SHIP.get(..length).ok_or("a prefix")?;
-        let refused = refusal(rt.alloc(), &box_files(ship, CELLS, TANKS, None))?;
-        let of_another_file = refused.as_str().contains(".csv");
-        assert!(rt; !of_another_file, "{length}");
+    check_prefixes(&rt, &PREFIXES)
+}
+
+/// Comments before the text of `ship.toml`, and the words of their faults: one in UTF-8, and one that isn't.
+static COMMENTS: [(&[u8], &str); 2] = [(b"# caf\xc3\xa9\n", ""), (b"# caf\xe9\n", "P1")];
+
+/// The files of the box ship with these bytes for her `ship.toml`.
+fn with_ship(ship: &[u8]) -> ProfileBytes<'_> {
+    ProfileBytes {
+        ship,
+        cells: CELLS.as_bytes(),
+        hydro: HYDRO.as_bytes(),
+        kn: KN.as_bytes(),
+        bonjean: BONJEAN.as_bytes(),
+        tanks: TANKS.as_bytes(),
+        gm: None,
+    }
+}
+
+/// Reads the box ship with a comment before her `ship.toml`.
+fn check_comment(rt: &(impl Abort + AllocGlobal), comment: &[u8], want: &str) -> Result<(), Fail> {
+    let mut ship = Vec::from_slice(rt.alloc(), comment)?;
+    ship.extend_from_slice(SHIP.as_bytes())?;
+    check_files(rt, &with_ship(ship.as_slice()), want, "a comment")
+}
+
+#[test]
+fn comments_in_utf_8(rt: HostRuntime) -> Result<(), Fail> {
+    for (comment, want) in &COMMENTS {
+        check_comment(&rt, comment, want)?;
     }
     Ok(())
 }

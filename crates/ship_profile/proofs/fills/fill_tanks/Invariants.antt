@@ -1,4 +1,4 @@
-use Rattle.std.proofs.Common.{◌≡◌, drop, [], length}
+use Rattle.std.proofs.Common.{◌≡◌, drop, length}
 use Rattle.ship_profile.specs.Record.{fills_in, fill_in}
 use Rattle.ship_profile.specs.Outcome.{one_by_one}
 use Rattle.ship_profile.proofs.fills.fill_tanks.Given as goal

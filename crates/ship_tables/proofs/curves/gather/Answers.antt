@@ -1,4 +1,4 @@
-use Rattle.std.proofs.Common.{◌≡◌, ◌∙◌, ◌++◌, ◌∷◌, [], ◌+◌, map, sym, add-one, rules, arith}
+use Rattle.std.proofs.Common.{◌≡◌, ◌++◌, ◌∷◌, [], ◌+◌, sym, rules}
 use Rattle.std.proofs.lemmas.List.{map-append}
 use Rattle.ship_tables.specs.Record.{numbers_of}
 use Rattle.ship_tables.proofs.ReadLemmas.{columns_from-push}

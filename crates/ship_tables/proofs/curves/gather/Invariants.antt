@@ -1,5 +1,5 @@
 use Rattle.std.proofs.Common.{◌≡◌, map}
-use Rattle.ship_tables.specs.Record.{columns_from, numbers_of}
+use Rattle.ship_tables.specs.Record.{columns_from}
 use Rattle.ship_tables.proofs.curves.gather.Given as goal
 
 abbrev pub invariant-loop-curve : goal.invariant-loop-curve

@@ -1,4 +1,4 @@
-use Rattle.std.proofs.Common.{◌≡◌, ◌∙◌, ◌++◌, ◌∷◌, [], ◌<◌, ◌≤◌, ◌+◌, ◌*◌, length, arith, rules, sym}
+use Rattle.std.proofs.Common.{◌≡◌, ◌∙◌, ◌++◌, ◌∷◌, [], ◌+◌, arith, rules}
 use Rattle.ship_tables.specs.Tables.{form_of, most_tables, tables_after, first_name}
 use Rattle.ship_tables.specs.Gathering.{read_by, names_held}
 use Rattle.ship_tables.proofs.NameLemmas.{not_named}

@@ -1,5 +1,5 @@
-use Rattle.std.proofs.Common.{◌≡◌, ◌∙◌, ◌++◌, ◌∷◌, [], ◌<◌, ◌≤◌, ◌+◌, ◌*◌, length, arith, rules}
-use Rattle.ship_tables.specs.Tables.{form_of, most_tables, remembered, first_cell}
+use Rattle.std.proofs.Common.{◌≡◌, ◌∙◌, ◌++◌, ◌∷◌, [], ◌+◌, length, arith, rules}
+use Rattle.ship_tables.specs.Tables.{form_of, most_tables}
 use Rattle.ship_tables.specs.Gathering.{read_by}
 use Rattle.ship_tables.proofs.ReadLemmas.{line-fits, comes-room, comes-follows, remembered-kept, names-kept}
 use Rattle.ship_tables.proofs.reading.keep_in_table.Goals as goal

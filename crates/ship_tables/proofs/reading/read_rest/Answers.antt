@@ -1,9 +1,8 @@
-use Rattle.std.proofs.Common.{◌∙◌, arith}
+use Rattle.std.proofs.Common.{◌∙◌}
 use Rattle.std.proofs.lemmas.Result.{err_from_is_err_and}
 use Rattle.csv_text.proofs.ReadingLemmas.{gave_one, gave_none}
 use Rattle.ship_tables.proofs.OutcomeLemmas.{in_turn-more, in_turn-stop, lift_ok, lift_err}
 use Rattle.ship_tables.proofs.ReadLemmas.{under-stop, under-end}
-use Rattle.ship_tables.specs.Gathering.{read_by}
 use Rattle.ship_tables.specs.Tables.{form_of, added}
 use Rattle.ship_tables.proofs.reading.read_rest.Goals as goal
 

@@ -1,4 +1,4 @@
-use Rattle.std.proofs.Common.{◌≡◌, ◌+◌, ◌*◌, ◌-◌, List, []}
+use Rattle.std.proofs.Common.{◌≡◌, ◌+◌, ◌*◌, ◌-◌, List}
 use Rattle.csv_text.specs.Reading.{Fields, HasLeft}
 use Rattle.ship_tables.specs.Outcome.{in_turn}
 use Rattle.ship_tables.specs.Gathering.{read_by, HasGathered}

@@ -1,4 +1,4 @@
-use Rattle.std.proofs.Common.{◌≡◌, ◌∙◌, ◌≤◌, ◌^◌, unsigned_abs, FitsSigned, w64, to_z-of_z, arith, rules}
+use Rattle.std.proofs.Common.{◌∙◌, ◌≤◌, unsigned_abs, FitsSigned, w64, to_z-of_z, arith, rules}
 use Rattle.std.specs.Int.{w128}
 use Rattle.std.proofs.lemmas.Int.{ints}
 use Rattle.ship_tables.proofs.tanks.length_at.Goals as goal

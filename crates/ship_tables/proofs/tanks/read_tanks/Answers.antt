@@ -1,4 +1,4 @@
-use Rattle.std.proofs.Common.{◌≡◌, ◌∙◌, ◌≤◌, length, map, arith, sym, ap, Ok, rules, refl}
+use Rattle.std.proofs.Common.{◌≡◌, ◌∙◌, length, map, arith, sym, ap, Ok, rules}
 use Rattle.std.proofs.lemmas.List.{length-map}
 use Rattle.ship_tables.specs.Gathering.{read_by, names_held}
 use Rattle.ship_tables.specs.Outcome.{◌>>=◌}

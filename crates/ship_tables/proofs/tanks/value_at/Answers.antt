@@ -1,4 +1,4 @@
-use Rattle.std.proofs.Common.{◌≡◌, ◌<◌, ◌+◌, length, to_z, of_z, to_z-of_z, FitsSigned, arith, rules}
+use Rattle.std.proofs.Common.{to_z-of_z, FitsSigned, arith, rules}
 use Rattle.std.specs.Int.{w128}
 use Rattle.units_core.specs.Interpolation.{reading}
 use Rattle.units_core.specs.Ratio.{IsFloor}

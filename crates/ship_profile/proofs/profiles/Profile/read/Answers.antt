@@ -24,4 +24,4 @@ pub returns-clause-written : goal.returns-clause-written
 returns-clause-written c =
     let slice : c.as_slice.result.now ≡ c.in_ok-named.named.items = search rules in
     let fills = rw slice at c.in_ok-fills.ensures.ok in
-    parts-written _ (table_view c.in_ok-document.document) _ c.in_ok-named.named.items c.in_ok-document.ensures.ok c.in_ok-ship.ensures.ok c.in_ok-named.ensures.ok fills
+    parts-written (texts_of c.args.bytes.now) (table_view c.in_ok-document.document) _ c.in_ok-named.named.items c.in_ok-document.ensures.ok c.in_ok-ship.ensures.ok c.in_ok-named.ensures.ok c.in_ok-tables.ensures.ok fills

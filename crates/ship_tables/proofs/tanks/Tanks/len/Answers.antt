@@ -1,4 +1,4 @@
-use Rattle.std.proofs.Common.{◌∙◌, length, map, sym, rules, ◌≡◌}
+use Rattle.std.proofs.Common.{◌∙◌, length, sym, rules, ◌≡◌}
 use Rattle.std.proofs.lemmas.List.{length-map}
 use Rattle.ship_tables.proofs.NameLemmas.{tanks_by-length}
 use Rattle.ship_tables.proofs.tanks.Tanks.len.Goals as goal
