@@ -5,7 +5,8 @@ use Rattle.std.specs.List.{range_with_len}
 use Rattle.std.specs.Option.{is_some, option_map}
 use Rattle.units_core.specs.declared.cells.Cell.{Cell}
 use Rattle.lift_sequence.specs.declared.containers.Container.{Container}
-use Rattle.lift_sequence.specs.Legal.{meet, is_rival, overlap, in_bay}
+use Rattle.units_core.specs.Cells.{meet}
+use Rattle.lift_sequence.specs.Legal.{is_rival, overlap, in_bay}
 
 -- the spans of two bays that are more than two apart don't meet
 apart : (a b : ℕ) → (a + 2 < b) → meet a b ≡ false

@@ -1,12 +1,12 @@
 -- Which steps can be done with what is aboard, and why a step can't.
-use Rattle.std.specs.Prelude.{ℕ, nat_le, List, [], ◌∷◌, Option, None, Some, option_map, Bool, true, false, not, ◌&&◌, if◌then◌else◌, find}
+use Rattle.std.specs.Prelude.{ℕ, List, [], ◌∷◌, Option, None, Some, option_map, Bool, true, false, not, ◌&&◌, if◌then◌else◌, find}
 use Rattle.std.specs.List.{range_with_len}
 use Rattle.std.specs.Option.{is_some, is_none, option_or}
 use Rattle.std.specs.Str.{bytes_eq}
 use Rattle.units_core.specs.declared.bodies.Place.{Place}
 use Rattle.units_core.specs.declared.cells.Cell.{Cell}
 use Rattle.units_core.specs.Bodies.{Mass}
-use Rattle.units_core.specs.Cells.{span_of}
+use Rattle.units_core.specs.Cells.{meet}
 use Rattle.stow_messages.specs.declared.lifts.Lift.TheVariants.{Load, Discharge}
 use Rattle.ship_profile.specs.Record.{ProfileRecord, place_of, tank_of, tank_body}
 use Rattle.lift_sequence.specs.declared.containers.Container.{Container}
@@ -15,10 +15,6 @@ use Rattle.lift_sequence.specs.declared.faults.SeqCode.TheVariants.{UnknownCell,
 use Rattle.lift_sequence.specs.declared.operations.Op as operation
 use Rattle.lift_sequence.specs.declared.operations.Op.TheVariants.{Lift, Fill, Restow}
 use Rattle.lift_sequence.specs.Aboard.{Aboard, with_cell}
-
--- the 20-foot bays that two bays stand over meet
-abbrev pub meet : ℕ → ℕ → Bool
-meet a b = nat_le (span_of a).0 (span_of b).1 && nat_le (span_of b).0 (span_of a).1
 
 -- the cell of another bay, of the same row and tier
 abbrev pub in_bay : Cell → ℕ → Cell

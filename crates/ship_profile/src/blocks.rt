@@ -4,11 +4,11 @@ ghost use Rattle.ship_profile.specs.Ship.{block_in, block_of, blocks_of, AreBloc
 
 use crate::arrays::{Element, elements_at};
 use crate::faults::{File, Key, ProfileFault};
-use crate::keys::{MAX_KG, MAX_MM, length, length_in_table, number_in_table, table_of};
+use crate::keys::{MAX_KG, MAX_MM, length_in_table, number_in_table, table_of};
 use ship_tables::Extent;
 use std::alloc::Global;
 use toml::{Table, Value};
-use units_core::{Body, Place};
+use units_core::{Body, Mm, Place};
 
 /// Blocks, each within the stations.
 #[derive(Clone, Copy)]
@@ -29,7 +29,7 @@ fn read_block(table: &Table) -> Result<Body, ProfileFault>
         x,
         y,
         z,
-        half: length(half),
+        half: Mm::of(half),
     };
     Ok(Body::new(kg as u32, place, 0).unwrap())
 }

@@ -67,20 +67,12 @@ pub fn number_in_table(
     }
 }
 
-/// The length of so many millimetres.
-pub fn length(mm: i64) -> Mm
-    requires { unsigned_abs mm ≤ 10 ^ 6 }
-    ensures { result ≡ mm }
-{
-    Mm::new(mm as i32).unwrap()
-}
-
 /// The length at a name, at most 10^6 mm either way.
 pub fn length_in_table(table: &Table, key: Key, name: &str) -> Result<Mm, ProfileFault>
     ensures { result ≡ length_in_table key name.now (table_view table.now) }
 {
     let mm = number_in_table(table, key, name, -MAX_MM, MAX_MM)?;
-    Ok(length(mm))
+    Ok(Mm::of(mm))
 }
 
 /// The text at a name; a fault names the key of the table's array.
@@ -124,5 +116,5 @@ pub fn length_at(table: &Table, key: Key, low: i64, high: i64) -> Result<Mm, Pro
     ensures within { IfOk result (λ z. (low ≤ℤ z) × (z ≤ℤ high)) }
 {
     let mm = number_at(table, key, low, high)?;
-    Ok(length(mm))
+    Ok(Mm::of(mm))
 }

@@ -4,7 +4,7 @@ ghost use Rattle.ship_profile.specs.Ship.{station_of, stations_of, AreStations, 
 
 use crate::arrays::{Element, elements_at};
 use crate::faults::{File, Key, ProfileFault};
-use crate::keys::{MAX_MM, length, number_of};
+use crate::keys::{MAX_MM, number_of};
 use std::alloc::Global;
 use toml::{Table, Value};
 use units_core::Mm;
@@ -32,7 +32,7 @@ impl Element for StationRule {
     ghost next = { λ _ before d. station_of before d };
 
     fn read(&self, _alloc: Global, before: &[Mm], value: &Value) -> Result<Mm, ProfileFault> {
-        let x = length(number_of(value, Key::Stations, -MAX_MM, MAX_MM)?);
+        let x = Mm::of(number_of(value, Key::Stations, -MAX_MM, MAX_MM)?);
         if is_above(before.last().copied(), x) {
             Ok(x)
         } else {

@@ -1,7 +1,26 @@
 -- What a reader of a file holds, as what was read of the file.
-use Rattle.std.specs.Prelude.{◌≡◌, ℕ, ◌+◌, ◌*◌, ◌≤◌, List, length, map}
+use Rattle.std.specs.Prelude.{◌≡◌, ℕ, ◌+◌, ◌*◌, ◌≤◌, List, [], ◌∷◌, ◌++◌, length, map, Option, Some, if◌then◌else◌}
+use Rattle.std.specs.List.{list_any}
+use Rattle.units_core.specs.declared.cells.Cell.{Cell}
+use Rattle.units_core.specs.Cells.{cell_eq}
+use Rattle.ship_tables.specs.declared.layouts.Rule.{Rule}
+use Rattle.ship_tables.specs.declared.layouts.Rule.TheVariants as rule
 use Rattle.ship_tables.specs.declared.reading.Gathered.{Gathered}
-use Rattle.ship_tables.specs.Tables.{Form, Read, so_far, most_tables, tables_read, seen_by, names_by}
+use Rattle.ship_tables.specs.Tables.{Form, Read, Row, so_far, most_tables, tables_read, cells_in, table_name}
+
+-- the cells by which a reader of the file knows a double, and those cells once a row of this cell came; a rule that asks for none needs none
+abbrev pub seen_by : Rule → List Row → List Cell
+seen_by rule.Distinct rows = cells_in rows
+seen_by _ rows = []
+
+abbrev pub remembered : Rule → List Cell → Option Cell → List Cell
+remembered rule.Distinct cells (Some c) = if list_any (cell_eq c) cells then cells else cells ++ c ∷ []
+remembered _ cells _ = cells
+
+-- the names by which a reader of the file knows its tables; a file of one table has no need of it
+abbrev pub names_by : Rule → List (List Row) → List (List ℕ)
+names_by (rule.Together gap tables) read = map table_name read
+names_by _ read = []
 
 -- what was read
 abbrev pub read_by : Gathered → Read

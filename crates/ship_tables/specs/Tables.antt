@@ -1,6 +1,6 @@
 -- A CSV file of the profile as a table, or as several one after another: what is said of it in data, and the rows that its text writes, or
 -- its first fault.
-use Rattle.std.specs.Prelude.{ℕ, ◌+◌, ◌-◌, ℤ, pos, ◌-ℤ◌, Bool, true, false, int_lt, int_le, List, [], ◌∷◌, ◌++◌, ◌==◌, ◌&&◌, if◌then◌else◌, nat_le, nat_lt, length, map, zip, filter_map, slice_get, Option, Some, None, option_map, Result, Ok, Err}
+use Rattle.std.specs.Prelude.{ℕ, ◌+◌, ◌-◌, ℤ, pos, ◌-ℤ◌, Bool, true, false, int_lt, int_le, List, [], ◌∷◌, ◌++◌, ◌==◌, ◌&&◌, if◌then◌else◌, nat_le, nat_lt, length, zip, filter_map, slice_get, Option, Some, None, option_map, Result, Ok, Err}
 use Rattle.std.specs.List.{list_any, find}
 use Rattle.std.specs.Str.{bytes_eq}
 use Rattle.csv_text.specs.Numbers.{number_in}
@@ -198,17 +198,3 @@ read_of form (heading ∷ records) =
 -- what the text of a file writes
 abbrev pub file_in : Form → List ℕ → Result Read TableFault
 file_in form text = read_of form (records_of text)
-
--- the cells by which a reader of the file knows a double, and those cells once a row of this cell came; a rule that asks for none needs none
-abbrev pub seen_by : Rule → List Row → List Cell
-seen_by rule.Distinct rows = cells_in rows
-seen_by _ rows = []
-
-abbrev pub remembered : Rule → List Cell → Option Cell → List Cell
-remembered rule.Distinct cells (Some c) = if list_any (cell_eq c) cells then cells else cells ++ c ∷ []
-remembered _ cells _ = cells
-
--- the names by which a reader of the file knows its tables; a file of one table has no need of it
-abbrev pub names_by : Rule → List (List Row) → List (List ℕ)
-names_by (rule.Together gap tables) read = map table_name read
-names_by _ read = []

@@ -51,24 +51,16 @@ impl CellPlaces {
     }
 }
 
-/// The length of so many millimetres.
-pub fn length(mm: i64) -> Mm
-    requires { unsigned_abs mm ≤ 10 ^ 6 }
-    ensures { result ≡ mm }
-{
-    Mm::new(mm as i32).unwrap()
-}
-
 /// Where the container of a row stands.
 fn place_at(row: &Row) -> Place
     requires { IsPlace (place_at row.now) }
     ensures { result ≡ place_at row.now }
 {
     Place {
-        x: length(row.number(1)),
-        y: length(row.number(2)),
-        z: length(row.number(3)),
-        half: length(row.number(4)),
+        x: Mm::of(row.number(1)),
+        y: Mm::of(row.number(2)),
+        z: Mm::of(row.number(3)),
+        half: Mm::of(row.number(4)),
     }
 }
 

@@ -3,8 +3,8 @@ ghost use Rattle.std.specs.List.{list_any};
 ghost use Rattle.std.specs.Str.{bytes_eq};
 ghost use Rattle.csv.specs.Records.{fields_of};
 ghost use Rattle.csv_text.specs.Reading.{Fields, HasLeft, Gave};
-ghost use Rattle.ship_tables.specs.Gathering.{read_by, names_held, HasGathered};
-ghost use Rattle.ship_tables.specs.Tables.{form_of, heading_read, so_far, tables_after, tables_read, belongs, step_fault, rise_fault, double_fault, rule_fault, room_fault, table_fault, begin_fault, most_tables, table_name, ended_rows, place_fault, row_fault, with_row, added, is_short, enough, read_under, read_of, file_in, seen_by, remembered};
+ghost use Rattle.ship_tables.specs.Gathering.{read_by, names_held, HasGathered, seen_by, remembered};
+ghost use Rattle.ship_tables.specs.Tables.{form_of, heading_read, so_far, tables_after, tables_read, belongs, step_fault, rise_fault, double_fault, rule_fault, room_fault, table_fault, begin_fault, most_tables, table_name, ended_rows, place_fault, row_fault, with_row, added, is_short, enough, read_under, read_of, file_in};
 
 use crate::extents::encloses;
 use crate::faults::{File, TableFault};

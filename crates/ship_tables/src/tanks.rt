@@ -9,7 +9,6 @@ use crate::curves::numbers;
 use crate::extents::Extent;
 use crate::faults::TableFault;
 use crate::forms::tanks_layout;
-use crate::places::length;
 use crate::reading::{Table, end_table, read_file};
 use crate::rows::Row;
 use indexmap::IndexSet;
@@ -70,7 +69,7 @@ fn length_at(arguments: &[i128], column: &[i128], row: usize, x: i128) -> Mm
     ensures size { unsigned_abs result ≤ 10 ^ 6 }
     ensures least { IsAtLeast (pos 0) column.now → pos 0 ≤ℤ result }
 {
-    length(value_at(arguments, column, row, x) as i64)
+    Mm::of(value_at(arguments, column, row, x) as i64)
 }
 
 /// The free surface moment that a column has there, in kg mm.

@@ -1,5 +1,5 @@
 -- The interval of rising arguments in which a number lies.
-use Rattle.std.proofs.Common.{◌≡◌, ◌∙◌, ℕ, zero, suc, ◌+◌, ◌-◌, ◌<◌, ◌≤◌, ◌⊎◌, inl, inr, ◌≤ℤ◌, ◌<ℤ◌, ℤ, pos, List, [], ◌∷◌, length, get_or, drop, drop-cons, add-one, Some, None, true, false, arith, refl, sym}
+use Rattle.std.proofs.Common.{◌≡◌, ◌∙◌, ℕ, zero, suc, ◌+◌, ◌-◌, ◌<◌, ◌≤◌, ◌⊎◌, inl, inr, ◌≤ℤ◌, ◌<ℤ◌, ℤ, pos, List, [], ◌∷◌, length, drop, drop-cons, Some, None, true, false, arith, refl, sym}
 use Rattle.std.specs.Prelude.{int_lt}
 use borrow.Author.Differences.{true_is_lt, false_is_lt}
 use Rattle.units_core.specs.Interpolation.{at, interval, climb, IsRising}

@@ -1,5 +1,5 @@
 -- The numbers of cells: bay, row and tier (ISO 9711-1), written in seven digits, three, two and two.
-use Rattle.std.specs.Prelude.{◌≡◌, ℕ, ◌+◌, ◌-◌, ◌*◌, ◌%◌, ◌≤◌, Bool, nat_eq, ◌&&◌, if◌then◌else◌, List, [], ◌∷◌, Option, Some, None}
+use Rattle.std.specs.Prelude.{◌≡◌, ℕ, ◌+◌, ◌-◌, ◌*◌, ◌%◌, Bool, true, nat_eq, nat_le, ◌&&◌, if◌then◌else◌, List, [], ◌∷◌, Option, Some, None}
 use Rattle.std.specs.Char.{is_ascii_digit}
 use Rattle.units_core.specs.declared.cells.Cell.{Cell}
 
@@ -35,9 +35,12 @@ cell_in text = None
 abbrev pub span_of : ℕ → ℕ × ℕ
 span_of bay = if nat_eq (bay % 2) 1 then (bay, bay) else (bay - 1, bay + 1)
 
--- two cells want the same room: row and tier are equal, and the spans of the bays meet
+-- the 20-foot bays that two bays stand over meet
+abbrev pub meet : ℕ → ℕ → Bool
+meet a b = nat_le (span_of a).0 (span_of b).1 && nat_le (span_of b).0 (span_of a).1
+
+-- two cells want the same room: row and tier are equal, and the bays meet
 pub record Conflicts (a b : Cell) : Type 0 where
   pub row : a.row ≡ b.row
   pub tier : a.tier ≡ b.tier
-  pub before : (span_of a.bay).0 ≤ (span_of b.bay).1
-  pub behind : (span_of b.bay).0 ≤ (span_of a.bay).1
+  pub bays : meet a.bay b.bay ≡ true

@@ -74,6 +74,14 @@ impl Mm {
         }
     }
 
+    /// The length of `mm` millimetres that are known to lie within the limits.
+    pub fn of(mm: i64) -> Mm
+        requires { unsigned_abs mm ≤ 10 ^ 6 }
+        ensures { result ≡ mm }
+    {
+        Mm { mm: mm as i32 }
+    }
+
     /// The number of millimetres.
     pub fn get(self) -> i32
         ensures value { result ≡ self }

@@ -26,6 +26,9 @@ fn masses_and_lengths_within_their_limits(rt: HostRuntime) {
             "{mm} mm"
         );
     }
+    for mm in [-1_000_000, 0, 1_000_000] {
+        assert_eq!(rt; i64::from(Mm::of(mm).get()), mm);
+    }
 }
 
 #[test]

@@ -10,8 +10,8 @@ overflow_cast-value_at c =
     let narrow : FitsSigned w64 c.value_at.result = omega (arith, ints, size) in
     rw (to_z-of_z fits) narrow
 
-pub length-requires : goal.length-requires
-length-requires c =
+pub of-requires : goal.of-requires
+of-requires c =
     let size : unsigned_abs c.value_at.result ≤ 1000000 = c.value_at.ensures.size 1000000 c.requires.within in
     let fits : FitsSigned w128 c.value_at.result = omega (arith, ints, size) in
     let narrow : FitsSigned w64 c.value_at.result = omega (arith, ints, size) in
@@ -23,7 +23,7 @@ returns-clause-value c =
     let fits : FitsSigned w128 c.value_at.result = omega (arith, ints, size) in
     let narrow : FitsSigned w64 c.value_at.result = omega (arith, ints, size) in
     let x_fits : FitsSigned w128 c.args.x = search rules in
-    let length = c.length.ensures in
+    let length = c.of.ensures in
     rw (to_z-of_z fits, to_z-of_z narrow) at length ∙ (rw (to_z-of_z x_fits) at c.value_at.ensures.value)
 
 pub returns-clause-size : goal.returns-clause-size
@@ -31,7 +31,7 @@ returns-clause-size c =
     let size : unsigned_abs c.value_at.result ≤ 1000000 = c.value_at.ensures.size 1000000 c.requires.within in
     let fits : FitsSigned w128 c.value_at.result = omega (arith, ints, size) in
     let narrow : FitsSigned w64 c.value_at.result = omega (arith, ints, size) in
-    let length = c.length.ensures in
+    let length = c.of.ensures in
     rw (rw (to_z-of_z fits, to_z-of_z narrow) at length) size
 
 pub returns-clause-least : goal.returns-clause-least
@@ -39,5 +39,5 @@ returns-clause-least c h =
     let size : unsigned_abs c.value_at.result ≤ 1000000 = c.value_at.ensures.size 1000000 c.requires.within in
     let fits : FitsSigned w128 c.value_at.result = omega (arith, ints, size) in
     let narrow : FitsSigned w64 c.value_at.result = omega (arith, ints, size) in
-    let length = c.length.ensures in
+    let length = c.of.ensures in
     rw (rw (to_z-of_z fits, to_z-of_z narrow) at length) (c.value_at.ensures.least h)

@@ -1,4 +1,4 @@
-use Rattle.std.proofs.Common.{rules, ◌≡◌, ◌+◌, ◌-◌, ◌≤ℤ◌, ◌<ℤ◌, pos, get_or, length, FitsSigned, to_z-of_z, arith, sym}
+use Rattle.std.proofs.Common.{rules, ◌≡◌, ◌+◌, ◌-◌, ◌≤ℤ◌, pos, get_or, length, FitsSigned, to_z-of_z, arith, sym}
 use Rattle.std.specs.Int.{w128}
 use Rattle.units_core.specs.Interpolation.{at}
 use Rattle.units_core.proofs.Signed.{signed_arith}

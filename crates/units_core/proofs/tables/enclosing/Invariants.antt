@@ -1,4 +1,4 @@
-use Rattle.std.proofs.Common.{◌≡◌, ◌+◌, ◌-◌, ◌<◌, ◌≤◌, ◌≤ℤ◌, ◌<ℤ◌, ◌⊎◌, length}
+use Rattle.std.proofs.Common.{◌≡◌, ◌-◌, ◌<◌, ◌≤ℤ◌, ◌<ℤ◌, ◌⊎◌, length}
 use Rattle.units_core.specs.Interpolation.{at}
 use Rattle.units_core.proofs.tables.enclosing.Given as goal
 
