@@ -1,5 +1,4 @@
 ghost use Rattle.std.specs.Prelude.{◌≡◌, option_map};
-ghost use Rattle.ship_profile.specs.Record.{texts_of};
 
 use crate::command_line::Line;
 use crate::files::{Readers, Unopened, whole};
@@ -74,8 +73,16 @@ struct Folder {
 }
 
 impl Folder {
-    /// The texts of the files.
-    fn texts(&self) -> ProfileBytes<'_> {
+    /// The texts of the files, each as that of its file.
+    fn texts(&self) -> ProfileBytes<'_>
+        ensures ship { result.ship.now ≡ self.now.ship.items }
+        ensures cells { result.cells.now ≡ self.now.cells.items }
+        ensures hydro { result.hydro.now ≡ self.now.hydro.items }
+        ensures kn { result.kn.now ≡ self.now.kn.items }
+        ensures bonjean { result.bonjean.now ≡ self.now.bonjean.items }
+        ensures tanks { result.tanks.now ≡ self.now.tanks.items }
+        ensures gm { option_map (λ text. text.now) result.gm ≡ option_map (λ text. text.items) self.now.gm }
+    {
         ProfileBytes {
             ship: &self.ship,
             cells: &self.cells,
@@ -130,8 +137,19 @@ pub struct Texts {
 }
 
 impl Texts {
-    /// What the report is made of.
-    pub fn inputs(&self) -> Inputs<'_> {
+    /// What the report is made of: each text as that of its file.
+    pub fn inputs(&self) -> Inputs<'_>
+        ensures ship { result.profile.ship.now ≡ self.now.folder.ship.items }
+        ensures cells { result.profile.cells.now ≡ self.now.folder.cells.items }
+        ensures hydro { result.profile.hydro.now ≡ self.now.folder.hydro.items }
+        ensures kn { result.profile.kn.now ≡ self.now.folder.kn.items }
+        ensures bonjean { result.profile.bonjean.now ≡ self.now.folder.bonjean.items }
+        ensures tanks { result.profile.tanks.now ≡ self.now.folder.tanks.items }
+        ensures gm { option_map (λ text. text.now) result.profile.gm ≡ option_map (λ text. text.items) self.now.folder.gm }
+        ensures baplie { result.baplie.now ≡ self.now.baplie.items }
+        ensures movins { result.movins.now ≡ self.now.movins.items }
+        ensures steps { option_map (λ text. text.now) result.steps ≡ option_map (λ text. text.items) self.now.steps }
+    {
         Inputs {
             profile: self.folder.texts(),
             baplie: &self.baplie,
