@@ -198,73 +198,68 @@ fn statuses(rt: HostRuntime) {
     );
 }
 
+/// Files of the test ship, each with a text and the refusal of it.
+static REFUSALS: [(&str, &[u8], &str); 19] = [
+    ("box/ship.toml", b"", "refused F1 P2 lbp_mm\n"),
+    ("box/ship.toml", b"\x00\xff", "refused F1 P1\n"),
+    ("box/ship.toml", CELLS, "refused F1 P1\n"),
+    ("box/cells.csv", b"", "refused F1 P13 cells.csv\n"),
+    ("box/cells.csv", HYDRO, "refused F1 P4 cells.csv 1\n"),
+    ("box/hydro.csv", b"kg\n", "refused F1 P4 hydro.csv 1\n"),
+    ("box/kn.csv", HYDRO, "refused F1 P4 kn.csv 1\n"),
+    (
+        "box/tanks.csv",
+        b"tank,kg,x,y,z,half,fsm\nDB1,0,0,0,0,1,0\n",
+        "refused F1 P10 tanks.csv 2\n",
+    ),
+    (
+        "box/tanks.csv",
+        b"tank,kg,x,y,z,half,fsm\nDB1,x,0,0,0,1,0\n",
+        "refused F1 P5 tanks.csv 2\n",
+    ),
+    (
+        "box/cells.csv",
+        b"cell,x,y,z,half\n0030082,1000001,0,0,0\n",
+        "refused F1 P6 cells.csv 2\n",
+    ),
+    (
+        "box/gm.csv",
+        b"kg,gm\n4100000,150\n4100000,150\n",
+        "refused F1 P7 gm.csv 3\n",
+    ),
+    (
+        "box/cells.csv",
+        b"cell,x,y,z,half\n0030082,50000,0,0,0\n030082,50000,0,0,0\n",
+        "refused F1 P8 3\n",
+    ),
+    (
+        "box/gm.csv",
+        b"kg,gm\n4100000,150\n",
+        "refused F1 P13 gm.csv\n",
+    ),
+    ("plan.edi", b"", "refused F2 M1 E1 at 0\n"),
+    ("plan.edi", SHIP, "refused F2 M1 E1 at 286\n"),
+    (
+        "plan.edi",
+        b"UNB+UNOA:2+S+P+1:1+7'UNH+1+BAPLIE:D:95B:UN'LOC+147+X'UNT+3+1'UNZ+1+7'",
+        "refused F2 M2 segment 2\n",
+    ),
+    (
+        "plan.edi",
+        b"UNB+UNOA:2+S+P+1:1+7'UNH+1+BAPLIE:D:95B:UN'LOC+147+0990082'MEA+WT++KGM:1'UNT+4+1'UNZ+1+7'",
+        "refused F3 S1 item 1\n",
+    ),
+    ("moves.edi", PLAN, "refused F4 M1 E6 at 35\n"),
+    (
+        "moves.edi",
+        b"UNB+UNOA:2+P+S+1:1+8'UNH+1+MOVINS:D:95B:UN'HAN+RES'UNT+3+1'UNZ+1+8'",
+        "refused F4 M8 segment 2\n",
+    ),
+];
+
 #[test]
 fn refusals(rt: HostRuntime) {
-    for (name, text, line) in [
-        ("box/ship.toml", b"".as_slice(), "refused F1 P2 lbp_mm\n"),
-        ("box/ship.toml", b"\x00\xff".as_slice(), "refused F1 P1\n"),
-        ("box/ship.toml", CELLS, "refused F1 P1\n"),
-        (
-            "box/cells.csv",
-            b"".as_slice(),
-            "refused F1 P13 cells.csv\n",
-        ),
-        ("box/cells.csv", HYDRO, "refused F1 P4 cells.csv 1\n"),
-        (
-            "box/hydro.csv",
-            b"kg\n".as_slice(),
-            "refused F1 P4 hydro.csv 1\n",
-        ),
-        ("box/kn.csv", HYDRO, "refused F1 P4 kn.csv 1\n"),
-        (
-            "box/tanks.csv",
-            b"tank,kg,x,y,z,half,fsm\nDB1,0,0,0,0,1,0\n".as_slice(),
-            "refused F1 P10 tanks.csv 2\n",
-        ),
-        (
-            "box/tanks.csv",
-            b"tank,kg,x,y,z,half,fsm\nDB1,x,0,0,0,1,0\n".as_slice(),
-            "refused F1 P5 tanks.csv 2\n",
-        ),
-        (
-            "box/cells.csv",
-            b"cell,x,y,z,half\n0030082,1000001,0,0,0\n".as_slice(),
-            "refused F1 P6 cells.csv 2\n",
-        ),
-        (
-            "box/gm.csv",
-            b"kg,gm\n4100000,150\n4100000,150\n".as_slice(),
-            "refused F1 P7 gm.csv 3\n",
-        ),
-        (
-            "box/cells.csv",
-            b"cell,x,y,z,half\n0030082,50000,0,0,0\n030082,50000,0,0,0\n".as_slice(),
-            "refused F1 P8 3\n",
-        ),
-        (
-            "box/gm.csv",
-            b"kg,gm\n4100000,150\n".as_slice(),
-            "refused F1 P13 gm.csv\n",
-        ),
-        ("plan.edi", b"".as_slice(), "refused F2 M1 E1 at 0\n"),
-        ("plan.edi", SHIP, "refused F2 M1 E1 at 286\n"),
-        (
-            "plan.edi",
-            b"UNB+UNOA:2+S+P+1:1+7'UNH+1+BAPLIE:D:95B:UN'LOC+147+X'UNT+3+1'UNZ+1+7'".as_slice(),
-            "refused F2 M2 segment 2\n",
-        ),
-        (
-            "plan.edi",
-            b"UNB+UNOA:2+S+P+1:1+7'UNH+1+BAPLIE:D:95B:UN'LOC+147+0990082'MEA+WT++KGM:1'UNT+4+1'UNZ+1+7'".as_slice(),
-            "refused F3 S1 item 1\n",
-        ),
-        ("moves.edi", PLAN, "refused F4 M1 E6 at 35\n"),
-        (
-            "moves.edi",
-            b"UNB+UNOA:2+P+S+1:1+8'UNH+1+MOVINS:D:95B:UN'HAN+RES'UNT+3+1'UNZ+1+8'".as_slice(),
-            "refused F4 M8 segment 2\n",
-        ),
-    ] {
+    for (name, text, line) in &REFUSALS {
         check(&rt, &with(name, Content::Bytes(text)), &WORDS, 2, "", line);
     }
 }
