@@ -1,0 +1,16 @@
+-- Sums so far, by place.
+use Rattle.std.proofs.Common.{◌≡◌, ℕ, zero, suc, ◌+◌, ◌<◌, ◌≤◌, List, [], ◌∷◌, length, take, get_or, sum_by, ap, ◌∙◌, sym, refl, arith}
+use Rattle.std.specs.List.{fold}
+use Rattle.prefix_scan.specs.Folds.{sums_from}
+
+pub length-sums : {M : Type 0} (op : M → M → M) (a : M) (xs : List M) → length (sums_from op a xs) ≡ length xs
+length-sums op a [] = refl
+length-sums op a (x ∷ xs) = ap suc (length-sums op (op a x) xs)
+
+at_suc : {M : Type 0} (op : M → M → M) (a : M) (xs : List M) (i : ℕ) (d : M) → i < length xs → get_or (sums_from op a xs) i d ≡ fold op a (take (suc i) xs)
+at_suc op a [] i d h = absurd (omega arith)
+at_suc op a (x ∷ xs) zero d h = refl
+at_suc op a (x ∷ xs) (suc i) d h = at_suc op (op a x) xs i d (omega arith)
+
+pub sums-at : {M : Type 0} (op : M → M → M) (a : M) (xs : List M) (i : ℕ) (d : M) → i < length xs → get_or (sums_from op a xs) i d ≡ fold op a (take (i + 1) xs)
+sums-at op a xs i d h = at_suc op a xs i d h ∙ (let e : suc i ≡ i + 1 = omega arith in ap (λ n. fold op a (take n xs)) e)

@@ -1,0 +1,5 @@
+pub mod Cut
+pub mod Folds
+pub mod Lasts
+pub mod Laws
+pub mod Printed

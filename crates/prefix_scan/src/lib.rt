@@ -1,0 +1,20 @@
+//! A scan over the values of any monoid that tells their sizes, in the order in which they stand: what they are joined to, what those before
+//! each are joined to, and where a list is cut into chunks.
+//!
+//! Nothing here rests on the order of two values: `join` isn't commutative. It knows no ship.
+#![tactic(auto)]
+
+mod divisions;
+mod folds;
+mod last_values;
+mod monoids;
+mod running_joins;
+
+pub use divisions::{CutFault, Cuts};
+pub use folds::{fold, offsets};
+pub use last_values::Last;
+pub use monoids::{MAX_PARTS, Monoid};
+pub use running_joins::Running;
+
+#[cfg(test)]
+mod tests;
