@@ -7,3 +7,4 @@ pub mod Pieces
 pub mod Reading
 pub mod Stages
 pub mod Views
+pub mod Printed

@@ -43,7 +43,7 @@ abbrev pub type_name : Kind → List ℕ
 type_name Baplie = codes "BAPLIE"
 type_name Movins = codes "MOVINS"
 
--- Element 2 of the message header names the kind, in directory D.95B of the United Nations. What follows isn't looked at.
+-- Element 2 of the message header names the kind, in directory D.95B of the United Nations. What follows is ignored.
 abbrev pub is_of_type : Kind → Parts → Bool
 is_of_type kind s =
     is_text (component s 2 0) (type_name kind) && (is_text (component s 2 1) (codes "D")

@@ -15,8 +15,14 @@ const LOAD_ONE: &[u8; 137] =
     b"UNB+UNOA:2+PLAN+SHIP+250101:1200+8'UNH+1+MOVINS:D:95B:UN'HAN+LOA'LOC+147+0030782::5'MEA+WT++KGM:20500'EQD+CN+ABCU1234560'UNT+6+1'UNZ+1+8'";
 
 /// Texts that are no bay plan, each with its fault and the fault's place.
-static FAULTS: [(&str, &[u8], EdiCode, usize); 37] = [
+static FAULTS: [(&str, &[u8], EdiCode, usize); 53] = [
     ("cut in the advice", b" UNA:+.? ", EdiCode::Truncated, 9),
+    (
+        "cut in the advice, with a letter",
+        b"UNAA+.? ",
+        EdiCode::Truncated,
+        8,
+    ),
     (
         "cut in a segment",
         b"UNB+UNOA:2+SHIP+PLAN+250101:1200+7'UNH+1+BAPLIE:D:95B:UN'UNT+2+1'UNZ+1",
@@ -42,6 +48,12 @@ static FAULTS: [(&str, &[u8], EdiCode, usize); 37] = [
     ),
     ("another tag", b"\r\nUNX+1'", EdiCode::NoUnb, 2),
     (
+        "a vertical tab is no blank",
+        b"\x0bUNB+1'",
+        EdiCode::NoUnb,
+        0,
+    ),
+    (
         "released blank belongs to the tag",
         b"? UNB+1'",
         EdiCode::NoUnb,
@@ -59,6 +71,12 @@ static FAULTS: [(&str, &[u8], EdiCode, usize); 37] = [
         b"UNB+UNOA:2+SHIP+PLAN+250101:1200+7'UNG+1'",
         EdiCode::Groups,
         35,
+    ),
+    (
+        "a group's header behind the message",
+        b"UNB+UNOA:2+SHIP+PLAN+250101:1200+7'UNH+1+BAPLIE:D:95B:UN'UNT+2+1'UNG+1'",
+        EdiCode::Groups,
+        65,
     ),
     (
         "a group behind the message",
@@ -85,6 +103,30 @@ static FAULTS: [(&str, &[u8], EdiCode, usize); 37] = [
         35,
     ),
     (
+        "another version",
+        b"UNB+UNOA:2+SHIP+PLAN+250101:1200+7'UNH+1+BAPLIE:S:95B:UN'",
+        EdiCode::WrongType,
+        35,
+    ),
+    (
+        "another agency",
+        b"UNB+UNOA:2+SHIP+PLAN+250101:1200+7'UNH+1+BAPLIE:D:95B:EDI'",
+        EdiCode::WrongType,
+        35,
+    ),
+    (
+        "no agency",
+        b"UNB+UNOA:2+SHIP+PLAN+250101:1200+7'UNH+1+BAPLIE:D:95B'",
+        EdiCode::WrongType,
+        35,
+    ),
+    (
+        "a longer name",
+        b"UNB+UNOA:2+SHIP+PLAN+250101:1200+7'UNH+1+BAPLIES:D:95B:UN'",
+        EdiCode::WrongType,
+        35,
+    ),
+    (
         "another message",
         b"UNB+UNOA:2+SHIP+PLAN+250101:1200+7'UNH+1+MOVINS:D:95B:UN'",
         EdiCode::WrongType,
@@ -99,6 +141,18 @@ static FAULTS: [(&str, &[u8], EdiCode, usize); 37] = [
     (
         "eleven digits",
         b"UNB+UNOA:2+SHIP+PLAN+250101:1200+7'UNH+1+BAPLIE:D:95B:UN'UNT+00000000002+1'UNZ+1+7'",
+        EdiCode::SegmentCount,
+        57,
+    ),
+    (
+        "no count",
+        b"UNB+UNOA:2+SHIP+PLAN+250101:1200+7'UNH+1+BAPLIE:D:95B:UN'UNT++1'",
+        EdiCode::SegmentCount,
+        57,
+    ),
+    (
+        "a letter in the count",
+        b"UNB+UNOA:2+SHIP+PLAN+250101:1200+7'UNH+1+BAPLIE:D:95B:UN'UNT+2A+1'",
         EdiCode::SegmentCount,
         57,
     ),
@@ -127,6 +181,12 @@ static FAULTS: [(&str, &[u8], EdiCode, usize); 37] = [
         65,
     ),
     (
+        "another tag before the count",
+        b"UNB+UNOA:2+SHIP+PLAN+250101:1200+7'UNH+1+BAPLIE:D:95B:UN'UNT+2+1'UNH+2+7'",
+        EdiCode::SeveralMessages,
+        65,
+    ),
+    (
         "two messages counted",
         b"UNB+UNOA:2+SHIP+PLAN+250101:1200+7'UNH+1+BAPLIE:D:95B:UN'UNT+2+1'UNZ+2+7'",
         EdiCode::InterchangeCount,
@@ -139,8 +199,38 @@ static FAULTS: [(&str, &[u8], EdiCode, usize); 37] = [
         65,
     ),
     (
+        "a count of nought",
+        b"UNB+UNOA:2+SHIP+PLAN+250101:1200+7'UNH+1+BAPLIE:D:95B:UN'UNT+2+1'UNZ+0+7'",
+        EdiCode::InterchangeCount,
+        65,
+    ),
+    (
+        "ten counted",
+        b"UNB+UNOA:2+SHIP+PLAN+250101:1200+7'UNH+1+BAPLIE:D:95B:UN'UNT+2+1'UNZ+10+7'",
+        EdiCode::InterchangeCount,
+        65,
+    ),
+    (
+        "eleven counted",
+        b"UNB+UNOA:2+SHIP+PLAN+250101:1200+7'UNH+1+BAPLIE:D:95B:UN'UNT+2+1'UNZ+11+7'",
+        EdiCode::InterchangeCount,
+        65,
+    ),
+    (
+        "the count before the reference",
+        b"UNB+UNOA:2+SHIP+PLAN+250101:1200+7'UNH+1+BAPLIE:D:95B:UN'UNT+2+1'UNZ+2+8'",
+        EdiCode::InterchangeCount,
+        65,
+    ),
+    (
         "interchange reference",
         b"UNB+UNOA:2+SHIP+PLAN+250101:1200+7'UNH+1+BAPLIE:D:95B:UN'UNT+2+1'UNZ+1+8'",
+        EdiCode::InterchangeRef,
+        65,
+    ),
+    (
+        "a reference in another case",
+        b"UNB+UNOA:2+SHIP+PLAN+250101:1200+a'UNH+1+BAPLIE:D:95B:UN'UNT+2+1'UNZ+1+A'",
         EdiCode::InterchangeRef,
         65,
     ),
@@ -176,6 +266,12 @@ static FAULTS: [(&str, &[u8], EdiCode, usize); 37] = [
         0,
     ),
     (
+        "an empty tag behind the message",
+        b"UNB+UNOA:2+SHIP+PLAN+250101:1200+7'UNH+1+BAPLIE:D:95B:UN'UNT+2+1'+1+7'",
+        EdiCode::EmptySegment,
+        65,
+    ),
+    (
         "65 elements",
         b"UNB+UNOA:2+SHIP+PLAN+250101:1200+7'UNH+1+BAPLIE:D:95B:UN'X++++++++++++++++++++++++++++++++++++++++++++++++++++++++++++++++'",
         EdiCode::TooManyElements,
@@ -196,7 +292,7 @@ static FAULTS: [(&str, &[u8], EdiCode, usize); 37] = [
 ];
 
 /// Bay plans, each with the number of its segments.
-static PLANS: [(&str, &[u8], u64); 13] = [
+static PLANS: [(&str, &[u8], u64); 15] = [
     (
         "nothing between",
         b"UNB+UNOA:2+SHIP+PLAN+250101:1200+7'UNH+1+BAPLIE:D:95B:UN'UNT+2+1'UNZ+1+7'",
@@ -205,6 +301,11 @@ static PLANS: [(&str, &[u8], u64); 13] = [
     (
         "blanks behind",
         b"UNB+UNOA:2+SHIP+PLAN+250101:1200+7'UNH+1+BAPLIE:D:95B:UN'UNT+2+1'UNZ+1+7'\r\n ",
+        0,
+    ),
+    (
+        "tabs and other blanks",
+        b"\tUNB+UNOA:2+SHIP+PLAN+250101:1200+7'\t\r\n UNH+1+BAPLIE:D:95B:UN'UNT+2+1'UNZ+1+7'\t",
         0,
     ),
     (
@@ -258,10 +359,55 @@ static PLANS: [(&str, &[u8], u64); 13] = [
         0,
     ),
     (
+        "further components of references and counts",
+        b"UNB+UNOA:2+SHIP+PLAN+250101:1200+7:P'UNH+1:Q+BAPLIE:D:95B:UN'UNT+2:R+1:S'UNZ+1:T+7:U'",
+        0,
+    ),
+    (
         "lines",
         b"UNB+UNOA:2+SHIP+PLAN+250101:1200+7'\r\nUNH+1+BAPLIE:D:95B:UN:AB12'\r\nLOC+147+030082::5'\r\nMEA+WT++KGM:20000'\r\nMEA+VGM++KGM:20499.2'\r\nEQD+CN+AB?+CD'\r\nUNT+6+1'\r\nUNZ+1+7'\r\n",
         4,
     ),
+];
+
+/// What neither separates nor releases: ASCII letters and digits, CR, LF and tab.
+const PLAIN: &[u8; 65] = b"0123456789ABCDEFGHIJKLMNOPQRSTUVWXYZabcdefghijklmnopqrstuvwxyz\r\n\t";
+
+/// The components of a segment of seven elements.
+static COMPONENTS: [(usize, usize, &[u8]); 12] = [
+    (0, 0, b"X"),
+    (0, 1, b""),
+    (1, 0, b"a"),
+    (1, 1, b"b"),
+    (1, 2, b""),
+    (2, 0, b"c"),
+    (2, 1, b"d~e"),
+    (3, 0, b"f"),
+    (4, 0, b"g"),
+    (5, 1, b"i"),
+    (6, 0, b"j"),
+    (7, 0, b""),
+];
+
+/// Those of a segment without a release character.
+static UNRELEASED: [(usize, usize, &[u8]); 2] = [(0, 0, b"A?"), (1, 0, b"?")];
+
+/// The code of each fault.
+static CODES: [(EdiCode, &str); 14] = [
+    (EdiCode::Truncated, "E1"),
+    (EdiCode::BadUna, "E2"),
+    (EdiCode::NoUnb, "E3"),
+    (EdiCode::Groups, "E4"),
+    (EdiCode::NoUnh, "E5"),
+    (EdiCode::WrongType, "E6"),
+    (EdiCode::SegmentCount, "E7"),
+    (EdiCode::MessageRef, "E8"),
+    (EdiCode::SeveralMessages, "E9"),
+    (EdiCode::InterchangeCount, "E10"),
+    (EdiCode::InterchangeRef, "E11"),
+    (EdiCode::Trailing, "E12"),
+    (EdiCode::EmptySegment, "E13"),
+    (EdiCode::TooManyElements, "E14"),
 ];
 
 /// How many segments the message has, or the fault.
@@ -349,35 +495,50 @@ fn interchanges(rt: HostRuntime) {
     one_reading();
 }
 
+/// The message has this decimal mark, and its last segment these components.
+fn has_components(
+    text: &[u8],
+    mark: u8,
+    components: &[(usize, usize, &[u8])],
+) -> Result<bool, EdiFault> {
+    let message = open(text, Kind::Movins)?;
+    let mut holds = false;
+    for segment in message.segments() {
+        holds = message.decimal_mark() == mark;
+        for (i, j, expected) in components {
+            holds = holds && segment.component(*i, *j).is(expected);
+        }
+    }
+    Ok(holds)
+}
+
+/// Each of the six characters is another, and all but the reserved one are in use.
+#[test]
+fn components_by_their_places(rt: HostRuntime) {
+    let text = b"UNA|^,!*~UNB^^^^^7~UNH^1^MOVINS|D|95B|UN~X^a|b^c|d!~e^f^g^h|i^j~UNT^3^1~UNZ^1^7~";
+    assert_eq!(rt; has_components(text, b',', &COMPONENTS), Ok(true));
+}
+
 /// Without a release character every byte is itself.
 #[test]
-fn no_release_character(rt: HostRuntime) -> Result<(), EdiFault> {
+fn no_release_character(rt: HostRuntime) {
     let text = b"UNA:+,  'UNB+++++7?'UNH+1+MOVINS:D:95B:UN'A?+?'UNT+3+1'UNZ+1+7?'";
-    let message = open(text, Kind::Movins)?;
-    assert_eq!(rt; message.decimal_mark(), b',');
-    for segment in message.segments() {
-        assert!(rt; segment.tag().is(b"A?"));
-        assert!(rt; segment.component(1, 0).is(b"?"));
-    }
-    Ok(())
+    assert_eq!(rt; has_components(text, b',', &UNRELEASED), Ok(true));
 }
 
 #[test]
 fn release_and_verified_weight(rt: HostRuntime) -> Result<(), EdiFault> {
     let message = open(ONE_CONTAINER, Kind::Baplie)?;
     assert_eq!(rt; message.decimal_mark(), b'.');
-    let mut name: ArrayVec<u8, 35> = ArrayVec::new();
     let mut numbers: u64 = 0;
+    let mut released = false;
     for segment in message.segments() {
         numbers = numbers.wrapping_mul(10).wrapping_add(segment.number());
         if segment.tag().is(b"EQD") {
-            assert!(rt; segment.component(2, 0).literal_into(&mut name));
-            assert_eq!(rt; name.as_slice(), b"AB+CD".as_slice());
-            assert!(rt; segment.component(2, 1).is_empty());
-            assert!(rt; segment.component(9, 9).is_empty());
-            assert!(rt; !segment.component(1, 0).same(segment.component(2, 0)));
+            released = segment.component(2, 0).is(b"AB+CD");
         }
     }
+    assert!(rt; released);
     assert_eq!(rt; numbers, 2345);
     Ok(())
 }
@@ -402,26 +563,40 @@ fn literals(rt: HostRuntime) {
     assert!(rt; Raw::new(b"?", Some(b'?')).is_empty());
 }
 
+/// The byte can stand at this place of the advice `UNA:+.? '`: it is none of the plain ones nor of the characters at the other
+/// places, and a space stands for no release character alone. The decimal mark and the reserved byte may be anything.
+fn can_stand(place: usize, byte: u8) -> bool {
+    let others: &[u8] = match place {
+        3 => b" +?'",
+        4 => b" :?'",
+        6 => b":+'",
+        8 => b" :+?",
+        _ => return true,
+    };
+    !PLAIN.contains(&byte) && !others.contains(&byte)
+}
+
+/// An advice with nothing behind it is bad, or the text is cut at its end.
+#[test]
+fn service_characters(rt: HostRuntime) {
+    for place in 3..9 {
+        for byte in 0..=255u8 {
+            let mut text = *b"UNA:+.? '";
+            text[place] = byte;
+            let expected = if can_stand(place, byte) {
+                fault(EdiCode::Truncated, 9)
+            } else {
+                fault(EdiCode::BadUna, 0)
+            };
+            assert_eq!(rt; judged(&text, Kind::Baplie), expected, "{byte} at {place}");
+        }
+    }
+}
+
 #[test]
 fn printed(rt: HostRuntime) -> Result<(), Fail> {
-    let codes = [
-        (EdiCode::Truncated, "E1"),
-        (EdiCode::BadUna, "E2"),
-        (EdiCode::NoUnb, "E3"),
-        (EdiCode::Groups, "E4"),
-        (EdiCode::NoUnh, "E5"),
-        (EdiCode::WrongType, "E6"),
-        (EdiCode::SegmentCount, "E7"),
-        (EdiCode::MessageRef, "E8"),
-        (EdiCode::SeveralMessages, "E9"),
-        (EdiCode::InterchangeCount, "E10"),
-        (EdiCode::InterchangeRef, "E11"),
-        (EdiCode::Trailing, "E12"),
-        (EdiCode::EmptySegment, "E13"),
-        (EdiCode::TooManyElements, "E14"),
-    ];
-    for (code, text) in codes {
-        assert_eq!(rt; code.to_string(rt.alloc())?.as_str(), text);
+    for (code, text) in &CODES {
+        assert_eq!(rt; code.to_string(rt.alloc())?.as_str(), *text);
     }
     let fault = EdiFault {
         code: EdiCode::SegmentCount,
