@@ -1,5 +1,6 @@
 pub mod Keys
 pub mod Outcome
+pub mod Printed
 pub mod Record
 pub mod Ship
 pub mod TableFaults

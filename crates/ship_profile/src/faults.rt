@@ -1,10 +1,11 @@
-ghost use Rattle.std.specs.Prelude.{◌≡◌};
+ghost use Rattle.std.specs.Prelude.{◌≡◌, Some};
 ghost use Rattle.ship_profile.specs.Keys.{name_of};
+ghost use Rattle.ship_profile.specs.Printed.{file_text, profile_fault_text};
 ghost use Rattle.ship_profile.specs.TableFaults.{as_file, as_profile_fault};
 
 use ship_tables::TableFault;
+use std::error::Error;
 use std::fmt;
-use thiserror::Error;
 
 /// A file of the profile. It prints as its name.
 #[derive(Clone, Copy, Debug, PartialEq, Eq)]
@@ -26,16 +27,18 @@ pub enum File {
 }
 
 impl fmt::Display for File {
+    ghost output = { λ f. Some (file_text f) };
+
     fn fmt<W: fmt::Write>(&self, f: &mut fmt::Formatter<W>) -> fmt::Result {
-        f.write_str(match self {
-            File::Ship => "ship.toml",
-            File::Cells => "cells.csv",
-            File::Hydro => "hydro.csv",
-            File::Levers => "kn.csv",
-            File::Bonjean => "bonjean.csv",
-            File::Tanks => "tanks.csv",
-            File::LeastGm => "gm.csv",
-        })
+        match self {
+            File::Ship => f.write_str("ship.toml"),
+            File::Cells => f.write_str("cells.csv"),
+            File::Hydro => f.write_str("hydro.csv"),
+            File::Levers => f.write_str("kn.csv"),
+            File::Bonjean => f.write_str("bonjean.csv"),
+            File::Tanks => f.write_str("tanks.csv"),
+            File::LeastGm => f.write_str("gm.csv"),
+        }
     }
 }
 
@@ -85,6 +88,8 @@ impl Key {
 }
 
 impl fmt::Display for Key {
+    ghost output = { λ k. Some (name_of k) };
+
     fn fmt<W: fmt::Write>(&self, f: &mut fmt::Formatter<W>) -> fmt::Result {
         f.write_str(self.name())
     }
@@ -93,51 +98,62 @@ impl fmt::Display for Key {
 /// Why the files of a profile are refused. It prints as its code and its place: the key, or the file and the number of the
 /// CSV record, the heading being 1. For `ship.toml` that number is 0, or the number of the block where it stands
 /// outside of the stations. Blocks, frames and fills are counted from 1.
-#[derive(Clone, Copy, Debug, PartialEq, Eq, Error)]
+#[derive(Clone, Copy, Debug, PartialEq, Eq)]
 pub enum ProfileFault {
-    /// The text of `ship.toml` is no TOML document.
-    #[error("P1")]
+    /// P1: the text of `ship.toml` is no TOML document.
     BadToml,
-    /// A key isn't there, also in a table of this key's array.
-    #[error("P2 {0}")]
+    /// P2: a key isn't there, also in a table of this key's array.
     MissingKey(Key),
-    /// A key has a value of another type, also in a table of this key's array; or, for the fills, a tank is filled twice.
-    #[error("P3 {0}")]
+    /// P3: a key has a value of another type, also in a table of this key's array; or, for the fills, a tank is filled twice.
     BadKey(Key),
-    /// A record has another number of fields than its table.
-    #[error("P4 {0} {1}")]
+    /// P4: a record has another number of fields than its table.
     BadCsv(File, u32),
-    /// A field is no number, or no cell where a cell is asked.
-    #[error("P5 {0} {1}")]
+    /// P5: a field is no number, or no cell where a cell is asked.
     BadNumber(File, u32),
-    /// A number is out of its limits, an element or a row is one too many, or a row stands too far from the one before it.
-    #[error("P6 {0} {1}")]
+    /// P6: a number is out of its limits, an element or a row is one too many, or a row stands too far from the one before it.
     OutOfLimits(File, u32),
-    /// A number isn't above that of the row or the element before it, or the rows of a tank don't stand together.
-    #[error("P7 {0} {1}")]
+    /// P7: a number isn't above that of the row or the element before it, or the rows of a tank don't stand together.
     NotRising(File, u32),
-    /// A row's cell is that of an earlier row of `cells.csv`.
-    #[error("P8 {0}")]
+    /// P8: a row's cell is that of an earlier row of `cells.csv`.
     DoubleCell(u32),
-    /// A frame stands at no station.
-    #[error("P9 {0}")]
+    /// P9: a frame stands at no station.
     FrameNotStation(u32),
-    /// A block, a container's place or a tank's row reaches beyond the first or the last station.
-    #[error("P10 {0} {1}")]
+    /// P10: a block, a container's place or a tank's row reaches beyond the first or the last station.
     OutsideStations(File, u32),
-    /// The angle of down-flooding, in degrees, is below 40.
-    #[error("P11 {0}")]
+    /// P11: the angle of down-flooding, in degrees, is below 40.
     Downflooding(u32),
-    /// A fill names a tank that isn't there.
-    #[error("P12 {0}")]
+    /// P12: a fill names a tank that isn't there.
     UnknownTank(u32),
-    /// A file has too few rows, or too few elements in an array.
-    #[error("P13 {0}")]
+    /// P13: a file has too few rows, or too few elements in an array.
     TooFewRows(File),
-    /// The memory that reading asks for was refused.
-    #[error("P14")]
+    /// P14: the memory that reading asks for was refused.
     NoMemory,
 }
+
+impl fmt::Display for ProfileFault {
+    ghost output = { λ e. Some (profile_fault_text e) };
+
+    fn fmt<W: fmt::Write>(&self, f: &mut fmt::Formatter<W>) -> fmt::Result {
+        match *self {
+            ProfileFault::BadToml => f.write_str("P1"),
+            ProfileFault::MissingKey(key) => write!(f, "P2 {key}"),
+            ProfileFault::BadKey(key) => write!(f, "P3 {key}"),
+            ProfileFault::BadCsv(file, line) => write!(f, "P4 {file} {line}"),
+            ProfileFault::BadNumber(file, line) => write!(f, "P5 {file} {line}"),
+            ProfileFault::OutOfLimits(file, line) => write!(f, "P6 {file} {line}"),
+            ProfileFault::NotRising(file, line) => write!(f, "P7 {file} {line}"),
+            ProfileFault::DoubleCell(line) => write!(f, "P8 {line}"),
+            ProfileFault::FrameNotStation(frame) => write!(f, "P9 {frame}"),
+            ProfileFault::OutsideStations(file, line) => write!(f, "P10 {file} {line}"),
+            ProfileFault::Downflooding(angle) => write!(f, "P11 {angle}"),
+            ProfileFault::UnknownTank(fill) => write!(f, "P12 {fill}"),
+            ProfileFault::TooFewRows(file) => write!(f, "P13 {file}"),
+            ProfileFault::NoMemory => f.write_str("P14"),
+        }
+    }
+}
+
+impl Error for ProfileFault {}
 
 impl From<ship_tables::File> for File {
     ghost from_gives = { λ f g. g ≡ as_file f };

@@ -66,7 +66,7 @@ pub fn numbers(alloc: Global, rows: &[Row], column: usize) -> Result<Vec<i128>, 
     Ok(numbers)
 }
 
-/// The curves of rows of an argument and so many values.
+/// The curves of rows of one argument and `curves` values.
 fn gather(alloc: Global, rows: &[Row], curves: usize) -> Result<Curves, TableFault>
     ensures ok { IfOk result (λ c. c ≡ curve_table curves rows.now) }
     ensures memory { IfErr result (λ e. e ≡ TableFault.NoMemory) }
@@ -82,7 +82,7 @@ fn gather(alloc: Global, rows: &[Row], curves: usize) -> Result<Curves, TableFau
     Ok(Curves { arguments, columns })
 }
 
-/// The curves that the text of a file of one argument and so many values writes.
+/// The curves that the text of a file of one argument and `curves` values writes.
 pub fn read_curves(
     alloc: Global,
     layout: &Layout<'_>,

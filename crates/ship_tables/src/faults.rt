@@ -1,5 +1,8 @@
+ghost use Rattle.std.specs.Prelude.{Some};
+ghost use Rattle.ship_tables.specs.Printed.{file_text, table_fault_text};
+
+use std::error::Error;
 use std::fmt;
-use thiserror::Error;
 
 /// A file of tables. It prints as its name.
 #[derive(Clone, Copy, Debug, PartialEq, Eq)]
@@ -19,45 +22,58 @@ pub enum File {
 }
 
 impl fmt::Display for File {
+    ghost output = { λ f. Some (file_text f) };
+
     fn fmt<W: fmt::Write>(&self, f: &mut fmt::Formatter<W>) -> fmt::Result {
-        f.write_str(match self {
-            File::Cells => "cells.csv",
-            File::Hydro => "hydro.csv",
-            File::Levers => "kn.csv",
-            File::Bonjean => "bonjean.csv",
-            File::Tanks => "tanks.csv",
-            File::LeastGm => "gm.csv",
-        })
+        match self {
+            File::Cells => f.write_str("cells.csv"),
+            File::Hydro => f.write_str("hydro.csv"),
+            File::Levers => f.write_str("kn.csv"),
+            File::Bonjean => f.write_str("bonjean.csv"),
+            File::Tanks => f.write_str("tanks.csv"),
+            File::LeastGm => f.write_str("gm.csv"),
+        }
     }
 }
 
 /// Why the tables of a profile are refused. It prints as its code and its place: the file and the number of the CSV
 /// record, the heading being 1.
-#[derive(Clone, Copy, Debug, PartialEq, Eq, Error)]
+#[derive(Clone, Copy, Debug, PartialEq, Eq)]
 pub enum TableFault {
-    /// A record has another number of fields than its table.
-    #[error("P4 {0} {1}")]
+    /// P4: a record has another number of fields than its table.
     BadCsv(File, u32),
-    /// A field is no number, or no cell where a cell is asked.
-    #[error("P5 {0} {1}")]
+    /// P5: a field is no number, or no cell where a cell is asked.
     BadNumber(File, u32),
-    /// A number is out of its limits, a name too short or too long, a row one too many, or it stands too far from the row
-    /// before it.
-    #[error("P6 {0} {1}")]
+    /// P6: a number is out of its limits, a name too short or too long, a row one too many, or it stands too far from the
+    /// row before it.
     OutOfLimits(File, u32),
-    /// A row doesn't rise above the row before it, or it comes back to a tank whose rows have ended.
-    #[error("P7 {0} {1}")]
+    /// P7: a row doesn't rise above the row before it, or it comes back to a tank whose rows have ended.
     NotRising(File, u32),
-    /// A row's cell is that of an earlier row of `cells.csv`.
-    #[error("P8 {0}")]
+    /// P8: a row's cell is that of an earlier row of `cells.csv`.
     DoubleCell(u32),
-    /// A row's body reaches beyond the ship's first or last station.
-    #[error("P10 {0} {1}")]
+    /// P10: a row's body reaches beyond the ship's first or last station.
     OutsideStations(File, u32),
-    /// A file has too few rows, or a tank of it.
-    #[error("P13 {0}")]
+    /// P13: a file has too few rows, or a tank of it.
     TooFewRows(File),
-    /// The memory that reading asks for was refused.
-    #[error("P14")]
+    /// P14: the memory that reading asks for was refused.
     NoMemory,
 }
+
+impl fmt::Display for TableFault {
+    ghost output = { λ e. Some (table_fault_text e) };
+
+    fn fmt<W: fmt::Write>(&self, f: &mut fmt::Formatter<W>) -> fmt::Result {
+        match *self {
+            TableFault::BadCsv(file, line) => write!(f, "P4 {file} {line}"),
+            TableFault::BadNumber(file, line) => write!(f, "P5 {file} {line}"),
+            TableFault::OutOfLimits(file, line) => write!(f, "P6 {file} {line}"),
+            TableFault::NotRising(file, line) => write!(f, "P7 {file} {line}"),
+            TableFault::DoubleCell(line) => write!(f, "P8 {line}"),
+            TableFault::OutsideStations(file, line) => write!(f, "P10 {file} {line}"),
+            TableFault::TooFewRows(file) => write!(f, "P13 {file}"),
+            TableFault::NoMemory => f.write_str("P14"),
+        }
+    }
+}
+
+impl Error for TableFault {}

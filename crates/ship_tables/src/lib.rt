@@ -6,6 +6,8 @@
 
 mod curves;
 mod extents;
+#[cfg(test)]
+mod fault_tests;
 mod faults;
 mod forms;
 mod hydrostatics;

@@ -137,7 +137,7 @@ fn check_number(
     want: &str,
 ) -> Result<(), Fail> {
     let text = format!(in rt.alloc(); "{before}{value}{after}")?;
-    check_text(rt, &widest()?, file, text.as_str(), want)
+    check_text(rt, &widest(), file, text.as_str(), want)
 }
 
 /// Reads a column at both ends of its range, and one past each: what stands before its field and behind it, and the ends.
@@ -149,10 +149,15 @@ fn check_ranges(
     ranges: &[(&str, &str, i64, i64)],
 ) -> Result<(), Fail> {
     for (before, after, low, high) in ranges {
-        check_number(rt, file, before, after, *low, within)?;
-        check_number(rt, file, before, after, *high, within)?;
-        check_number(rt, file, before, after, low.saturating_sub(1), beyond)?;
-        check_number(rt, file, before, after, high.saturating_add(1), beyond)?;
+        let (below, above) = (low.saturating_sub(1), high.saturating_add(1));
+        for (value, want) in [
+            (*low, within),
+            (*high, within),
+            (below, beyond),
+            (above, beyond),
+        ] {
+            check_number(rt, file, before, after, value, want)?;
+        }
     }
     Ok(())
 }
@@ -344,169 +349,164 @@ fn number_ranges_of_kn_csv(rt: HostRuntime) -> Result<(), Fail> {
     )
 }
 
-/// A heading, so many rows that begin with their number, and a last row.
-fn rows(alloc: Global, heading: &str, count: u32, tail: &str, last: &str) -> Result<String, Fail> {
-    let mut text = String::from_str(alloc, heading)?;
-    for number in 0..count {
-        write!(text, "{:07}{tail}\n", number + 1)?;
+/// Writes so many rows, numbered from 1 in seven digits, with what stands before the number and behind it.
+fn write_rows(text: &mut String, before: &str, count: u32, after: &str) -> Result<(), Fail> {
+    for row in 0..count {
+        let number = row + 1;
+        write!(text, "{before}{number:07}{after}\n")?;
     }
-    text.push_str(last)?;
-    Ok(text)
+    Ok(())
 }
 
-/// The words of the fault of a file of so many rows and a last one.
-fn rows_refusal(
-    alloc: Global,
+/// Reads a long text and compares the words of its fault; a failure names its last row.
+fn check_long_text(
+    rt: &(impl Abort + AllocGlobal),
     file: File,
-    heading: &str,
-    count: u32,
-    tail: &str,
+    text: &str,
     last: &str,
-) -> Result<String, Fail> {
-    let text = rows(alloc, heading, count, tail, last)?;
-    refusal(alloc, &extent()?, file, text.as_str())
+    want: &str,
+) -> Result<(), Fail> {
+    let refused = refusal(rt.alloc(), &extent(), file, text)?;
+    check_words(rt, refused.as_str(), want, last);
+    Ok(())
 }
 
-/// Reads a file of so many rows and a last one, and compares the words of its fault.
+/// Reads a heading, so many rows that begin with their number, and a last row, and compares the words of their fault.
 fn check_rows(
     rt: &(impl Abort + AllocGlobal),
     file: File,
     heading: &str,
     count: u32,
-    tail: &str,
+    after: &str,
     last: &str,
     want: &str,
 ) -> Result<(), Fail> {
-    let refused = rows_refusal(rt.alloc(), file, heading, count, tail, last)?;
-    check_words(rt, refused.as_str(), want, last);
-    Ok(())
+    let mut text = String::from_str(rt.alloc(), heading)?;
+    write_rows(&mut text, "", count, after)?;
+    text.push_str(last)?;
+    check_long_text(rt, file, text.as_str(), last, want)
 }
 
-static MOST_ROWS: [(File, u32, &str, &str, &str); 5] = [
+/// The file, its heading, the greatest number of rows, what stands in a row behind its number, a last row, and the words of its fault. A row
+/// too many is found after its own fields, and before the rule and the stations.
+static MOST_ROWS: [(File, &str, u32, &str, &str, &str); 16] = [
+    (File::Cells, "h,h,h,h,h\n", 30_000, ",4,2,3,4", "", ""),
     (
         File::Cells,
-        30_000,
         "h,h,h,h,h\n",
-        ",4,2,3,4",
-        "P6 cells.csv 30002",
-    ),
-    (
-        File::Hydro,
-        200,
-        "h,h,h,h,h,h\n",
-        ",2,3,4,5,6",
-        "P6 hydro.csv 202",
-    ),
-    (
-        File::Levers,
-        64,
-        "h,h,h,h,h,h,h,h,h,h,h,h,h,h\n",
-        ",1,2,3,4,5,6,7,8,9,10,11,12,13",
-        "P6 kn.csv 66",
-    ),
-    (
-        File::Bonjean,
-        64,
-        "h,h,h,h,h,h\n",
-        ",1,2,3,4,5",
-        "P6 bonjean.csv 66",
-    ),
-    (File::LeastGm, 200, "h,h\n", ",1", "P6 gm.csv 202"),
-];
-
-#[test]
-fn greatest_number_of_rows(rt: HostRuntime) -> Result<(), Fail> {
-    for (file, most, heading, tail, beyond) in &MOST_ROWS {
-        check_rows(&rt, *file, heading, *most, tail, "", "")?;
-        check_rows(
-            &rt,
-            *file,
-            heading,
-            most.saturating_add(1),
-            tail,
-            "",
-            beyond,
-        )?;
-    }
-    Ok(())
-}
-
-/// A row too many is found after its own fields, and before the rule and the stations.
-static LAST_ROWS: [(File, u32, &str, &str, &str, &str); 6] = [
-    (
-        File::Hydro,
-        200,
-        "h,h,h,h,h,h\n",
-        ",2,3,4,5,6",
-        "1,2,3,4,5",
-        "P4 hydro.csv 202",
-    ),
-    (
-        File::Hydro,
-        200,
-        "h,h,h,h,h,h\n",
-        ",2,3,4,5,6",
-        "x,2,3,4,5,6",
-        "P5 hydro.csv 202",
-    ),
-    (
-        File::Hydro,
-        200,
-        "h,h,h,h,h,h\n",
-        ",2,3,4,5,6",
-        "1,2,3,4,5,6",
-        "P6 hydro.csv 202",
-    ),
-    (
-        File::Cells,
         30_000,
-        "h,h,h,h,h\n",
         ",4,2,3,4",
         "0000001,4,2,3,x",
         "P5 cells.csv 30002",
     ),
     (
         File::Cells,
-        30_000,
         "h,h,h,h,h\n",
+        30_000,
         ",4,2,3,4",
         "0000001,4,2,3,4",
         "P6 cells.csv 30002",
     ),
     (
         File::Cells,
-        30_000,
         "h,h,h,h,h\n",
+        30_000,
         ",4,2,3,4",
         "9000001,0,2,3,4",
         "P6 cells.csv 30002",
     ),
+    (File::Hydro, "h,h,h,h,h,h\n", 200, ",2,3,4,5,6", "", ""),
+    (
+        File::Hydro,
+        "h,h,h,h,h,h\n",
+        200,
+        ",2,3,4,5,6",
+        "201,2,3,4,5,6",
+        "P6 hydro.csv 202",
+    ),
+    (
+        File::Hydro,
+        "h,h,h,h,h,h\n",
+        200,
+        ",2,3,4,5,6",
+        "1,2,3,4,5",
+        "P4 hydro.csv 202",
+    ),
+    (
+        File::Hydro,
+        "h,h,h,h,h,h\n",
+        200,
+        ",2,3,4,5,6",
+        "x,2,3,4,5,6",
+        "P5 hydro.csv 202",
+    ),
+    (
+        File::Hydro,
+        "h,h,h,h,h,h\n",
+        200,
+        ",2,3,4,5,6",
+        "1,2,3,4,5,6",
+        "P6 hydro.csv 202",
+    ),
+    (
+        File::Levers,
+        "h,h,h,h,h,h,h,h,h,h,h,h,h,h\n",
+        64,
+        ",1,2,3,4,5,6,7,8,9,10,11,12,13",
+        "",
+        "",
+    ),
+    (
+        File::Levers,
+        "h,h,h,h,h,h,h,h,h,h,h,h,h,h\n",
+        64,
+        ",1,2,3,4,5,6,7,8,9,10,11,12,13",
+        "65,1,2,3,4,5,6,7,8,9,10,11,12,13",
+        "P6 kn.csv 66",
+    ),
+    (File::Bonjean, "h,h,h,h,h,h\n", 64, ",1,2,3,4,5", "", ""),
+    (
+        File::Bonjean,
+        "h,h,h,h,h,h\n",
+        64,
+        ",1,2,3,4,5",
+        "65,1,2,3,4,5",
+        "P6 bonjean.csv 66",
+    ),
+    (File::LeastGm, "h,h\n", 200, ",1", "", ""),
+    (File::LeastGm, "h,h\n", 200, ",1", "201,1", "P6 gm.csv 202"),
+    (File::LeastGm, "h,h\n", 200, ",1", "1,1", "P6 gm.csv 202"),
 ];
 
 #[test]
-fn row_too_many(rt: HostRuntime) -> Result<(), Fail> {
-    for (file, most, heading, tail, last, want) in &LAST_ROWS {
-        check_rows(&rt, *file, heading, *most, tail, last, want)?;
+fn greatest_number_of_rows(rt: HostRuntime) -> Result<(), Fail> {
+    for (file, heading, most, after, last, want) in &MOST_ROWS {
+        check_rows(&rt, *file, heading, *most, after, last, want)?;
     }
     Ok(())
 }
 
-/// A heading, so many tanks of so many rows, and a last row.
-fn tank_rows(alloc: Global, tanks: u32, count: u32, last: &str) -> Result<String, Fail> {
-    let mut text = String::from_str(alloc, "h,h,h,h,h,h,h\n")?;
+/// Writes so many tanks of so many rows.
+fn write_tanks(alloc: Global, text: &mut String, tanks: u32, count: u32) -> Result<(), Fail> {
     for tank in 0..tanks {
-        for row in 0..count {
-            write!(text, "T{tank},{row},5,0,0,5,0\n")?;
-        }
+        let before = format!(in alloc; "T{tank},")?;
+        write_rows(text, before.as_str(), count, ",5,0,0,5,0")?;
     }
-    text.push_str(last)?;
-    Ok(text)
+    Ok(())
 }
 
-/// The words of the fault of so many tanks of so many rows, and a last row.
-fn tanks_refusal(alloc: Global, tanks: u32, count: u32, last: &str) -> Result<String, Fail> {
-    let text = tank_rows(alloc, tanks, count, last)?;
-    refusal(alloc, &extent()?, File::Tanks, text.as_str())
+/// Reads so many tanks of so many rows, and a last row, and compares the words of their fault.
+fn check_tanks(
+    rt: &(impl Abort + AllocGlobal),
+    tanks: u32,
+    count: u32,
+    last: &str,
+    want: &str,
+) -> Result<(), Fail> {
+    let mut text = String::from_str(rt.alloc(), "h,h,h,h,h,h,h\n")?;
+    write_tanks(rt.alloc(), &mut text, tanks, count)?;
+    text.push_str(last)?;
+    check_long_text(rt, File::Tanks, text.as_str(), last, want)
 }
 
 static TANK_LIMITS: [(u32, u32, &str, &str); 16] = [
@@ -517,11 +517,11 @@ static TANK_LIMITS: [(u32, u32, &str, &str); 16] = [
     (2, 65, "", "P6 tanks.csv 66"),
     (1, 64, "T0,1,5,0,0,5,x", "P5 tanks.csv 66"),
     (1, 64, "T0,1,5,0,0,5,0", "P6 tanks.csv 66"),
-    (1, 64, "T0,64,0,0,0,5,0", "P6 tanks.csv 66"),
+    (1, 64, "T0,65,0,0,0,5,0", "P6 tanks.csv 66"),
     // a name that comes back with 64 rows, and with fewer
-    (2, 64, "T0,64,5,0,0,5,0", "P6 tanks.csv 130"),
-    (2, 63, "T0,64,5,0,0,5,0", "P7 tanks.csv 128"),
-    (2, 63, "T0,64,0,0,0,5,0", "P7 tanks.csv 128"),
+    (2, 64, "T0,65,5,0,0,5,0", "P6 tanks.csv 130"),
+    (2, 63, "T0,65,5,0,0,5,0", "P7 tanks.csv 128"),
+    (2, 63, "T0,65,0,0,0,5,0", "P7 tanks.csv 128"),
     // with 200 tanks a new name, one that comes back, and the last one's
     (200, 2, "T200,0,5,0,0,5,0", "P6 tanks.csv 402"),
     (200, 2, "T200,0,0,0,0,5,0", "P6 tanks.csv 402"),
@@ -534,8 +534,7 @@ static TANK_LIMITS: [(u32, u32, &str, &str); 16] = [
 #[test]
 fn greatest_numbers_of_tanks(rt: HostRuntime) -> Result<(), Fail> {
     for (tanks, count, last, want) in &TANK_LIMITS {
-        let refused = tanks_refusal(rt.alloc(), *tanks, *count, last)?;
-        assert_eq!(rt; refused.as_str(), *want, "{tanks} {count} {last}");
+        check_tanks(&rt, *tanks, *count, last, want)?;
     }
     Ok(())
 }

@@ -2,8 +2,8 @@ ghost use Rattle.std.specs.Prelude.{◌≡◌, ◌≤◌, length, MatchOption};
 ghost use Rattle.units_core.specs.Interpolation.{interval, Encloses, IsOutside, IsRising};
 
 /// The number of the table's interval in which `x` lies, by the column of its arguments, which rise; `None` outside
-/// of the table. An argument that ends one interval and begins the next belongs to the one below it. It looks at as
-/// many arguments as their number has binary digits, and at two more.
+/// of the table. An argument that ends one interval and begins the next belongs to the one below it. Found by binary
+/// search.
 pub fn enclosing(arguments: &[i128], x: i128) -> Option<usize>
     requires rows { 2 ≤ length arguments.now }
     requires rises { IsRising arguments.now }

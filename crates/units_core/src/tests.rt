@@ -3,28 +3,36 @@ use crate::{
     interp_floor, span,
 };
 
+/// Masses in kg, and whether each is one of a container.
+static MASSES: [(u32, bool); 3] = [(0, true), (999_999, true), (1_000_000, false)];
+
 #[test]
-fn masses_and_lengths_within_their_limits(rt: HostRuntime) {
-    for (kg, is_mass) in [(0, true), (999_999, true), (1_000_000, false)] {
-        assert_eq!(rt;
-            Kg::new(kg).map(|mass| mass.get()),
-            is_mass.then_some(kg),
-            "{kg} kg"
-        );
+fn masses_within_their_limits(rt: HostRuntime) {
+    for (kg, is_mass) in &MASSES {
+        match Kg::new(*kg) {
+            Some(mass) => assert_eq!(rt; (mass.get(), true), (*kg, *is_mass)),
+            None => assert!(rt; !*is_mass, "{kg} kg"),
+        }
     }
-    for (mm, is_length) in [
-        (-1_000_001, false),
-        (-1_000_000, true),
-        (0, true),
-        (1_000_000, true),
-        (1_000_001, false),
-        (i32::MIN, false),
-    ] {
-        assert_eq!(rt;
-            Mm::new(mm).map(|length| length.get()),
-            is_length.then_some(mm),
-            "{mm} mm"
-        );
+}
+
+/// Lengths in mm, and whether each is within a kilometre.
+static LENGTHS: [(i32, bool); 6] = [
+    (-1_000_001, false),
+    (-1_000_000, true),
+    (0, true),
+    (1_000_000, true),
+    (1_000_001, false),
+    (i32::MIN, false),
+];
+
+#[test]
+fn lengths_within_their_limits(rt: HostRuntime) {
+    for (mm, is_length) in &LENGTHS {
+        match Mm::new(*mm) {
+            Some(length) => assert_eq!(rt; (length.get(), true), (*mm, *is_length)),
+            None => assert!(rt; !*is_length, "{mm} mm"),
+        }
     }
     for mm in [-1_000_000, 0, 1_000_000] {
         assert_eq!(rt; i64::from(Mm::of(mm).get()), mm);
@@ -71,27 +79,47 @@ fn cells_of_six_and_seven_digits(rt: HostRuntime) {
     };
     assert_eq!(rt; Cell::read(b"0030782"), Some(cell));
     assert_eq!(rt; Cell::read(b"030782"), Some(cell));
-    let greatest = Cell {
-        bay: 999,
-        row: 99,
-        tier: 99,
+    // each digit in its place
+    let unlike = Cell {
+        bay: 123,
+        row: 45,
+        tier: 67,
     };
-    assert_eq!(rt; Cell::read(b"9999999"), Some(greatest));
-    let others: [&[u8]; 7] = [
-        b"",
-        b"30782",
-        b"00030782",
-        b"03A082",
-        b" 030782",
-        b"-030782",
-        b"003078\xb2",
-    ];
-    for text in others {
+    assert_eq!(rt; Cell::read(b"1234567"), Some(unlike));
+}
+
+/// Texts of five and eight digits, and one with another byte in each place: those next to the digits are `/` and `:`.
+static NO_CELLS: [&[u8]; 20] = [
+    b"",
+    b"30782",
+    b"00030782",
+    b" 030782",
+    b"030782 ",
+    b"-030782",
+    b"/030782",
+    b":030782",
+    b"A030782",
+    b"0A30782",
+    b"00A0782",
+    b"003A782",
+    b"0030A82",
+    b"00307A2",
+    b"003078A",
+    b"A30782",
+    b"03078A",
+    b"003078/",
+    b"003078:",
+    b"003078\xb2",
+];
+
+#[test]
+fn other_texts_name_no_cell(rt: HostRuntime) {
+    for text in &NO_CELLS {
         assert_eq!(rt; Cell::read(text), None);
     }
 }
 
-// GM of the box ship, its mass, and the row above its displacement
+// of both signs, whole and not
 #[test]
 fn figures_are_rounded_down(rt: HostRuntime) {
     for (num, den, down) in [
@@ -126,6 +154,9 @@ fn rows_are_joined_by_a_line(rt: HostRuntime) {
         13_111
     );
     assert_eq!(rt; interp_floor(1, 0, 0, 3, -1), -1);
+    // a quarter from (0, 10) to (4, 30) is 15, three quarters are 25
+    assert_eq!(rt; interp_floor(1, 0, 10, 4, 30), 15);
+    assert_eq!(rt; interp_floor(3, 0, 10, 4, 30), 25);
 }
 
 #[test]
@@ -143,43 +174,56 @@ fn arguments_lie_between_two_rows(rt: HostRuntime) {
     }
 }
 
-fn cell(bay: u16, row: u8) -> Cell {
-    Cell { bay, row, tier: 82 }
+/// A bay, and the first and the last 20-foot bay that it stands over.
+static SPANS: [(u16, u16, u16); 5] = [
+    (0, 0, 1),
+    (1, 1, 1),
+    (2, 1, 3),
+    (3, 3, 3),
+    (65_534, 65_533, 65_535),
+];
+
+#[test]
+fn spans_of_bays(rt: HostRuntime) {
+    for (bay, first, last) in &SPANS {
+        let (bay, row, tier) = (*bay, 0, 82);
+        assert_eq!(rt; span(Cell { bay, row, tier }), (*first, *last));
+    }
 }
 
-// A 40-foot bay stands over its two odd neighbours, and two of them may share one.
+/// The bay of a cell in row 0 and tier 82, then bay, row and tier of another, and whether the two want the same room. A 40-foot bay
+/// stands over its two odd neighbours, and two of them may share one.
+static ROOMS: [(u16, u16, u8, u8, bool); 14] = [
+    (1, 2, 0, 82, true),
+    (2, 1, 0, 82, true),
+    (2, 3, 0, 82, true),
+    (3, 2, 0, 82, true),
+    (2, 4, 0, 82, true),
+    (4, 2, 0, 82, true),
+    (5, 5, 0, 82, true),
+    (0, 2, 0, 82, true),
+    (2, 6, 0, 82, false),
+    (6, 2, 0, 82, false),
+    (1, 3, 0, 82, false),
+    (0, 3, 0, 82, false),
+    // another row, another tier
+    (5, 5, 2, 82, false),
+    (5, 5, 0, 84, false),
+];
+
 #[test]
 fn overlapping_spans(rt: HostRuntime) {
-    for (bay, first, last) in [
-        (0, 0, 1),
-        (1, 1, 1),
-        (2, 1, 3),
-        (3, 3, 3),
-        (65_534, 65_533, 65_535),
-    ] {
-        assert_eq!(rt; span(cell(bay, 0)).0, first, "bay {bay}");
-        assert_eq!(rt; span(cell(bay, 0)).1, last, "bay {bay}");
-    }
-    for (a, b, overlap) in [
-        (1, 2, true),
-        (2, 3, true),
-        (2, 4, true),
-        (2, 6, false),
-        (1, 3, false),
-        (0, 2, true),
-        (0, 3, false),
-        (5, 5, true),
-    ] {
-        assert_eq!(rt;
-            conflicts(cell(a, 0), cell(b, 0)),
-            overlap,
-            "bays {a} and {b}"
-        );
-        assert_eq!(rt;
-            conflicts(cell(b, 0), cell(a, 0)),
-            overlap,
-            "bays {b} and {a}"
-        );
-        assert!(rt; !conflicts(cell(a, 0), cell(b, 2)));
+    for (first, bay, row, tier, want) in &ROOMS {
+        let one = Cell {
+            bay: *first,
+            row: 0,
+            tier: 82,
+        };
+        let other = Cell {
+            bay: *bay,
+            row: *row,
+            tier: *tier,
+        };
+        assert_eq!(rt; conflicts(one, other), *want, "{first} {bay} {row} {tier}");
     }
 }

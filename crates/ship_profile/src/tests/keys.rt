@@ -58,6 +58,44 @@ fn one_missing_key(rt: HostRuntime) -> Result<(), Fail> {
     Ok(())
 }
 
+/// A `ship.toml` that ends with a key: how many keys it has, the value of the last, what follows, and the words of its fault. Each key is
+/// gone through to its end before the next is looked for.
+static LAST_KEYS: [(usize, &str, &str, &str, &str); 11] = [
+    (1, "lbp_mm", "0", "", "P6 ship.toml 0"),
+    (2, "downflooding_deg", "39", "", "P11 39"),
+    (3, "draught_max_mm", "0", "", "P6 ship.toml 0"),
+    (4, "trim_max_mm", "-1", "", "P6 ship.toml 0"),
+    (5, "list_max", "-1", "", "P6 ship.toml 0"),
+    (6, "closing_max_kg", "-1", "", "P6 ship.toml 0"),
+    (7, "stations_mm", "[0]", "", "P13 ship.toml"),
+    (7, "stations_mm", "[0, 0]", "", "P7 ship.toml 0"),
+    (8, "blocks", "[]", "", "P13 ship.toml"),
+    (9, "frames", "[]", "fills = 5", "P13 ship.toml"),
+    (9, "", "", "fills = 5", "P3 fills"),
+];
+
+/// Reads a `ship.toml` of so many keys, one of them with this value, and what follows them.
+fn check_last_key(
+    rt: &(impl Abort + AllocGlobal),
+    count: usize,
+    key: &str,
+    value: &str,
+    tail: &str,
+    want: &str,
+) -> Result<(), Fail> {
+    let mut ship = first_keys(rt.alloc(), count, key, value)?;
+    ship.push_str(tail)?;
+    check_ship(rt, ship.as_str(), want, key)
+}
+
+#[test]
+fn each_key_before_the_next(rt: HostRuntime) -> Result<(), Fail> {
+    for (count, key, value, tail, want) in &LAST_KEYS {
+        check_last_key(&rt, *count, key, value, tail, want)?;
+    }
+    Ok(())
+}
+
 /// Values that are neither an integer nor an array.
 static OTHERS: [&str; 5] = ["1.0", "\"1\"", "true", "1979-05-27", "{kg = 1}"];
 
@@ -166,7 +204,7 @@ fn ways_to_write_an_integer(rt: HostRuntime) -> Result<(), Fail> {
 }
 
 /// Stations: each number, its limits, above the one before; then too few.
-static STATIONS: [(&str, &str); 13] = [
+static STATIONS: [(&str, &str); 15] = [
     ("[]", "P13 ship.toml"),
     ("[0]", "P13 ship.toml"),
     ("[0, 100000]", "P9 1"),
@@ -180,6 +218,8 @@ static STATIONS: [(&str, &str); 13] = [
     ("[5, \"x\", 5]", "P3 stations_mm"),
     ("[5, 4, 1000001]", "P7 ship.toml 0"),
     ("[5, 1000001, 4]", "P6 ship.toml 0"),
+    ("[5, -1000001]", "P6 ship.toml 0"),
+    ("[\"x\"]", "P3 stations_mm"),
 ];
 
 #[test]
@@ -238,7 +278,7 @@ fn blocks(rt: HostRuntime) -> Result<(), Fail> {
 }
 
 /// Frames: each a table, its keys in order, above the one before, at a station; then too few.
-static FRAMES: [(&str, &str); 13] = [
+static FRAMES: [(&str, &str); 15] = [
     ("[]", "P13 ship.toml"),
     ("[0]", "P3 frames"),
     ("[{}]", "P2 frames"),
@@ -246,6 +286,14 @@ static FRAMES: [(&str, &str); 13] = [
     ("[{x_mm = 0, shear_max_kg = []}]", "P3 frames"),
     (
         "[{x_mm = 0, shear_max_kg = -1, hog_max_kgmm = []}]",
+        "P6 ship.toml 0",
+    ),
+    (
+        "[{x_mm = 0, shear_max_kg = 0, hog_max_kgmm = -1, sag_max_kgmm = []}]",
+        "P6 ship.toml 0",
+    ),
+    (
+        "[{x_mm = 1, shear_max_kg = 0, hog_max_kgmm = 0, sag_max_kgmm = -1}]",
         "P6 ship.toml 0",
     ),
     (
@@ -447,40 +495,49 @@ fn frame_at_a_negative_station(rt: HostRuntime) -> Result<(), Fail> {
     check_ship(&rt, ship.as_str(), "", AFT)
 }
 
-fn write_block(text: &mut String, kg: u32) -> Result<(), Fail> {
+fn write_block(text: &mut String, x: i32) -> Result<(), Fail> {
     Ok(write!(
         text,
-        "{{kg = {kg}, x_mm = 1, y_mm = 1, z_mm = 1, half_mm = 1}},"
+        "{{kg = 1, x_mm = {x}, y_mm = 1, z_mm = 1, half_mm = 1}},"
     )?)
 }
 
-/// Writes an array of blocks: one of so many kg, and so many others.
-fn write_blocks(text: &mut String, first_kg: u32, others: u32) -> Result<(), Fail> {
+/// Writes an array of blocks: one that stands at x, and so many others.
+fn write_blocks(text: &mut String, first_x: i32, others: u32) -> Result<(), Fail> {
     text.push_str("[")?;
-    write_block(text, first_kg)?;
+    write_block(text, first_x)?;
     for _ in 0..others {
         write_block(text, 1)?;
     }
     Ok(text.push_str("]")?)
 }
 
-/// Reads so many blocks, the first of so many kg.
+/// Reads a block that stands at x, and so many others.
 fn check_blocks(
     rt: &(impl Abort + AllocGlobal),
-    first_kg: u32,
+    first_x: i32,
     others: u32,
     want: &str,
 ) -> Result<(), Fail> {
     let mut blocks = String::new(rt.alloc());
-    write_blocks(&mut blocks, first_kg, others)?;
+    write_blocks(&mut blocks, first_x, others)?;
     check_value(rt, "blocks", blocks.as_str(), want)
 }
 
+/// Where the first block stands, the number of the others, and the words of their fault: one too many is found before the first
+/// block, which reaches aft of the stations.
+static MANY_BLOCKS: [(i32, u32, &str); 3] = [
+    (1, 199, ""),
+    (0, 199, "P10 ship.toml 1"),
+    (0, 200, "P6 ship.toml 0"),
+];
+
 #[test]
 fn greatest_number_of_blocks(rt: HostRuntime) -> Result<(), Fail> {
-    check_blocks(&rt, 1, 199, "")?;
-    // one too many is found before the first, which has no mass
-    check_blocks(&rt, 0, 200, "P6 ship.toml 0")
+    for (first_x, others, want) in &MANY_BLOCKS {
+        check_blocks(&rt, *first_x, *others, want)?;
+    }
+    Ok(())
 }
 
 /// Writes an array of stations: the numbers from one to before another, and the last station of the box ship.
