@@ -26,7 +26,7 @@ pub data Part : Type 0 where
   Handled : Numbered → Part
   Located : Found → Part
 
--- The segment begins a part. Handlings are parts of a movement instruction; in a bay plan they are not looked at.
+-- The segment begins a part. Handlings are parts of a movement instruction; in a bay plan they are ignored.
 abbrev pub begins : Bool → Numbered → Bool
 begins handles s = if has_kind Location s then true else handles && has_kind Handling s
 

@@ -27,7 +27,7 @@ items_from mark items [] = Ok items
 items_from mark items (Handled s ∷ more) = items_from mark items more
 items_from mark items (Located f ∷ more) = added mark items f >>= (λ longer. items_from mark longer more)
 
--- the items of a message, in which handlings are not looked at
+-- the items of a message, in which handlings are ignored
 abbrev pub items_of : Opened → Result (List Item) StowFault
 items_of m = items_from m.mark [] (parts_of false m.segments)
 

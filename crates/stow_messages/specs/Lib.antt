@@ -3,6 +3,7 @@ pub mod Groups
 pub mod Items
 pub mod Kinds
 pub mod Lifts
+pub mod Printed
 pub mod Steps
 pub mod StepsSoFar
 pub mod Views

@@ -1,5 +1,5 @@
 -- The steps file: in which order the lifts of a movement instruction are done, with the changes of tanks and the restows among
--- them. It is a table of comma-separated values: a heading of four fields, whose text isn't looked at, then a record for each
+-- them. It is a table of comma-separated values: a heading of four fields, whose text is ignored, then a record for each
 -- step, `lift,N,,`, `tank,NAME,KG,` or `restow,FROM,TO,ID`. Each lift stands once. The first fault is the file's.
 use Rattle.std.specs.Prelude.{◌≡◌, ℕ, zero, suc, ◌+◌, ℤ, pos, negsuc, List, [], ◌∷◌, ◌++◌, length, Option, Some, None, option_map, Result, Ok, Err, Bool, false, nat_le, nat_lt, ◌==◌, ◌&&◌, if◌then◌else◌, codes}
 use Rattle.std.specs.List.{filter, list_any}
@@ -90,7 +90,7 @@ joined rows row = if repeats rows row then Err LiftTwice else Ok (rows ++ row �
 abbrev pub with_record : ℕ → List StepRow → Fields → Result (List StepRow) StepsCode
 with_record lifts rows fields = if nat_lt (length rows) 200000 then row_of lifts fields >>= joined rows else Err TooMany
 
--- A fault by its place, a record's number or a lift's. Want of memory has no place.
+-- A fault by its place, a record's number or a lift's. Out of memory has no place.
 abbrev pub fault_at : StepsCode → ℕ → StepsFault
 fault_at NoMemory at = record { code = NoMemory; at = 0 }
 fault_at code at = record { code = code; at = at }

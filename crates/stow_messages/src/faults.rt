@@ -2,40 +2,29 @@ ghost use Rattle.std.specs.Prelude.{◌≡◌};
 
 use edifact_text::EdiFault;
 use std::fmt;
-use thiserror::Error;
 
 /// Why a text is no bay plan, or no movement instruction. The display is the code of the cause, M1 to M10.
-#[derive(Clone, Copy, Debug, PartialEq, Eq, Error)]
+#[derive(Clone, Copy, Debug, PartialEq, Eq)]
 pub enum StowCode {
     /// The text isn't the interchange of one such message.
-    #[error("M1 {0}")]
     Envelope(EdiFault),
     /// A location of a cell that isn't six or seven digits.
-    #[error("M2")]
     BadCell,
     /// An identification of over 17 bytes.
-    #[error("M3")]
     IdTooLong,
     /// A weight that is no number, or above 999,999 kg.
-    #[error("M4")]
     BadWeight,
     /// A weight in another unit than KGM.
-    #[error("M5")]
     WrongUnit,
     /// A container without a weight.
-    #[error("M6")]
     NoWeight,
     /// In a movement instruction a location of a cell before any handling.
-    #[error("M7")]
     LiftWithoutHandling,
     /// A handling other than `LOA` and `DIS`.
-    #[error("M8")]
     UnknownHandling,
     /// More items, or more lifts, than the program takes.
-    #[error("M9")]
     TooMany,
-    /// Want of memory.
-    #[error("M10")]
+    /// Out of memory.
     NoMemory,
 }
 
@@ -47,7 +36,7 @@ pub struct StowFault {
     pub segment: u64,
 }
 
-/// Want of memory.
+/// Out of memory.
 pub const NO_MEMORY: StowFault = StowFault {
     code: StowCode::NoMemory,
     segment: 0,
@@ -65,7 +54,36 @@ impl StowFault {
     }
 }
 
+impl fmt::Display for StowCode {
+    ghost use Rattle.std.specs.Prelude.{Some};
+    ghost use Rattle.stow_messages.specs.Printed.{stow_code_text};
+
+    ghost output = { λ code. Some (stow_code_text code) };
+
+    fn fmt<W: fmt::Write>(&self, f: &mut fmt::Formatter<W>) -> fmt::Result {
+        match self {
+            StowCode::Envelope(fault) => write!(f, "M1 {fault}"),
+            StowCode::BadCell => f.write_str("M2"),
+            StowCode::IdTooLong => f.write_str("M3"),
+            StowCode::BadWeight => f.write_str("M4"),
+            StowCode::WrongUnit => f.write_str("M5"),
+            StowCode::NoWeight => f.write_str("M6"),
+            StowCode::LiftWithoutHandling => f.write_str("M7"),
+            StowCode::UnknownHandling => f.write_str("M8"),
+            StowCode::TooMany => f.write_str("M9"),
+            StowCode::NoMemory => f.write_str("M10"),
+        }
+    }
+}
+
+impl std::error::Error for StowCode {}
+
 impl fmt::Display for StowFault {
+    ghost use Rattle.std.specs.Prelude.{Some};
+    ghost use Rattle.stow_messages.specs.Printed.{stow_fault_text};
+
+    ghost output = { λ fault. Some (stow_fault_text fault) };
+
     fn fmt<W: fmt::Write>(&self, f: &mut fmt::Formatter<W>) -> fmt::Result {
         let code = self.code;
         let segment = self.segment;

@@ -45,7 +45,7 @@ pub enum SegmentKind {
     Verified,
     /// A container's gross mass.
     Gross,
-    /// Nothing that is looked at.
+    /// Anything else, which is ignored.
     Other,
 }
 
@@ -142,7 +142,7 @@ fn kg_at(segment: &Segment<'_>, mark: u8) -> Result<Kg, StowFault>
     }
 }
 
-/// Puts one more entry behind the others, if there is one; so many are the most.
+/// Puts one more entry behind the others, if there is one: at most `most` of them.
 pub fn put<X: Drop>(
     entries: &mut Vec<X>,
     most: usize,

@@ -104,8 +104,8 @@ fn lifts_of(alloc: Global, parts: Parts<'_>, mark: u8) -> Result<Vec<Lift>, Stow
 
 /// The lifts of a movement instruction: the message MOVINS of directory D.95B in a text of ISO 9735. A handling,
 /// `HAN+LOA` to load or `HAN+DIS` to discharge, holds for the groups behind it until the next; a group is read as in
-/// a bay plan, but the masses of a discharge are not looked at. The first fault is answered, with the number of its
-/// segment; want of memory has segment 0.
+/// a bay plan, but the values of a discharge's masses are ignored. The first fault is answered, with the number of its
+/// segment; out of memory has segment 0.
 pub fn movins(alloc: Global, bytes: &[u8]) -> Result<Vec<Lift>, StowFault>
     ensures ok { IfOk result (λ lifts. movement_instruction bytes.now ≡ Ok lifts.items) }
     ensures refused { IfErr result (λ e. e.code ≢ StowCode.NoMemory → movement_instruction bytes.now ≡ Err e) }

@@ -2,39 +2,30 @@ ghost use Rattle.std.specs.Prelude.{◌≡◌};
 ghost use Rattle.stow_messages.specs.Steps.{fault_at};
 
 use std::fmt;
-use thiserror::Error;
 
 /// Why a text is no steps file. The display is the code of the cause, G1 to G8.
-#[derive(Clone, Copy, Debug, PartialEq, Eq, Error)]
+#[derive(Clone, Copy, Debug, PartialEq, Eq)]
 pub enum StepsCode {
     /// A record, or the heading, of other than four fields.
-    #[error("G1")]
     BadCsv,
     /// A record that is neither a lift, nor a tank, nor a restow.
-    #[error("G2")]
     BadKind,
     /// A field that isn't what its place asks for.
-    #[error("G3")]
     BadField,
     /// A number that names no lift.
-    #[error("G4")]
     NoLift,
     /// A lift that stands in an earlier record.
-    #[error("G5")]
     LiftTwice,
     /// A lift that stands in no record.
-    #[error("G6")]
     LiftMissing,
     /// More records than the program takes.
-    #[error("G7")]
     TooMany,
-    /// Want of memory.
-    #[error("G8")]
+    /// Out of memory.
     NoMemory,
 }
 
 /// The cause, and where it was found: the number of the record, that of the heading being 1; for a missing lift
-/// the least such lift; for want of memory 0.
+/// the least such lift; for out of memory 0.
 #[derive(Clone, Copy, Debug, PartialEq, Eq)]
 pub struct StepsFault {
     pub code: StepsCode,
@@ -51,7 +42,34 @@ pub fn fault_at(code: StepsCode, at: u32) -> StepsFault
     }
 }
 
+impl fmt::Display for StepsCode {
+    ghost use Rattle.std.specs.Prelude.{Some};
+    ghost use Rattle.stow_messages.specs.Printed.{steps_code_text};
+
+    ghost output = { λ code. Some (steps_code_text code) };
+
+    fn fmt<W: fmt::Write>(&self, f: &mut fmt::Formatter<W>) -> fmt::Result {
+        match self {
+            StepsCode::BadCsv => f.write_str("G1"),
+            StepsCode::BadKind => f.write_str("G2"),
+            StepsCode::BadField => f.write_str("G3"),
+            StepsCode::NoLift => f.write_str("G4"),
+            StepsCode::LiftTwice => f.write_str("G5"),
+            StepsCode::LiftMissing => f.write_str("G6"),
+            StepsCode::TooMany => f.write_str("G7"),
+            StepsCode::NoMemory => f.write_str("G8"),
+        }
+    }
+}
+
+impl std::error::Error for StepsCode {}
+
 impl fmt::Display for StepsFault {
+    ghost use Rattle.std.specs.Prelude.{Some};
+    ghost use Rattle.stow_messages.specs.Printed.{steps_fault_text};
+
+    ghost output = { λ fault. Some (steps_fault_text fault) };
+
     fn fmt<W: fmt::Write>(&self, f: &mut fmt::Formatter<W>) -> fmt::Result {
         let code = self.code;
         let at = self.at;

@@ -183,7 +183,7 @@ fn complete(lifts: u32, gathered: Gathered) -> Result<Vec<StepRow>, StepsFault>
 }
 
 /// The rows of a steps file, in which each of the lifts 1 to `lifts` stands once, and changes of tanks and restows
-/// among them: comma-separated values, a heading of four fields, whose text isn't looked at, and a record for each
+/// among them: comma-separated values, a heading of four fields, whose text is ignored, and a record for each
 /// step, `lift,N,,`, `tank,NAME,KG,` or `restow,FROM,TO,ID`. The first fault is answered: of a record, in this order,
 /// [`StepsCode::TooMany`] (a record past 200,000 behind the heading), `BadCsv`, `BadKind`, `BadField`, `NoLift` and
 /// `LiftTwice`, with the record's number; at the end of the file `LiftMissing`, with the least missing lift.

@@ -68,77 +68,74 @@ fn steps_file_of_every_kind(rt: HostRuntime) -> Result<(), Fail> {
     Ok(())
 }
 
-/// With one lift.
+/// Records of a file with one lift, and its answer.
+static FAULTS: [(&str, &str); 20] = [
+    ("lift,1,,\n", "lift 1;"),
+    ("lift,2,,\n", "G4 line 2"),
+    ("lift,0,,\n", "G4 line 2"),
+    ("lift,-1,,\n", "G4 line 2"),
+    ("lift,-999999999999999999,,\n", "G4 line 2"),
+    ("lift,4294967297,,\n", "G4 line 2"),
+    ("lift,1,,\nlift,1,,\n", "G5 line 3"),
+    ("", "G6 lift 1"),
+    ("tank,DB1,1,\n", "G6 lift 1"),
+    ("lift,1,x,\n", "G3 line 2"),
+    ("lift,1, ,\n", "G3 line 2"),
+    ("lift,1,,x\n", "G3 line 2"),
+    ("lift,,,\n", "G3 line 2"),
+    ("lift,1.0,,\n", "G3 line 2"),
+    ("lift,0000000000000000001,,\n", "G3 line 2"),
+    ("swap,1,,\n", "G2 line 2"),
+    ("Lift,1,,\n", "G2 line 2"),
+    (" lift,1,,\n", "G2 line 2"),
+    ("lift,1,\n", "G1 line 2"),
+    ("lift,1,,,\n", "G1 line 2"),
+];
+
 #[test]
 fn steps_file_faults(rt: HostRuntime) -> Result<(), Fail> {
-    check(
-        &rt,
-        1,
-        &[
-            ("lift,1,,\n", "lift 1;"),
-            ("lift,2,,\n", "G4 line 2"),
-            ("lift,0,,\n", "G4 line 2"),
-            ("lift,-1,,\n", "G4 line 2"),
-            ("lift,-999999999999999999,,\n", "G4 line 2"),
-            ("lift,4294967297,,\n", "G4 line 2"),
-            ("lift,1,,\nlift,1,,\n", "G5 line 3"),
-            ("", "G6 lift 1"),
-            ("tank,DB1,1,\n", "G6 lift 1"),
-            ("lift,1,x,\n", "G3 line 2"),
-            ("lift,1, ,\n", "G3 line 2"),
-            ("lift,1,,x\n", "G3 line 2"),
-            ("lift,,,\n", "G3 line 2"),
-            ("lift,1.0,,\n", "G3 line 2"),
-            ("lift,0000000000000000001,,\n", "G3 line 2"),
-            ("swap,1,,\n", "G2 line 2"),
-            ("Lift,1,,\n", "G2 line 2"),
-            (" lift,1,,\n", "G2 line 2"),
-            ("lift,1,\n", "G1 line 2"),
-            ("lift,1,,,\n", "G1 line 2"),
-        ],
-    )
+    check(&rt, 1, &FAULTS)
 }
+
+/// Records of a file without a lift, and its answer.
+static TANKS_AND_RESTOWS: [(&str, &str); 13] = [
+    ("tank,DB1,1000000001,\n", "G3 line 2"),
+    ("tank,DB1,-1,\n", "G3 line 2"),
+    ("tank,DB1,,\n", "G3 line 2"),
+    ("tank,DB1,1,x\n", "G3 line 2"),
+    ("tank,,1,\n", "G3 line 2"),
+    ("tank,A123456789ABCDEFG,1,\n", "G3 line 2"),
+    (
+        "restow,0010082,0030082,A123456789ABCDEFG\n",
+        "restow 0010082 0030082 A123456789ABCDEFG;",
+    ),
+    ("restow,0010082,0030082,A123456789ABCDEFGH\n", "G3 line 2"),
+    ("restow,10082,0030082,\n", "G3 line 2"),
+    ("restow, 010082,0030082,\n", "G3 line 2"),
+    ("restow,0010082,,\n", "G3 line 2"),
+    ("tank,5,6,\n", "tank 5 6;"),
+    ("tank,DB1,1000000000,\n", "tank DB1 1000000000;"),
+];
 
 #[test]
 fn tanks_and_restows_refused(rt: HostRuntime) -> Result<(), Fail> {
-    check(
-        &rt,
-        0,
-        &[
-            ("tank,DB1,1000000001,\n", "G3 line 2"),
-            ("tank,DB1,-1,\n", "G3 line 2"),
-            ("tank,DB1,,\n", "G3 line 2"),
-            ("tank,DB1,1,x\n", "G3 line 2"),
-            ("tank,,1,\n", "G3 line 2"),
-            ("tank,A123456789ABCDEFG,1,\n", "G3 line 2"),
-            (
-                "restow,0010082,0030082,A123456789ABCDEFG\n",
-                "restow 0010082 0030082 A123456789ABCDEFG;",
-            ),
-            ("restow,0010082,0030082,A123456789ABCDEFGH\n", "G3 line 2"),
-            ("restow,10082,0030082,\n", "G3 line 2"),
-            ("restow, 010082,0030082,\n", "G3 line 2"),
-            ("restow,0010082,,\n", "G3 line 2"),
-        ],
-    )
+    check(&rt, 0, &TANKS_AND_RESTOWS)
 }
 
-/// The first fault of a record, and of the records the first.
+/// Of three lifts: the first fault of a record, and of the records the first.
+static FIRST_FAULTS: [(&str, &str); 7] = [
+    ("swap,1,\n", "G1 line 2"),
+    ("swap,x,,\n", "G2 line 2"),
+    ("lift,9,x,\n", "G3 line 2"),
+    ("lift,2,,\nlift,9,,\nlift,2,,\n", "G4 line 3"),
+    ("lift,2,,\nlift,2,,\nswap,1,,\n", "G5 line 3"),
+    ("lift,3,,\nlift,1,,\n", "G6 lift 2"),
+    ("lift,3,,\n", "G6 lift 1"),
+];
+
 #[test]
 fn order_of_faults(rt: HostRuntime) -> Result<(), Fail> {
-    check(
-        &rt,
-        3,
-        &[
-            ("swap,1,\n", "G1 line 2"),
-            ("swap,x,,\n", "G2 line 2"),
-            ("lift,9,x,\n", "G3 line 2"),
-            ("lift,2,,\nlift,9,,\nlift,2,,\n", "G4 line 3"),
-            ("lift,2,,\nlift,2,,\nswap,1,,\n", "G5 line 3"),
-            ("lift,3,,\nlift,1,,\n", "G6 lift 2"),
-            ("lift,3,,\n", "G6 lift 1"),
-        ],
-    )
+    check(&rt, 3, &FIRST_FAULTS)
 }
 
 /// Quotes, CR LF, a byte order mark and blank lines at the end.
@@ -151,42 +148,49 @@ fn a_spreadsheets_habits(rt: HostRuntime) -> Result<(), Fail> {
     Ok(())
 }
 
-/// No heading, and one of another number of fields.
+/// Files with no heading or one of another number of fields, how many lifts there are, and the answer.
+static HEADINGS: [(&str, u32, &str); 6] = [
+    ("", 0, ""),
+    ("", 2, "G6 lift 1"),
+    ("step,a,b,c", 0, ""),
+    ("step,a,b\nlift,1,,\n", 1, "G1 line 1"),
+    ("step,a,b,c,d\n", 0, "G1 line 1"),
+    ("lift,1,,\n", 1, "G6 lift 1"),
+];
+
 #[test]
 fn headings_of_steps_files(rt: HostRuntime) -> Result<(), Fail> {
-    for (text, lifts, want) in [
-        ("", 0, ""),
-        ("", 2, "G6 lift 1"),
-        ("step,a,b,c", 0, ""),
-        ("step,a,b\nlift,1,,\n", 1, "G1 line 1"),
-        ("lift,1,,\n", 1, "G6 lift 1"),
-    ] {
-        let shown = answer(rt.alloc(), text.as_bytes(), lifts)?;
-        assert_eq!(rt; shown.as_str(), want, "{text}");
+    for (text, lifts, want) in &HEADINGS {
+        let shown = answer(rt.alloc(), text.as_bytes(), *lifts)?;
+        assert_eq!(rt; shown.as_str(), *want, "{text}");
     }
     Ok(())
 }
 
-/// 200,000 records behind the heading are taken, and one more is refused before it is looked at.
-#[test]
-fn a_record_too_many(rt: HostRuntime) -> Result<(), Fail> {
-    let mut text = String::from_str(rt.alloc(), "step,a,b,c\n")?;
+/// What stands behind 200,000 records, and how many rows there are, or the fault. The next record is number 200,002, the heading
+/// being 1, and is refused before its fields are read.
+static FILE_ENDS: [(&str, &str); 2] = [("", "200000"), ("swap\n", "G7 line 200002")];
+
+/// A file of 200,000 records that ends so.
+fn long_file(alloc: Global, end: &str) -> Result<String, AllocError> {
+    let mut text = String::from_str(alloc, "step,a,b,c\n")?;
     for _ in 0..200_000 {
         text.push_str("tank,A,1,\n")?;
     }
-    let rows = steps(rt.alloc(), text.as_bytes(), 0).ok().ok_or("rows")?;
-    assert_eq!(rt; rows.len(), 200_000);
-    text.push_str("swap\n")?;
-    let fault = steps(rt.alloc(), text.as_bytes(), 0)
-        .err()
-        .ok_or("a fault")?;
-    let want = StepsFault {
-        code: StepsCode::TooMany,
-        at: 200_002,
-    };
-    assert_eq!(rt; fault, want);
-    let shown = format!(in rt.alloc(); "{fault}")?;
-    assert_eq!(rt; shown.as_str(), "G7 line 200002");
+    text.push_str(end)?;
+    Ok(text)
+}
+
+#[test]
+fn a_record_too_many(rt: HostRuntime) -> Result<(), Fail> {
+    for (end, expected) in &FILE_ENDS {
+        let text = long_file(rt.alloc(), end)?;
+        let shown = match steps(rt.alloc(), text.as_bytes(), 0) {
+            Ok(rows) => rows.len().to_string(rt.alloc())?,
+            Err(fault) => fault.to_string(rt.alloc())?,
+        };
+        assert_eq!(rt; shown.as_str(), *expected, "{end}");
+    }
     Ok(())
 }
 
@@ -196,8 +200,7 @@ fn want_of_memory_has_no_place(rt: HostRuntime) -> Result<(), Fail> {
         code: StepsCode::NoMemory,
         at: 0,
     };
-    let shown = format!(in rt.alloc(); "{fault}")?;
-    assert_eq!(rt; shown.as_str(), "G8");
+    assert_eq!(rt; fault.to_string(rt.alloc())?.as_str(), "G8");
     Ok(())
 }
 

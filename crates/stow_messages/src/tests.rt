@@ -1,5 +1,6 @@
 use crate::{Item, Lift, StowCode, StowFault, baplie, copied, movins};
 use arrayvec::ArrayVec;
+use edifact_text::{EdiCode, EdiFault};
 use std::alloc::{AllocError, Global};
 use std::process::Abort;
 use std::test::Fail;
@@ -78,127 +79,144 @@ fn release_and_verified_weight(rt: HostRuntime) -> Result<(), Fail> {
     Ok(())
 }
 
+/// Weights and their units, each with the item or the fault.
+static WEIGHTS: [(&str, &str); 19] = [
+    (
+        "LOC+147+030082 MEA+WT++KGM:1 MEA+VGM++KGM:999999.0",
+        "@0030082=999999 ",
+    ),
+    (
+        "LOC+147+030082 MEA+WT++KGM:1 MEA+VGM++KGM:999999.1",
+        "M4 segment 4",
+    ),
+    (
+        "LOC+147+030082 MEA+VGM++LBR:45000 MEA+WT++KGM:1",
+        "M5 segment 3",
+    ),
+    ("LOC+147+03A082 MEA+WT++KGM:1", "M2 segment 2"),
+    ("LOC+147+030082 MEA+WT++KGM:5.", "@0030082=5 "),
+    ("LOC+147+030082 MEA+WT++KGM:5,01", "@0030082=6 "),
+    ("LOC+147+030082 MEA+WT++KGM:.5", "M4 segment 3"),
+    ("LOC+147+030082 MEA+WT++KGM:1.5.0", "M4 segment 3"),
+    ("LOC+147+030082 MEA+WT++KGM:-5", "M4 segment 3"),
+    ("LOC+147+030082 MEA+WT++KGM", "M4 segment 3"),
+    ("LOC+147+030082 MEA+WT++:5", "M5 segment 3"),
+    ("LOC+147+030082 MEA+WT++KGM:0", "@0030082=0 "),
+    ("LOC+147+030082 MEA+WT++KGM:1000000", "M4 segment 3"),
+    ("LOC+147+030082 MEA+WT++KGM:999998.1", "@0030082=999999 "),
+    ("LOC+147+030082 MEA+WT++KGM:5.00", "@0030082=5 "),
+    ("LOC+147+030082 MEA+WT++KGM:5.10", "@0030082=6 "),
+    ("LOC+147+030082 MEA+WT++KGM:5x", "M4 segment 3"),
+    ("LOC+147+030082 MEA+WT++kgm:5", "M5 segment 3"),
+    ("LOC+147+030082 MEA+WT+KGM:8+KGM:7:9+KGM:6", "@0030082=7 "),
+];
+
 #[test]
 fn weights_and_units(rt: HostRuntime) -> Result<(), Fail> {
-    check(
-        &rt,
-        &[
-            (
-                "LOC+147+030082 MEA+WT++KGM:1 MEA+VGM++KGM:999999.0",
-                "@0030082=999999 ",
-            ),
-            (
-                "LOC+147+030082 MEA+WT++KGM:1 MEA+VGM++KGM:999999.1",
-                "M4 segment 4",
-            ),
-            (
-                "LOC+147+030082 MEA+VGM++LBR:45000 MEA+WT++KGM:1",
-                "M5 segment 3",
-            ),
-            ("LOC+147+03A082 MEA+WT++KGM:1", "M2 segment 2"),
-            ("LOC+147+030082 MEA+WT++KGM:5.", "@0030082=5 "),
-            ("LOC+147+030082 MEA+WT++KGM:5,01", "@0030082=6 "),
-            ("LOC+147+030082 MEA+WT++KGM:.5", "M4 segment 3"),
-            ("LOC+147+030082 MEA+WT++KGM:1.5.0", "M4 segment 3"),
-            ("LOC+147+030082 MEA+WT++KGM:-5", "M4 segment 3"),
-            ("LOC+147+030082 MEA+WT++KGM", "M4 segment 3"),
-            ("LOC+147+030082 MEA+WT++:5", "M5 segment 3"),
-            ("LOC+147+030082 MEA+WT++KGM:0", "@0030082=0 "),
-        ],
-    )
+    check(&rt, &WEIGHTS)
 }
+
+/// The interchange's decimal mark, a weight, and the item or the fault.
+static MARKS: [(&str, &str, &str); 5] = [
+    ("*", "20*5", "@0030082=21 "),
+    ("*", "20.5", "@0030082=21 "),
+    ("E", "20E5", "@0030082=21 "),
+    ("5", "2051", "@0030082=2051 "),
+    (".", "20*5", "M4 segment 3"),
+];
 
 #[test]
 fn decimal_mark_of_the_interchange(rt: HostRuntime) -> Result<(), Fail> {
-    for (mark, weight, expected) in [
-        ("*", "20*5", "@0030082=21 "),
-        ("*", "20.5", "@0030082=21 "),
-        ("E", "20E5", "@0030082=21 "),
-        ("5", "2051", "@0030082=2051 "),
-        (".", "20*5", "M4 segment 3"),
-    ] {
-        let plan = plan(rt.alloc(), &["LOC+147+030082", "MEA+WT++KGM:#"])?;
-        let advice = format!(in rt.alloc(); "UNA:+{mark}? '")?;
-        let mut text = String::from_str(rt.alloc(), advice.as_str())?;
-        for piece in plan.as_str().split_inclusive('#') {
-            match piece.strip_suffix('#') {
-                Some(front) => {
-                    text.push_str(front)?;
-                    text.push_str(weight)?;
-                }
-                None => text.push_str(piece)?,
-            }
-        }
+    for (mark, weight, expected) in &MARKS {
+        let text = format!(in rt.alloc();
+            "UNA:+{mark}? 'UNB+UNOA:2+S+P+1:1+7'UNH+1+BAPLIE:D:95B:UN'LOC+147+030082'MEA+WT++KGM:{weight}'UNT+4+1'UNZ+1+7'"
+        )?;
         let answer = answer(rt.alloc(), text.as_bytes())?;
-        assert_eq!(rt; answer.as_str(), expected, "{mark} {weight}");
+        assert_eq!(rt; answer.as_str(), *expected, "{mark} {weight}");
     }
     Ok(())
 }
 
-// 35 bytes of a value are read, 36 aren't
+/// 35 bytes of a value are read, 36 aren't.
+static LONG_WEIGHTS: [(&str, &str); 5] = [
+    (
+        "LOC+147+030082 MEA+WT++KGM:00000000000000000000000000000000001",
+        "@0030082=1 ",
+    ),
+    (
+        "LOC+147+030082 MEA+WT++KGM:000000000000000000000000000000000001",
+        "M4 segment 3",
+    ),
+    (
+        "LOC+147+030082 MEA+WT++KGM:99999999999999999999999999999999999",
+        "M4 segment 3",
+    ),
+    (
+        "LOC+147+030082 MEA+WT++KGM:1.000000000000000000000000000000000",
+        "@0030082=1 ",
+    ),
+    (
+        "LOC+147+030082 MEA+WT++KGM:1.000000000000000000000000000000001",
+        "@0030082=2 ",
+    ),
+];
+
 #[test]
 fn long_weights(rt: HostRuntime) -> Result<(), Fail> {
-    check(
-        &rt,
-        &[
-            (
-                "LOC+147+030082 MEA+WT++KGM:00000000000000000000000000000000001",
-                "@0030082=1 ",
-            ),
-            (
-                "LOC+147+030082 MEA+WT++KGM:000000000000000000000000000000000001",
-                "M4 segment 3",
-            ),
-            (
-                "LOC+147+030082 MEA+WT++KGM:99999999999999999999999999999999999",
-                "M4 segment 3",
-            ),
-            (
-                "LOC+147+030082 MEA+WT++KGM:1.000000000000000000000000000000000",
-                "@0030082=1 ",
-            ),
-            (
-                "LOC+147+030082 MEA+WT++KGM:1.000000000000000000000000000000001",
-                "@0030082=2 ",
-            ),
-        ],
-    )
+    check(&rt, &LONG_WEIGHTS)
 }
+
+/// What a group takes of the segments behind its location.
+static GROUPS: [(&str, &str); 14] = [
+    // without a location there is no group, whatever stands there
+    ("EQD+CN+ABCDEFGHIJKLMNOPQR MEA+WT++LBR:x HAN+RES", ""),
+    ("LOC+147", "M2 segment 2"),
+    (
+        "LOC+9+DEHAM LOC+147+0030082::5 LOC+9+NLRTM EQD+CN+AB MEA+WT++KGM:7 NAD+CA+X",
+        "AB@0030082=7 ",
+    ),
+    (
+        "LOC+147:9+0030082 EQD+CN+AB MEA+WT:1++KGM:7:x",
+        "AB@0030082=7 ",
+    ),
+    // the first of each kind counts
+    (
+        "LOC+147+0030082 MEA+WT++KGM:7 EQD+CN+AB EQD+CN+CD MEA+WT++KGM:8",
+        "AB@0030082=7 ",
+    ),
+    (
+        "LOC+147+0030082 MEA+VGM++KGM:7 MEA+VGM++LBR:8",
+        "@0030082=7 ",
+    ),
+    // an empty cell is no item
+    (
+        "LOC+147+0030082 LOC+147+0010082 EQD+CN MEA+WT++KGM:7",
+        "@0010082=7 ",
+    ),
+    ("LOC+147+0030082 EQD+CN+AB", "M6 segment 2"),
+    ("LOC+147+0030082 EQD+CN+AB MEA+AAE++KGM:7", "M6 segment 2"),
+    // seven digits or six, and another location is ignored
+    ("LOC+147+03008 MEA+WT++KGM:7", "M2 segment 2"),
+    ("LOC+147+00300820 MEA+WT++KGM:7", "M2 segment 2"),
+    (
+        "LOC+14+X LOC+1470+X LOC+147+1230405+X MEA+WT++KGM:7",
+        "@1230405=7 ",
+    ),
+    // a container of any qualifier
+    (
+        "LOC+147+0030082 EQD+AB:CD+EF:GH+IJ MEA+WT++KGM:7",
+        "EF@0030082=7 ",
+    ),
+    // handlings are ignored
+    (
+        "HAN+RES LOC+147+0030082 HAN+RES MEA+WT++KGM:7",
+        "@0030082=7 ",
+    ),
+];
 
 #[test]
 fn groups_of_segments(rt: HostRuntime) -> Result<(), Fail> {
-    check(
-        &rt,
-        &[
-            // without a location there is no group, whatever stands there
-            ("EQD+CN+ABCDEFGHIJKLMNOPQR MEA+WT++LBR:x HAN+RES", ""),
-            ("LOC+147", "M2 segment 2"),
-            (
-                "LOC+9+DEHAM LOC+147+0030082::5 LOC+9+NLRTM EQD+CN+AB MEA+WT++KGM:7 NAD+CA+X",
-                "AB@0030082=7 ",
-            ),
-            (
-                "LOC+147:9+0030082 EQD+CN+AB MEA+WT:1++KGM:7:x",
-                "AB@0030082=7 ",
-            ),
-            // the first of each kind counts
-            (
-                "LOC+147+0030082 MEA+WT++KGM:7 EQD+CN+AB EQD+CN+CD MEA+WT++KGM:8",
-                "AB@0030082=7 ",
-            ),
-            (
-                "LOC+147+0030082 MEA+VGM++KGM:7 MEA+VGM++LBR:8",
-                "@0030082=7 ",
-            ),
-            // an empty cell is no item
-            (
-                "LOC+147+0030082 LOC+147+0010082 EQD+CN MEA+WT++KGM:7",
-                "@0010082=7 ",
-            ),
-            ("LOC+147+0030082 EQD+CN+AB", "M6 segment 2"),
-            ("LOC+147+0030082 EQD+CN+AB MEA+AAE++KGM:7", "M6 segment 2"),
-        ],
-    )
+    check(&rt, &GROUPS)
 }
 
 #[test]
@@ -209,95 +227,88 @@ fn texts_are_copied(rt: HostRuntime) -> Result<(), Fail> {
     Ok(())
 }
 
+/// 17 bytes are taken, 18 aren't.
+static IDENTIFICATIONS: [(&str, &str); 4] = [
+    (
+        "LOC+147+0030082 EQD+CN+ABCDEFGHIJKLMNOPQ MEA+WT++KGM:7",
+        "ABCDEFGHIJKLMNOPQ@0030082=7 ",
+    ),
+    (
+        "LOC+147+0030082 MEA+WT++KGM:7 EQD+CN+ABCDEFGHIJKLMNOPQR",
+        "M3 segment 4",
+    ),
+    (
+        "LOC+147+0030082 EQD+CN+ABCDEFGHIJKLMNOPQRSTUVWXYZABCDEFGHIJK MEA+WT++KGM:7",
+        "M3 segment 3",
+    ),
+    // letters are released one by one
+    (
+        "L?OC+14?7+0?030082 E?QD+CN+A?+ M?EA+W?T++K?GM:?7",
+        "A+@0030082=7 ",
+    ),
+];
+
 #[test]
 fn identifications(rt: HostRuntime) -> Result<(), Fail> {
-    check(
-        &rt,
-        &[
-            (
-                "LOC+147+0030082 EQD+CN+ABCDEFGHIJKLMNOPQ MEA+WT++KGM:7",
-                "ABCDEFGHIJKLMNOPQ@0030082=7 ",
-            ),
-            (
-                "LOC+147+0030082 MEA+WT++KGM:7 EQD+CN+ABCDEFGHIJKLMNOPQR",
-                "M3 segment 4",
-            ),
-            (
-                "LOC+147+0030082 EQD+CN+ABCDEFGHIJKLMNOPQRSTUVWXYZABCDEFGHIJK MEA+WT++KGM:7",
-                "M3 segment 3",
-            ),
-            // letters are released one by one
-            (
-                "L?OC+14?7+0?030082 E?QD+CN+A?+ M?EA+W?T++K?GM:?7",
-                "A+@0030082=7 ",
-            ),
-        ],
-    )
+    check(&rt, &IDENTIFICATIONS)
 }
 
-// A group's faults come in one order, and before those of the group behind it.
+/// A group's faults come in one order, and before those of the group behind it.
+static FIRST_FAULTS: [(&str, &str); 9] = [
+    (
+        "LOC+147+X EQD+CN+ABCDEFGHIJKLMNOPQR MEA+WT++LBR:x LOC+147+Y",
+        "M2 segment 2",
+    ),
+    (
+        "LOC+147+0030082 MEA+WT++LBR:x EQD+CN+ABCDEFGHIJKLMNOPQR LOC+147+Y",
+        "M3 segment 4",
+    ),
+    (
+        "LOC+147+0030082 MEA+WT++LBR:x EQD+CN+AB LOC+147+Y",
+        "M5 segment 3",
+    ),
+    (
+        "LOC+147+0030082 MEA+WT++KGM:x EQD+CN+AB LOC+147+Y",
+        "M4 segment 3",
+    ),
+    ("LOC+147+0030082 EQD+CN+AB LOC+147+Y", "M6 segment 2"),
+    (
+        "LOC+147+0030082 EQD+CN+AB MEA+WT++KGM:7 LOC+147+Y",
+        "M2 segment 5",
+    ),
+    (
+        "LOC+147+0030082 MEA+WT++KGM:x EQD+CN+ABCDEFGHIJKLMNOPQR LOC+147+Y",
+        "M3 segment 4",
+    ),
+    (
+        "LOC+147+0030082 EQD+CN+ABCDEFGHIJKLMNOPQR LOC+147+Y",
+        "M3 segment 3",
+    ),
+    ("LOC+147+X EQD+CN+AB LOC+147+Y", "M2 segment 2"),
+];
+
 #[test]
 fn first_fault(rt: HostRuntime) -> Result<(), Fail> {
-    check(
-        &rt,
-        &[
-            (
-                "LOC+147+X EQD+CN+ABCDEFGHIJKLMNOPQR MEA+WT++LBR:x LOC+147+Y",
-                "M2 segment 2",
-            ),
-            (
-                "LOC+147+0030082 MEA+WT++LBR:x EQD+CN+ABCDEFGHIJKLMNOPQR LOC+147+Y",
-                "M3 segment 4",
-            ),
-            (
-                "LOC+147+0030082 MEA+WT++LBR:x EQD+CN+AB LOC+147+Y",
-                "M5 segment 3",
-            ),
-            (
-                "LOC+147+0030082 MEA+WT++KGM:x EQD+CN+AB LOC+147+Y",
-                "M4 segment 3",
-            ),
-            ("LOC+147+0030082 EQD+CN+AB LOC+147+Y", "M6 segment 2"),
-            (
-                "LOC+147+0030082 EQD+CN+AB MEA+WT++KGM:7 LOC+147+Y",
-                "M2 segment 5",
-            ),
-        ],
-    )
+    check(&rt, &FIRST_FAULTS)
 }
+
+/// Texts that are no interchange of a bay plan.
+static ENVELOPES: [(&[u8], &str); 2] = [
+    (b"UNB+UNOA:2'UNH+1+BAPLIE:D:95B:UN'UNT+3+1'", "M1 E7 at 33"),
+    (b"", "M1 E1 at 0"),
+];
 
 #[test]
 fn envelope_and_texts(rt: HostRuntime) -> Result<(), Fail> {
-    let shown = answer(rt.alloc(), b"UNB+UNOA:2'UNH+1+BAPLIE:D:95B:UN'UNT+3+1'")?;
-    assert_eq!(rt; shown.as_str(), "M1 E7 at 33");
-    let shown = answer(rt.alloc(), b"")?;
-    assert_eq!(rt; shown.as_str(), "M1 E1 at 0");
-    for (code, text) in [
-        (StowCode::TooMany, "M9 segment 7"),
-        (StowCode::NoMemory, "M10"),
-    ] {
-        let fault = StowFault { code, segment: 7 };
-        let shown = format!(in rt.alloc(); "{fault}")?;
-        assert_eq!(rt; shown.as_str(), text);
+    for (text, expected) in &ENVELOPES {
+        let answer = answer(rt.alloc(), text)?;
+        assert_eq!(rt; answer.as_str(), *expected);
     }
-    Ok(())
-}
-
-// The 30,000 items that a plan may have, and one more. An empty cell between them counts for nothing.
-#[test]
-fn most_items(rt: HostRuntime) -> Result<(), Fail> {
-    let mut text = String::from_str(rt.alloc(), "UNB+UNOA:2+S+P+1:1+7'UNH+1+BAPLIE:D:95B:UN'")?;
-    for _ in 0..29_999u32 {
-        text.push_str("LOC+147+0030082'MEA+WT++KGM:1'")?;
-    }
-    text.push_str("LOC+147+0030082'LOC+147+0030082'MEA+WT++KGM:1'")?;
-    let mut longer = text.clone()?;
-    text.push_str("UNT+60003+1'UNZ+1+7'")?;
-    let items = baplie(rt.alloc(), text.as_bytes()).ok().ok_or("a plan")?;
-    assert_eq!(rt; items.len(), 30_000);
-    longer.push_str("LOC+147+0030082'MEA+WT++KGM:1'UNT+60005+1'UNZ+1+7'")?;
-    let shown = answer(rt.alloc(), longer.as_bytes())?;
-    assert_eq!(rt; shown.as_str(), "M9 segment 60003");
+    let fault = StowFault {
+        code: StowCode::NoMemory,
+        segment: 0,
+    };
+    assert_eq!(rt; fault.to_string(rt.alloc())?.as_str(), "M10");
     Ok(())
 }
 
@@ -346,90 +357,173 @@ fn check_orders(rt: &(impl Abort + AllocGlobal), rows: &[(&str, &str)]) -> Resul
     Ok(())
 }
 
+/// A handling holds until the next.
+static HANDLINGS: [(&str, &str); 9] = [
+    (
+        "HAN+LOA LOC+147+0030782::5 MEA+WT++KGM:20500 EQD+CN+ABCU1234560",
+        "L0030782ABCU1234560=20500 ",
+    ),
+    (
+        "HAN+DIS LOC+147+0030082 EQD+CN+AB LOC+147+0010082 EQD+CN HAN+LOA LOC+147+0050082 MEA+WT++KGM:7",
+        "D0030082AB D0010082 L0050082=7 ",
+    ),
+    (
+        "HAN+DIS HAN+LOA LOC+147+0050082 MEA+WT++KGM:7 HAN+DIS",
+        "L0050082=7 ",
+    ),
+    // what stands between a handling and a location belongs to no group
+    (
+        "HAN+LOA EQD+CN+X MEA+WT++LBR:x LOC+147+0050082 MEA+WT++KGM:7",
+        "L0050082=7 ",
+    ),
+    // a handling ends a group
+    (
+        "HAN+DIS LOC+147+0050082 HAN+LOA EQD+CN+X LOC+147+0030082 MEA+WT++KGM:7",
+        "L0030082=7 ",
+    ),
+    // the value of a discharge's mass is ignored
+    ("HAN+DIS LOC+147+0050082 MEA+WT++LBR:x", "D0050082 "),
+    ("HAN+DIS LOC+147+0050082 MEA+VGM LOC+9+DEHAM", "D0050082 "),
+    // a group without a container and a mass is no lift
+    ("HAN+LOA LOC+147+0050082 HAN+DIS LOC+147+0050082 DTM+1", ""),
+    ("HAN+?LOA:9 LOC+147+0050082 MEA+WT++KGM:7", "L0050082=7 "),
+];
+
 #[test]
 fn handlings_hold_for_what_follows(rt: HostRuntime) -> Result<(), Fail> {
-    check_orders(
-        &rt,
-        &[
-            (
-                "HAN+LOA LOC+147+0030782::5 MEA+WT++KGM:20500 EQD+CN+ABCU1234560",
-                "L0030782ABCU1234560=20500 ",
-            ),
-            (
-                "HAN+DIS LOC+147+0030082 EQD+CN+AB LOC+147+0010082 EQD+CN HAN+LOA LOC+147+0050082 MEA+WT++KGM:7",
-                "D0030082AB D0010082 L0050082=7 ",
-            ),
-            (
-                "HAN+DIS HAN+LOA LOC+147+0050082 MEA+WT++KGM:7 HAN+DIS",
-                "L0050082=7 ",
-            ),
-            // what stands between a handling and a location belongs to no group
-            (
-                "HAN+LOA EQD+CN+X MEA+WT++LBR:x LOC+147+0050082 MEA+WT++KGM:7",
-                "L0050082=7 ",
-            ),
-            // a handling ends a group
-            (
-                "HAN+DIS LOC+147+0050082 HAN+LOA EQD+CN+X LOC+147+0030082 MEA+WT++KGM:7",
-                "L0030082=7 ",
-            ),
-            // the mass of a discharge isn't looked at
-            ("HAN+DIS LOC+147+0050082 MEA+WT++LBR:x", "D0050082 "),
-            ("HAN+DIS LOC+147+0050082 MEA+VGM LOC+9+DEHAM", "D0050082 "),
-            // a group without a container and a mass is no lift
-            ("HAN+LOA LOC+147+0050082 HAN+DIS LOC+147+0050082 DTM+1", ""),
-            ("HAN+?LOA:9 LOC+147+0050082 MEA+WT++KGM:7", "L0050082=7 "),
-        ],
-    )
+    check_orders(&rt, &HANDLINGS)
 }
 
-// A group's faults come before those of the segment that ends it, also where that is a handling.
+/// A group's faults come before those of the segment that ends it, also where that is a handling.
+static ORDER_FAULTS: [(&str, &str); 19] = [
+    ("HAN+RES", "M8 segment 2"),
+    ("HAN", "M8 segment 2"),
+    (
+        "LOC+147+0030782 MEA+WT++KGM:20500 EQD+CN+AB",
+        "M7 segment 2",
+    ),
+    ("LOC+147+X", "M2 segment 2"),
+    ("LOC+147+0030082", "M7 segment 2"),
+    ("HAN+LOA LOC+147+0030082 EQD+CN+AB HAN+RES", "M6 segment 3"),
+    (
+        "HAN+LOA LOC+147+0030082 MEA+WT++LBR:7 HAN+RES",
+        "M5 segment 4",
+    ),
+    (
+        "HAN+DIS LOC+147+0030082 EQD+CN+ABCDEFGHIJKLMNOPQR HAN+RES",
+        "M3 segment 4",
+    ),
+    (
+        "HAN+DIS LOC+147+0030082 EQD+CN+AB HAN+RES LOC+147+X",
+        "M8 segment 5",
+    ),
+    (
+        "HAN+DIS LOC+147+0030082 EQD+CN+AB LOC+147+X HAN+RES",
+        "M2 segment 5",
+    ),
+    // a group before any handling, whatever else is wrong with it or with what ends it
+    ("LOC+147+0030782 EQD+CN+ABCDEFGHIJKLMNOPQR", "M7 segment 2"),
+    ("LOC+147+0030782 MEA+WT++LBR:x", "M7 segment 2"),
+    ("LOC+147+0030782 EQD+CN+AB", "M7 segment 2"),
+    ("LOC+147+0030782 HAN+RES", "M7 segment 2"),
+    // a group behind one
+    (
+        "HAN+DIS LOC+147+X EQD+CN+ABCDEFGHIJKLMNOPQR",
+        "M2 segment 3",
+    ),
+    (
+        "HAN+LOA LOC+147+0030082 MEA+WT++LBR:x EQD+CN+ABCDEFGHIJKLMNOPQR",
+        "M3 segment 5",
+    ),
+    (
+        "HAN+LOA LOC+147+0030082 MEA+WT++KGM:x HAN+RES",
+        "M4 segment 4",
+    ),
+    ("HAN+RES+LOA", "M8 segment 2"),
+    ("HAN+loa", "M8 segment 2"),
+];
+
 #[test]
 fn faults_of_an_instruction(rt: HostRuntime) -> Result<(), Fail> {
-    check_orders(
-        &rt,
-        &[
-            ("HAN+RES", "M8 segment 2"),
-            ("HAN", "M8 segment 2"),
-            (
-                "LOC+147+0030782 MEA+WT++KGM:20500 EQD+CN+AB",
-                "M7 segment 2",
-            ),
-            ("LOC+147+X", "M2 segment 2"),
-            ("LOC+147+0030082", "M7 segment 2"),
-            ("HAN+LOA LOC+147+0030082 EQD+CN+AB HAN+RES", "M6 segment 3"),
-            (
-                "HAN+LOA LOC+147+0030082 MEA+WT++LBR:7 HAN+RES",
-                "M5 segment 4",
-            ),
-            (
-                "HAN+DIS LOC+147+0030082 EQD+CN+ABCDEFGHIJKLMNOPQR HAN+RES",
-                "M3 segment 4",
-            ),
-            (
-                "HAN+DIS LOC+147+0030082 EQD+CN+AB HAN+RES LOC+147+X",
-                "M8 segment 5",
-            ),
-            (
-                "HAN+DIS LOC+147+0030082 EQD+CN+AB LOC+147+X HAN+RES",
-                "M2 segment 5",
-            ),
-        ],
-    )
+    check_orders(&rt, &ORDER_FAULTS)
+}
+
+/// What stands behind a plan's 30,000 items, and how many items there are, or the fault. The items are two segments each, and so
+/// the segments 2 to 60,001 behind the message header.
+static PLAN_ENDS: [(&str, &str); 5] = [
+    ("UNT+60002+1'", "30000"),
+    ("LOC+147+0030082'UNT+60003+1'", "30000"),
+    (
+        "LOC+147+0030082'MEA+WT++KGM:1'UNT+60004+1'",
+        "M9 segment 60002",
+    ),
+    (
+        "LOC+147+0030082'MEA+WT++KGM:x'UNT+60004+1'",
+        "M4 segment 60003",
+    ),
+    ("LOC+147+0030082'EQD'UNT+60004+1'", "M6 segment 60002"),
+];
+
+/// The same of an instruction's 200,000 lifts, which are the segments 3 to 400,002 behind the message header and a handling.
+static ORDER_ENDS: [(&str, &str); 4] = [
+    ("UNT+400003+1'", "200000"),
+    ("LOC+147+0030082'UNT+400004+1'", "200000"),
+    ("LOC+147+0030082'EQD'UNT+400005+1'", "M9 segment 400003"),
+    (
+        "LOC+147+0030082'EQD++ABCDEFGHIJKLMNOPQR'UNT+400005+1'",
+        "M3 segment 400004",
+    ),
+];
+
+/// A message that has its headers, the same two segments again and again, and this end.
+fn long_message(
+    alloc: Global,
+    headers: &str,
+    pair: &str,
+    count: u32,
+    end: &str,
+) -> Result<String, AllocError> {
+    let mut text = String::from_str(alloc, "UNB+UNOA:2+S+P+1:1+7'")?;
+    text.push_str(headers)?;
+    for _ in 0..count {
+        text.push_str(pair)?;
+    }
+    text.push_str(end)?;
+    text.push_str("UNZ+1+7'")?;
+    Ok(text)
 }
 
 #[test]
-fn handlings_of_a_plan(rt: HostRuntime) -> Result<(), Fail> {
-    check(
-        &rt,
-        &[(
-            "HAN+RES LOC+147+0030082 HAN+RES MEA+WT++KGM:7",
-            "@0030082=7 ",
-        )],
-    )
+fn most_items(rt: HostRuntime) -> Result<(), Fail> {
+    for (end, expected) in &PLAN_ENDS {
+        let headers = "UNH+1+BAPLIE:D:95B:UN'";
+        let pair = "LOC+147+0030082'MEA+WT++KGM:1'";
+        let text = long_message(rt.alloc(), headers, pair, 30_000, end)?;
+        let shown = match baplie(rt.alloc(), text.as_bytes()) {
+            Ok(items) => items.len().to_string(rt.alloc())?,
+            Err(fault) => fault.to_string(rt.alloc())?,
+        };
+        assert_eq!(rt; shown.as_str(), *expected, "{end}");
+    }
+    Ok(())
 }
 
-// A producer's habits: the service string advice, a line for each segment, and segments that aren't looked at.
+#[test]
+fn most_lifts(rt: HostRuntime) -> Result<(), Fail> {
+    for (end, expected) in &ORDER_ENDS {
+        let headers = "UNH+1+MOVINS:D:95B:UN'HAN+DIS'";
+        let pair = "LOC+147+0030082'EQD'";
+        let text = long_message(rt.alloc(), headers, pair, 200_000, end)?;
+        let shown = match movins(rt.alloc(), text.as_bytes()) {
+            Ok(lifts) => lifts.len().to_string(rt.alloc())?,
+            Err(fault) => fault.to_string(rt.alloc())?,
+        };
+        assert_eq!(rt; shown.as_str(), *expected, "{end}");
+    }
+    Ok(())
+}
+
+// A producer's habits: the service string advice, a line for each segment, and segments that are ignored.
 #[test]
 fn segments_between(rt: HostRuntime) -> Result<(), Fail> {
     let text =
@@ -439,31 +533,39 @@ fn segments_between(rt: HostRuntime) -> Result<(), Fail> {
     Ok(())
 }
 
-// Wherever a byte of an instruction is another, there is an answer, and none of them takes a cut message.
+/// Loads one container.
+const LOAD_ONE: &[u8; 137] =
+    b"UNB+UNOA:2+PLAN+SHIP+250101:1200+8'UNH+1+MOVINS:D:95B:UN'HAN+LOA'LOC+147+0030782::5'MEA+WT++KGM:20500'EQD+CN+ABCU1234560'UNT+6+1'UNZ+1+8'";
+
+/// None of its beginnings is taken.
 #[test]
-fn one_byte_changed(rt: HostRuntime) -> Result<(), Fail> {
-    let text =
-        b"UNB+UNOA:2+PLAN+SHIP+250101:1200+8'UNH+1+MOVINS:D:95B:UN'HAN+LOA'LOC+147+0030782::5'MEA+WT++KGM:20500'EQD+CN+ABCU1234560'UNT+6+1'UNZ+1+8'";
-    for cut in 0..text.len() {
-        let shown = orders(rt.alloc(), &text[..cut])?;
-        let expected = format!(in rt.alloc(); "M1 E1 at {cut}")?;
-        assert_eq!(rt; shown.as_str(), expected.as_str());
+fn cut_instruction(rt: HostRuntime) {
+    for cut in 0..LOAD_ONE.len() {
+        let expected = StowFault {
+            code: StowCode::Envelope(EdiFault {
+                code: EdiCode::Truncated,
+                place: cut,
+            }),
+            segment: 0,
+        };
+        let fault = movins(rt.alloc(), &LOAD_ONE[..cut]).err();
+        assert_eq!(rt; fault, Some(expected));
     }
-    let whole = orders(rt.alloc(), text)?;
-    assert_eq!(rt; whole.as_str(), "L0030782ABCU1234560=20500 ");
-    let mut changed = text.to_vec(rt.alloc())?;
+}
+
+/// Wherever a byte of it is another, there is an answer.
+#[test]
+fn one_byte_changed(rt: HostRuntime) {
+    let mut text = *LOAD_ONE;
     let mut loads: u32 = 0;
-    for at in 0..text.len() {
+    for at in 0..LOAD_ONE.len() {
         for byte in [b'X', b'\'', b'?', b'+', 0] {
-            assert!(rt; at < changed.len() && at < text.len());
-            changed[at] = byte;
-            if let Ok(lifts) = movins(rt.alloc(), &changed) {
+            text[at] = byte;
+            if movins(rt.alloc(), &text).is_ok() {
                 loads = loads.saturating_add(1);
-                assert!(rt; lifts.len() <= 1);
             }
-            changed[at] = text[at];
         }
+        text[at] = LOAD_ONE[at];
     }
     assert!(rt; 50 < loads, "{loads}");
-    Ok(())
 }
