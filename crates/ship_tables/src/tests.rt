@@ -3,7 +3,7 @@ use crate::{Curves, Extent, Hydro, TableTexts, Tables};
 use std::alloc::Global;
 use std::process::Abort;
 use std::test::Fail;
-use units_core::{Body, Cell, Mm, Place};
+use units_core::{Cell, Mm};
 
 /// The tables of the box ship: 100 m long, with vertical sides.
 pub static CELLS: &str =
@@ -121,39 +121,6 @@ pub fn check_text(
     Ok(())
 }
 
-/// Reads the prefixes of a text from one length to before another: each has this fault.
-fn check_prefixes_between(
-    rt: &(impl Abort + AllocGlobal),
-    file: File,
-    text: &str,
-    from: usize,
-    past: usize,
-    want: &str,
-) -> Result<(), Fail> {
-    let extent = extent();
-    for length in from..past {
-        let prefix = text.get(..length).ok_or("a prefix")?;
-        check_text(rt, &extent, file, prefix, want)?;
-    }
-    Ok(())
-}
-
-/// Reads every prefix of a text: those up to each length, from the length before, have the fault beside it.
-pub fn check_prefixes(
-    rt: &(impl Abort + AllocGlobal),
-    file: File,
-    text: &str,
-    rows: &[(usize, &str)],
-) -> Result<(), Fail> {
-    let mut from = 0;
-    for (past, want) in rows {
-        check_prefixes_between(rt, file, text, from, *past, want)?;
-        from = *past;
-    }
-    assert_eq!(rt; from, text.len() + 1);
-    Ok(())
-}
-
 /// Tables of which no two numbers are equal, so that one in the place of another shows.
 static UNLIKE_CELLS: &str =
     "cell,x,y,z,half\n0010384,31031,1032,6033,3034\n0050284,71035,-2036,7037,6038\n";
@@ -201,9 +168,9 @@ enum Asked {
 
 /// The columns of the hydrostatic table from left to right.
 fn hydro_text(alloc: Global, hydro: &Hydro) -> Result<String, Fail> {
-    let (kg, draught, kmt) = (hydro.kg(), hydro.draught(), hydro.kmt());
-    let (lcb, lcf, mct) = (hydro.lcb(), hydro.lcf(), hydro.mct());
-    Ok(format!(in alloc; "{kg:?} {draught:?} {kmt:?} {lcb:?} {lcf:?} {mct:?}")?)
+    let first = [hydro.kg(), hydro.draught(), hydro.kmt()];
+    let last = [hydro.lcb(), hydro.lcf(), hydro.mct()];
+    Ok(format!(in alloc; "{first:?} {last:?}")?)
 }
 
 /// The arguments, each curve, and what stands behind the last.
@@ -299,7 +266,8 @@ static UNLIKE: [(Asked, &str); 19] = [
     (Asked::Cell("0010382"), "None"),
     (
         Asked::Hydro,
-        "[1000039, 2000045] [2040, 4046] [9041, 8047] [45042, 46048] [44043, 43049] [8000044, 9000050]",
+        "[[1000039, 2000045], [2040, 4046], [9041, 8047]] \
+[[45042, 46048], [44043, 43049], [8000044, 9000050]]",
     ),
     (
         Asked::Levers,
@@ -383,38 +351,6 @@ fn no_least_gm_where_there_is_none(rt: HostRuntime) -> Result<(), Fail> {
         ..box_texts()
     };
     check_answers(&rt, &texts, &NO_LEAST_GM)
-}
-
-/// Where a body stands, half of its length, and whether the box ship's extent holds it.
-static BODIES: [(i32, i32, bool); 12] = [
-    (0, 0, true),
-    (100_000, 0, true),
-    (50_000, 50_000, true),
-    (50_000, 50_001, false),
-    (3, 3, true),
-    (2, 3, false),
-    (99_997, 3, true),
-    (99_998, 3, false),
-    (-1, 0, false),
-    (100_001, 0, false),
-    (1_000_000, 1_000_000, false),
-    (-1_000_000, 1_000_000, false),
-];
-
-fn place_along(x: i32, half: i32) -> Option<Place> {
-    let (x, half) = (Mm::new(x)?, Mm::new(half)?);
-    let (y, z) = (Mm::of(0), Mm::of(0));
-    Some(Place { x, y, z, half })
-}
-
-/// A body may reach the first and the last station, and not a millimetre beyond.
-#[test]
-fn extent_holds_its_ends(rt: HostRuntime) -> Result<(), Fail> {
-    for (x, half, want) in &BODIES {
-        let place = place_along(*x, *half).ok_or("a place")?;
-        assert_eq!(rt; extent().holds(&place), *want, "{x} {half}");
-    }
-    Ok(())
 }
 
 static TEXTS: [(TableFault, &str); 13] = [

@@ -52,19 +52,19 @@ pub static CELLS: &str = "cell,x,y,z,half
 0050082,25000,0,10000,3029
 ";
 
-pub static HYDRO: &str = "kg,draught,kmt,lcb,lcf,mct
+static HYDRO: &str = "kg,draught,kmt,lcb,lcf,mct
 4100000,2000,17667,50000,50000,17000000
 8200000,4000,10333,50000,50000,17000000
 12300000,6000,8556,50000,50000,17000000
 ";
 
-pub static KN: &str = "kg,0,5,10,15,20,25,30,35,40,45,50,55,60
+static KN: &str = "kg,0,5,10,15,20,25,30,35,40,45,50,55,60
 4100000,0,900,1790,2650,3470,4230,4900,5400,5750,5980,6110,6150,6110
 8200000,0,900,1790,2650,3470,4230,4900,5400,5750,5980,6110,6150,6110
 12300000,0,900,1790,2650,3470,4230,4900,5400,5750,5980,6110,6150,6110
 ";
 
-pub static BONJEAN: &str = "draught,0,25000,50000,75000,100000
+static BONJEAN: &str = "draught,0,25000,50000,75000,100000
 0,0,0,0,0,0
 8000,1600000,1600000,1600000,1600000,1600000
 ";
@@ -73,9 +73,6 @@ pub static TANKS: &str = "tank,kg,x,y,z,half,fsm
 DB1,0,50000,0,0,5000,0
 DB1,500000,50000,0,1000,5000,2050000000
 ";
-
-/// A table of the least metacentric height.
-pub static GM: &str = "kg,gm\n4100000,150\n12300000,150\n";
 
 /// The keys of a box ship, each with its value.
 static KEYS: [(&str, &str); 10] = [
@@ -214,13 +211,12 @@ pub fn check_value(
     check_ship(rt, ship.as_str(), want, value)
 }
 
-/// The values of a key, each with the words of its fault; none for a value that is taken.
+/// Keys, each with a value and the words of its fault; none for a value that is taken.
 pub fn check_values(
     rt: &(impl Abort + AllocGlobal),
-    key: &str,
-    rows: &[(&str, &str)],
+    rows: &[(&str, &str, &str)],
 ) -> Result<(), Fail> {
-    for (value, want) in rows {
+    for (key, value, want) in rows {
         check_value(rt, key, value, want)?;
     }
     Ok(())

@@ -1,7 +1,6 @@
 //! A whole profile: the order of its files, the fills in its tanks, and the words of its faults.
 use super::files::{
-    BONJEAN, CELLS, GM, HYDRO, KN, SHIP, TANKS, box_files, check_files, check_ship, check_values,
-    check_words, ship_with, words,
+    CELLS, SHIP, TANKS, box_files, check_files, check_ship, check_words, ship_with, words,
 };
 use crate::{File, Key, ProfileBytes, ProfileFault};
 use ship_tables::TableFault;
@@ -11,42 +10,6 @@ use std::test::Fail;
 /// The files of the box ship.
 fn box_ship() -> ProfileBytes<'static> {
     box_files(SHIP, CELLS, TANKS, None)
-}
-
-/// Fills, and the words of their faults: each in turn, an unknown tank, then one that was filled before.
-static FILLS: [(&str, &str); 9] = [
-    ("[{tank = \"DB1\", kg = 1}]", ""),
-    ("[{tank = \"DB2\", kg = 1}]", "P12 1"),
-    ("[{tank = \"\", kg = 1}]", "P12 1"),
-    (
-        "[{tank = \"a name that is far longer than any tank's\", kg = 1}]",
-        "P12 1",
-    ),
-    (
-        "[{tank = \"DB1\", kg = 1}, {tank = \"db1\", kg = 1}]",
-        "P12 2",
-    ),
-    (
-        "[{tank = \"DB1\", kg = 1}, {tank = \"DB1\", kg = 2}]",
-        "P3 fills",
-    ),
-    (
-        "[{tank = \"DB1\", kg = 1}, {tank = \"DB1\", kg = 0}]",
-        "P3 fills",
-    ),
-    (
-        "[{tank = \"DB1\", kg = 1}, {tank = \"DB1\", kg = 2}, {tank = \"DB2\", kg = 1}]",
-        "P3 fills",
-    ),
-    (
-        "[{tank = \"DB1\", kg = 1}, {tank = \"DB2\", kg = 2}, {tank = \"DB1\", kg = 1}]",
-        "P12 2",
-    ),
-];
-
-#[test]
-fn faults_of_fills(rt: HostRuntime) -> Result<(), Fail> {
-    check_values(&rt, "fills", &FILLS)
 }
 
 /// Files, one of them in another form.
@@ -146,24 +109,18 @@ fn fills_and_tables(rt: HostRuntime) -> Result<(), Fail> {
     Ok(())
 }
 
-/// Where a container of 10 mm stands, and the words of its fault.
-static ALONG: [(i32, &str); 4] = [
-    (5, ""),
-    (4, "P10 cells.csv 2"),
-    (99_995, ""),
-    (99_996, "P10 cells.csv 2"),
+/// `cells.csv` of a container of 10 mm at both ends of the ship, and a millimetre beyond each.
+static ENDS: [(&[u8], &str); 4] = [
+    (b"h,h,h,h,h\n0010082,5,0,0,5", ""),
+    (b"h,h,h,h,h\n0010082,4,0,0,5", "P10 cells.csv 2"),
+    (b"h,h,h,h,h\n0010082,99995,0,0,5", ""),
+    (b"h,h,h,h,h\n0010082,99996,0,0,5", "P10 cells.csv 2"),
 ];
-
-fn check_cell(rt: &(impl Abort + AllocGlobal), x: i32, want: &str) -> Result<(), Fail> {
-    let cells = format!(in rt.alloc(); "h,h,h,h,h\n0010082,{x},0,0,5")?;
-    let files = box_files(SHIP, cells.as_str(), TANKS, None);
-    check_files(rt, &files, want, cells.as_str())
-}
 
 #[test]
 fn places_reach_from_the_first_station_to_the_last(rt: HostRuntime) -> Result<(), Fail> {
-    for (x, want) in &ALONG {
-        check_cell(&rt, *x, want)?;
+    for (cells, want) in &ENDS {
+        check_files(&rt, &with_text(box_ship(), File::Cells, cells), want, want)?;
     }
     Ok(())
 }

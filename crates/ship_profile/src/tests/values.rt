@@ -92,7 +92,7 @@ fn unlike_ship() -> ProfileBytes<'static> {
 /// What is asked of a profile.
 #[derive(Clone, Copy)]
 enum Asked {
-    /// Length, angle of down-flooding, and the greatest draught, trim, list and closing error.
+    /// The angle of down-flooding; length, greatest draught and trim; greatest list and closing error.
     Limits,
     Stations,
     Blocks,
@@ -112,9 +112,9 @@ enum Asked {
 
 /// The columns of the hydrostatic table from left to right.
 fn hydro_text(alloc: Global, hydro: &Hydro) -> Result<String, Fail> {
-    let (kg, draught, kmt) = (hydro.kg(), hydro.draught(), hydro.kmt());
-    let (lcb, lcf, mct) = (hydro.lcb(), hydro.lcf(), hydro.mct());
-    Ok(format!(in alloc; "{kg:?} {draught:?} {kmt:?} {lcb:?} {lcf:?} {mct:?}")?)
+    let first = [hydro.kg(), hydro.draught(), hydro.kmt()];
+    let last = [hydro.lcb(), hydro.lcf(), hydro.mct()];
+    Ok(format!(in alloc; "{first:?} {last:?}")?)
 }
 
 /// The arguments, each curve, and what stands behind the last.
@@ -138,10 +138,10 @@ fn least_gm_text(alloc: Global, profile: &Profile) -> Result<String, Fail> {
 }
 
 fn limits_text(alloc: Global, profile: &Profile) -> Result<String, Fail> {
-    let (lbp, angle) = (profile.lbp(), profile.downflooding());
-    let (draught, trim) = (profile.draught_max(), profile.trim_max());
-    let (list, closing) = (profile.list_max(), profile.closing_max());
-    Ok(format!(in alloc; "{lbp:?} {angle} {draught:?} {trim:?} {list} {closing}")?)
+    let angle = profile.downflooding();
+    let lengths = [profile.lbp(), profile.draught_max(), profile.trim_max()];
+    let others = [profile.list_max(), profile.closing_max()];
+    Ok(format!(in alloc; "{angle} {lengths:?} {others:?}")?)
 }
 
 fn place_text(alloc: Global, profile: &Profile, name: &str) -> Result<String, Fail> {
@@ -204,7 +204,7 @@ fn check_answer(
 static UNLIKE: [(Asked, &str); 21] = [
     (
         Asked::Limits,
-        "Mm { mm: 90001 } 41 Mm { mm: 7003 } Mm { mm: 604 } 505 4006",
+        "41 [Mm { mm: 90001 }, Mm { mm: 7003 }, Mm { mm: 604 }] [505, 4006]",
     ),
     (
         Asked::Stations,
@@ -227,7 +227,8 @@ Frame { x: Mm { mm: 51009 }, shear_max: 24024, hog_max: 25025025, sag_max: 26026
     ),
     (
         Asked::Hydro,
-        "[1000039, 2000045] [2040, 4046] [9041, 8047] [45042, 46048] [44043, 43049] [8000044, 9000050]",
+        "[[1000039, 2000045], [2040, 4046], [9041, 8047]] \
+[[45042, 46048], [44043, 43049], [8000044, 9000050]]",
     ),
     (
         Asked::Levers,
