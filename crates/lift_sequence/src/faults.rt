@@ -1,42 +1,57 @@
 ghost use Rattle.std.specs.Prelude.{◌≡◌, ◌≢◌};
 ghost use Rattle.lift_sequence.specs.Arrival.{fault_at};
 
-use thiserror::Error;
+use std::error::Error;
+use std::fmt;
 use units_core::Cell;
 
 /// Why an item, a fill or a step can't be. It prints as its code, S1 to S9.
-#[derive(Clone, Copy, Debug, PartialEq, Eq, Error)]
+#[derive(Clone, Copy, Debug, PartialEq, Eq)]
 pub enum SeqCode {
     /// The ship has no such cell.
-    #[error("S1")]
     UnknownCell,
     /// A container stands in the cell.
-    #[error("S2")]
     CellTaken,
-    /// A container in this other cell wants the same room; it is the one of least bay.
-    #[error("S3")]
+    /// A container in this other cell overlaps; of several, the one of least bay is named.
     Overlap(Cell),
     /// No container stands in the cell.
-    #[error("S4")]
     CellEmpty,
     /// Another container stands in the cell: both identifications are there, and they differ.
-    #[error("S5")]
     WrongContainer,
     /// The table of the tank hasn't this mass.
-    #[error("S6")]
     TankOver,
     /// More than 120,000 steps.
-    #[error("S7")]
     TooManySteps,
-    /// Want of memory.
-    #[error("S8")]
+    /// Out of memory.
     NoMemory,
     /// The ship has no tank of this name.
-    #[error("S9")]
     UnknownTank,
 }
 
-/// An item, a fill or a step that can't be. Each is numbered from 1; want of memory has 0.
+impl fmt::Display for SeqCode {
+    ghost use Rattle.std.specs.Prelude.{Some};
+    ghost use Rattle.lift_sequence.specs.Printed.{seq_code_text};
+
+    ghost output = { λ code. Some (seq_code_text code) };
+
+    fn fmt<W: fmt::Write>(&self, f: &mut fmt::Formatter<W>) -> fmt::Result {
+        f.write_str(match self {
+            SeqCode::UnknownCell => "S1",
+            SeqCode::CellTaken => "S2",
+            SeqCode::Overlap(_) => "S3",
+            SeqCode::CellEmpty => "S4",
+            SeqCode::WrongContainer => "S5",
+            SeqCode::TankOver => "S6",
+            SeqCode::TooManySteps => "S7",
+            SeqCode::NoMemory => "S8",
+            SeqCode::UnknownTank => "S9",
+        })
+    }
+}
+
+impl Error for SeqCode {}
+
+/// An item, a fill or a step that can't be. Each is numbered from 1; out of memory has 0.
 #[derive(Clone, Copy, Debug, PartialEq, Eq)]
 pub struct SeqFault {
     /// Why it can't be.
@@ -45,13 +60,13 @@ pub struct SeqFault {
     pub at: u32,
 }
 
-/// Want of memory.
+/// Out of memory.
 pub const NO_MEMORY: SeqFault = SeqFault {
     code: SeqCode::NoMemory,
     at: 0,
 };
 
-/// The fault of a cause at a number. Want of memory has none.
+/// The fault of a cause at a number. Out of memory has none.
 pub fn fault_at(at: u32, code: SeqCode) -> SeqFault
     ensures code { result.code ≡ code }
     ensures told { code ≢ SeqCode.NoMemory → result ≡ fault_at at code }

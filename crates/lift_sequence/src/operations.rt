@@ -92,7 +92,12 @@ fn ops_of_rows(alloc: Global, lifts: &[Lift], rows: &[StepRow]) -> Result<Vec<Op
 fn ops_of_lifts(alloc: Global, lifts: Vec<Lift>) -> Result<Vec<Op>, AllocError>
     ensures { IfOk result (λ ops. ops.items ≡ ops_of lifts.items None) }
 {
-    lifts.into_iter().map(Op::Lift).collect(alloc)
+    // `collect` would try a growth that was refused once more, and a step less at a time.
+    let mut ops = Vec::new(alloc);
+    for lift in lifts {
+        ops.push(Op::Lift(lift))?;
+    }
+    Ok(ops)
 }
 
 /// The steps of a sequence: those that the rows of a steps file order, where there is one, and else the lifts of the movement

@@ -1,4 +1,5 @@
 mod arrivals;
+mod faults;
 mod operations;
 mod orders;
 mod sequences;
