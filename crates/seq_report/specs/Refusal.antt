@@ -6,10 +6,16 @@ use Rattle.stow_messages.specs.Steps as steps
 use Rattle.stow_messages.specs.declared.items.Item.{Item}
 use Rattle.stow_messages.specs.declared.lifts.Lift as lift
 use Rattle.stow_messages.specs.declared.step_rows.StepRow.{StepRow}
+use Rattle.stow_messages.specs.declared.faults.StowCode.{StowCode}
 use Rattle.stow_messages.specs.declared.faults.StowCode.TheVariants as stow
+use Rattle.stow_messages.specs.declared.faults.StowFault.{StowFault}
+use Rattle.stow_messages.specs.declared.step_faults.StepsCode.{StepsCode}
 use Rattle.stow_messages.specs.declared.step_faults.StepsCode.TheVariants as rows
+use Rattle.stow_messages.specs.declared.step_faults.StepsFault.{StepsFault}
 use Rattle.ship_profile.specs.Record.{ProfileRecord, texts_of, record_of}
+use Rattle.ship_profile.specs.declared.faults.ProfileFault.{ProfileFault}
 use Rattle.ship_profile.specs.declared.faults.ProfileFault.TheVariants as profile
+use Rattle.lift_sequence.specs.declared.faults.SeqCode.{SeqCode}
 use Rattle.lift_sequence.specs.declared.faults.SeqCode.TheVariants as seq
 use Rattle.lift_sequence.specs.declared.faults.SeqFault.{SeqFault}
 use Rattle.lift_sequence.specs.declared.operations.Op.{Op}
@@ -31,6 +37,38 @@ Err e >>= f = Err e
 abbrev pub refused_as : {A E : Type 0} → (E → RunFault) → Result A E → Result A RunFault
 refused_as fault (Ok a) = Ok a
 refused_as fault (Err e) = Err (fault e)
+
+-- A refusal of each input as one of the run: out of memory stands for itself, and never inside another refusal.
+abbrev pub profile_refusal : ProfileFault → RunFault
+profile_refusal profile.NoMemory = NoMemory
+profile_refusal fault = Profile fault
+
+abbrev pub by_stow_code : RunFault → StowCode → RunFault
+by_stow_code refusal stow.NoMemory = NoMemory
+by_stow_code refusal code = refusal
+
+abbrev pub baplie_refusal : StowFault → RunFault
+baplie_refusal fault = by_stow_code (Baplie fault) fault.code
+
+abbrev pub movins_refusal : StowFault → RunFault
+movins_refusal fault = by_stow_code (Movins fault) fault.code
+
+abbrev pub by_seq_code : RunFault → SeqCode → RunFault
+by_seq_code refusal seq.NoMemory = NoMemory
+by_seq_code refusal code = refusal
+
+abbrev pub arrival_refusal : SeqFault → RunFault
+arrival_refusal fault = by_seq_code (Arrival fault) fault.code
+
+abbrev pub sequence_refusal : SeqFault → RunFault
+sequence_refusal fault = by_seq_code (Sequence fault) fault.code
+
+abbrev pub by_steps_code : RunFault → StepsCode → RunFault
+by_steps_code refusal rows.NoMemory = NoMemory
+by_steps_code refusal code = refusal
+
+abbrev pub steps_refusal : StepsFault → RunFault
+steps_refusal fault = by_steps_code (Steps fault) fault.code
 
 -- this, unless there is a fault
 abbrev pub unless : {A : Type 0} → (SeqFault → RunFault) → Option SeqFault → A → Result A RunFault
@@ -109,7 +147,7 @@ is_refusal NoMemory = false
 is_refusal (Write written) = false
 is_refusal fault = true
 
--- want of memory stands for itself, and never inside the refusal of an input
+-- out of memory stands for itself, and never inside the refusal of an input
 abbrev pub TellsMemory : RunFault → Type 0
 TellsMemory (Profile fault) = fault ≢ profile.NoMemory
 TellsMemory (Baplie fault) = fault.code ≢ stow.NoMemory

@@ -1,11 +1,15 @@
+ghost use Rattle.std.specs.Prelude.{◌≡◌};
+ghost use Rattle.seq_report.specs.Printed.{thing_of};
+
+use crate::lifts::CellText;
 use lift_sequence::{SeqCode, SeqFault};
 use ship_profile::ProfileFault;
 use std::error::Error;
 use std::fmt;
 use stow_messages::{StepsFault, StowFault};
 
-/// Why a run gives no report. The inputs are checked in the order of the first six. It prints as the code of the cause, with what it
-/// says further and where it was found.
+/// Why a run gives no report. The inputs are checked in the order of the first six. It prints as the code of the input, that of its
+/// fault, and the place.
 #[derive(Clone, Copy, Debug, PartialEq, Eq)]
 pub enum RunFault {
     /// F1: the ship's profile is refused.
@@ -20,31 +24,42 @@ pub enum RunFault {
     Steps(StepsFault),
     /// F5: a step can't be done where it comes, or there are too many.
     Sequence(SeqFault),
-    /// F7: want of memory; nothing was written.
+    /// F7: out of memory; nothing was written.
     NoMemory,
     /// F8: the sink failed, once it held so many bytes of the report.
     Write(usize),
 }
 
-/// Writes the code of a fault and what it was found at: the thing and its number, and the other cell of two that want the same room.
-fn write_place<W: fmt::Write>(
-    f: &mut fmt::Formatter<W>,
+/// The code of a fault, the thing at which it was found, and its number; of two cells that overlap also the other cell.
+#[derive(Clone, Copy)]
+struct Placed<'a> {
+    thing: &'a str,
     fault: SeqFault,
-    thing: &str,
-) -> fmt::Result {
-    let SeqFault { code, at } = fault;
-    write!(f, "{code} {thing} {at}")?;
-    match code {
-        SeqCode::Overlap(cell) => {
-            let (bay, row, tier) = (cell.bay, cell.row, cell.tier);
-            write!(f, " cell {bay:03}{row:02}{tier:02}")
+}
+
+impl<'a> fmt::Display for Placed<'a> {
+    ghost use Rattle.std.specs.Prelude.{Some};
+    ghost use Rattle.seq_report.specs.Printed.{placed_text};
+
+    ghost output = { λ p. Some (placed_text p.thing.now p.fault) };
+
+    fn fmt<W: fmt::Write>(&self, f: &mut fmt::Formatter<W>) -> fmt::Result {
+        let thing = self.thing;
+        let SeqFault { code, at } = self.fault;
+        match code {
+            SeqCode::Overlap(cell) => {
+                let rival = CellText(cell);
+                write!(f, "{code} {thing} {at} cell {rival}")
+            }
+            _ => write!(f, "{code} {thing} {at}"),
         }
-        _ => Ok(()),
     }
 }
 
 /// What a fault of the arrival was found at: a fill of the ship's tanks, or an item of the bay plan.
-fn thing_of(code: SeqCode) -> &'static str {
+fn thing_of(code: SeqCode) -> &'static str
+    ensures { result.now ≡ thing_of code }
+{
     match code {
         SeqCode::TankOver => "fill",
         _ => "item",
@@ -52,19 +67,28 @@ fn thing_of(code: SeqCode) -> &'static str {
 }
 
 impl fmt::Display for RunFault {
+    ghost use Rattle.std.specs.Prelude.{Some};
+    ghost use Rattle.seq_report.specs.Printed.{run_fault_text};
+
+    ghost output = { λ fault. Some (run_fault_text fault) };
+
     fn fmt<W: fmt::Write>(&self, f: &mut fmt::Formatter<W>) -> fmt::Result {
         match *self {
             RunFault::Profile(fault) => write!(f, "F1 {fault}"),
             RunFault::Baplie(fault) => write!(f, "F2 {fault}"),
             RunFault::Arrival(fault) => {
-                f.write_str("F3 ")?;
-                write_place(f, fault, thing_of(fault.code))
+                let thing = thing_of(fault.code);
+                let placed = Placed { thing, fault };
+                write!(f, "F3 {placed}")
             }
             RunFault::Movins(fault) => write!(f, "F4 {fault}"),
             RunFault::Steps(fault) => write!(f, "F9 {fault}"),
             RunFault::Sequence(fault) => {
-                f.write_str("F5 ")?;
-                write_place(f, fault, "step")
+                let placed = Placed {
+                    thing: "step",
+                    fault,
+                };
+                write!(f, "F5 {placed}")
             }
             RunFault::NoMemory => f.write_str("F7"),
             RunFault::Write(written) => write!(f, "F8 {written}"),

@@ -4,10 +4,14 @@ ghost use Rattle.lift_sequence.specs.Sequence.{IsOf, sequence_fault};
 ghost use Rattle.seq_report.specs.Refusal.{TellsMemory, arrival_in, is_write, items_in, lifts_in, orders_in, orders_on, rows_of, sequence_in, ship_in};
 
 use crate::faults::RunFault;
-use lift_sequence::{Arrival, Op, SeqCode, Sequence, ops};
-use ship_profile::{Profile, ProfileBytes, ProfileFault};
+use crate::refusals::{
+    arrival_refusal, baplie_refusal, movins_refusal, profile_refusal, sequence_refusal,
+    steps_refusal,
+};
+use lift_sequence::{Arrival, Op, Sequence, ops};
+use ship_profile::{Profile, ProfileBytes};
 use std::alloc::{AllocError, Global};
-use stow_messages::{Item, Lift, StepRow, StepsCode, StowCode, baplie, movins, steps};
+use stow_messages::{Item, Lift, StepRow, baplie, movins, steps};
 
 /// The texts that a run reads. Without a steps file the steps are the lifts of the movement instruction, in their order.
 #[derive(Clone, Copy)]
@@ -31,8 +35,7 @@ pub fn ship(alloc: Global, inputs: &Inputs<'_>) -> Result<Profile, RunFault>
 {
     match Profile::read(alloc, &inputs.profile) {
         Ok(profile) => Ok(profile),
-        Err(ProfileFault::NoMemory) => Err(RunFault::NoMemory),
-        Err(fault) => Err(RunFault::Profile(fault)),
+        Err(fault) => Err(profile_refusal(fault)),
     }
 }
 
@@ -45,8 +48,7 @@ pub fn items(alloc: Global, inputs: &Inputs<'_>) -> Result<Vec<Item>, RunFault>
 {
     match baplie(alloc, inputs.baplie) {
         Ok(items) => Ok(items),
-        Err(fault) if fault.code == StowCode::NoMemory => Err(RunFault::NoMemory),
-        Err(fault) => Err(RunFault::Baplie(fault)),
+        Err(fault) => Err(baplie_refusal(fault)),
     }
 }
 
@@ -60,8 +62,7 @@ pub fn arrival(alloc: Global, profile: &Profile, items: Vec<Item>) -> Result<Arr
 {
     match Arrival::new(alloc, profile, items, profile.fills()) {
         Ok(arrival) => Ok(arrival),
-        Err(fault) if fault.code == SeqCode::NoMemory => Err(RunFault::NoMemory),
-        Err(fault) => Err(RunFault::Arrival(fault)),
+        Err(fault) => Err(arrival_refusal(fault)),
     }
 }
 
@@ -75,8 +76,7 @@ fn lifts(alloc: Global, inputs: &Inputs<'_>) -> Result<Vec<Lift>, RunFault>
 {
     match movins(alloc, inputs.movins) {
         Ok(lifts) => Ok(lifts),
-        Err(fault) if fault.code == StowCode::NoMemory => Err(RunFault::NoMemory),
-        Err(fault) => Err(RunFault::Movins(fault)),
+        Err(fault) => Err(movins_refusal(fault)),
     }
 }
 
@@ -92,8 +92,7 @@ fn rows(alloc: Global, text: Option<&[u8]>, lifts: u32) -> Result<Option<Vec<Ste
     };
     match steps(alloc, text, lifts) {
         Ok(rows) => Ok(Some(rows)),
-        Err(fault) if fault.code == StepsCode::NoMemory => Err(RunFault::NoMemory),
-        Err(fault) => Err(RunFault::Steps(fault)),
+        Err(fault) => Err(steps_refusal(fault)),
     }
 }
 
@@ -140,7 +139,6 @@ pub fn sequence(
 {
     match Sequence::new(alloc, profile, arrival, ops) {
         Ok(sequence) => Ok(sequence),
-        Err(fault) if fault.code == SeqCode::NoMemory => Err(RunFault::NoMemory),
-        Err(fault) => Err(RunFault::Sequence(fault)),
+        Err(fault) => Err(sequence_refusal(fault)),
     }
 }

@@ -9,6 +9,7 @@ mod floating;
 mod inputs;
 mod lifts;
 mod lines;
+mod refusals;
 mod runs;
 mod sink;
 mod steps;
@@ -18,6 +19,7 @@ pub use criteria::Criterion;
 pub use drafts::Summary;
 pub use faults::RunFault;
 pub use inputs::Inputs;
+pub use lifts::shown;
 pub use runs::report;
 pub use sink::{Sink, SinkFailed, Through};
 

@@ -3,20 +3,37 @@ ghost use Rattle.seq_report.specs.Lifts.{cell_text, lift_text, op_text, shown};
 
 use lift_sequence::Op;
 use std::alloc::AllocError;
+use std::fmt;
 use std::fmt::Write;
 use stow_messages::Lift;
 use units_core::Cell;
+
+/// A cell that prints as its seven digits.
+#[derive(Clone, Copy)]
+pub struct CellText(pub Cell);
+
+impl fmt::Display for CellText {
+    ghost use Rattle.std.specs.Prelude.{Some};
+    ghost use Rattle.seq_report.specs.Lifts.{cell_text};
+
+    ghost output = { λ c. Some (cell_text c.0) };
+
+    fn fmt<W: fmt::Write>(&self, f: &mut fmt::Formatter<W>) -> fmt::Result {
+        let Cell { bay, row, tier } = self.0;
+        write!(f, "{bay:03}{row:02}{tier:02}")
+    }
+}
 
 /// Writes a cell in its seven digits.
 fn write_cell(text: &mut String, cell: Cell) -> Result<(), AllocError>
     ensures { OnOk result (string_bytes text.new ≡ string_bytes text.old ++ cell_text cell) }
 {
-    let Cell { bay, row, tier } = cell;
-    write!(text, "{bay:03}{row:02}{tier:02}")
+    let digits = CellText(cell);
+    write!(text, "{digits}")
 }
 
 /// A byte of a name as it can be printed: a question mark stands for a blank, and for what is no visible character.
-fn shown(byte: u8) -> u8
+pub fn shown(byte: u8) -> u8
     ensures { result ≡ shown byte }
 {
     if byte.is_ascii_graphic() { byte } else { b'?' }

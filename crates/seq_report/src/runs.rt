@@ -101,8 +101,8 @@ fn report_on_inputs(alloc: Global, inputs: &Inputs<'_>) -> Result<Finished, RunF
 /// up everything that is aboard at that step; and the first step that fails, with its first criterion.
 ///
 /// The inputs are refused in the order profile (F1), bay plan (F2), arrival (F3), movement instruction (F4), steps file
-/// (F9), sequence (F5), and nothing is written then, nor for want of memory (F7), which may stand for any refusal. Where
-/// the sink fails, what it took is the front of the report, of the length that F8 says.
+/// (F9), sequence (F5), and nothing is written then, nor out of memory (F7), which may stand for any refusal. Where
+/// the sink fails, it holds a prefix of the report, of the length that F8 says.
 pub fn report<S: Sink>(
     alloc: Global,
     inputs: &Inputs<'_>,

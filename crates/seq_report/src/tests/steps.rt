@@ -211,13 +211,19 @@ fn first_failing_step(rt: HostRuntime) -> Result<(), Fail> {
     Ok(())
 }
 
-// A blank in the name of a tank would split the line.
+// A blank in the name of a tank would split the line, and a control character might not be seen: the visible ones are 33 to 126.
 #[test]
-fn blank_in_a_name(rt: HostRuntime) -> Result<(), Fail> {
-    let mut name = ArrayVec::new();
-    let _ = name.try_extend_from_slice(b"DB 1");
-    let mut text = String::new(rt.alloc());
-    write_lift(&mut text, Some(&Op::Fill { name, kg: 5 }))?;
-    assert_eq!(rt; text.as_str(), "TDB?1");
+fn names_of_tanks(rt: HostRuntime) -> Result<(), Fail> {
+    for (bytes, shown) in [
+        (b"DB 1".as_slice(), "TDB?1"),
+        (b"\x20\x21\x7e\x7f", "T?!~?"),
+        (b"\x1f\x80\xff\n", "T????"),
+    ] {
+        let mut name = ArrayVec::new();
+        let _ = name.try_extend_from_slice(bytes);
+        let mut text = String::new(rt.alloc());
+        write_lift(&mut text, Some(&Op::Fill { name, kg: 5 }))?;
+        assert_eq!(rt; text.as_str(), shown);
+    }
     Ok(())
 }
