@@ -1,4 +1,7 @@
+pub mod Arguments
+pub mod Files
 pub mod Lines
 pub mod Promised
+pub mod Runs
 pub mod Statuses
 pub mod Words

@@ -8,9 +8,9 @@ use Rattle.clap.specs.declared.builder.ArgAction.TheVariants.{Set}
 abbrev pub positional : Text → Rule
 positional name = record (new_rule name) { required = true; action = Some Set }
 
--- an option that takes one word, by its name behind two dashes
+-- an option that takes one word, by its name behind two dashes; help has one name for that word
 abbrev pub option_of : Text → Rule
-option_of name = record (new_rule name) { long = Some name; action = Some Set }
+option_of name = record (new_rule name) { long = Some name; action = Some Set; value_names = 1 }
 
 -- a command that is handed the words behind its name
 abbrev pub without_name : App → App

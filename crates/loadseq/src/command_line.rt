@@ -1,10 +1,11 @@
 ghost use Rattle.std.specs.Prelude.{◌≡◌, ◌≢◌, [], IfOk, IfErr, true, false, map, codes};
-ghost use Rattle.clap.specs.Words.{app_of, takes, fault_of, matches_of, rows_of, rule_of, found_of, kind_of, IsParsedFrom};
+ghost use Rattle.clap.specs.Words.{app_of, args_of, groups_of, new_app, takes, fault_of, matches_of, rows_of, rule_of, found_of, kind_of, IsParsedFrom};
 ghost use Rattle.clap.specs.Built.{TakesValue, IsPlainArg};
+ghost use Rattle.clap.specs.declared.builder.command.Command.TheViews.{out-Command as fields_of};
 ghost use Rattle.clap.specs.declared.parser.matches.ArgMatches.{ArgMatches};
 ghost use Rattle.loadseq.specs.Lines.{IsLineOf, IsUsage, IsLineBehind, IsNotTaken};
 ghost use Rattle.loadseq.specs.Promised.{HasWords};
-ghost use Rattle.loadseq.specs.Words.{check_command, positional, option_of, behind_name};
+ghost use Rattle.loadseq.specs.Words.{check_command, positional, option_of, behind_name, without_name};
 
 use clap::error::ErrorKind;
 use clap::{Arg, ArgAction, ArgMatches, Command};
@@ -27,36 +28,67 @@ pub struct Line<'a> {
 /// Why words are no command line.
 #[derive(Debug, Drop, Error)]
 pub enum LineFault {
-    /// The words are wrong, or ask for help; the text says what may be written.
+    /// A usage error, or a call for help; the text is the usage text.
     #[error("{0}")]
     Usage(String),
-    /// Want of memory.
+    /// Out of memory.
     #[error("no memory")]
     NoMemory,
 }
 
-/// What is said where the words aren't had, or the first is no command.
+/// The usage text where the first word is no command.
 const USAGE: &str = "usage: loadseq check FOLDER BAPLIE MOVINS [--steps FILE]";
 
-/// A word that has to be there.
-fn word<'a>(alloc: Global, name: &'a str) -> Arg<'a>
+/// What help says of the command, of each of its words, and of its option.
+const ABOUT_CHECK: &str =
+    "Writes one line for each step, with a verdict, and the first step that fails";
+
+const ABOUT_FOLDER: &str = "The folder of the ship's profile: ship.toml and her tables";
+
+const ABOUT_BAPLIE: &str = "The bay plan on arrival (BAPLIE, directory D.95B)";
+
+const ABOUT_MOVINS: &str = "The movement instruction (MOVINS, directory D.95B)";
+
+const ABOUT_STEPS: &str =
+    "The order of the steps: lifts, fillings of tanks and restows (CSV); without it the order of the movement instruction";
+
+/// A word that has to be there, with its meaning.
+fn word<'a>(alloc: Global, name: &'a str, meaning: &'a str) -> Arg<'a>
     ensures rule { rule_of result ≡ positional name.entry.now }
     ensures id { result.id ≡ name.entry }
     ensures plain { IsPlainArg result }
     ensures one { result.global ≡ false }
     ensures value { TakesValue result }
 {
-    Arg::new(alloc, name).required(true).action(ArgAction::Set)
+    Arg::new(alloc, name)
+        .required(true)
+        .action(ArgAction::Set)
+        .help(meaning)
 }
 
-/// An option that takes one word, by this name behind two dashes.
-fn option<'a>(alloc: Global, name: &'a str) -> Arg<'a>
+/// An option that names a file, by its own name behind two dashes, with its meaning.
+fn option<'a>(alloc: Global, name: &'a str, about: &'a str) -> Arg<'a>
     ensures rule { rule_of result ≡ option_of name.entry.now }
     ensures id { result.id ≡ name.entry }
     ensures plain { IsPlainArg result }
     ensures one { result.global ≡ false }
 {
-    Arg::new(alloc, name).long(name).action(ArgAction::Set)
+    Arg::new(alloc, name)
+        .long(name)
+        .value_name("FILE")
+        .action(ArgAction::Set)
+        .help(about)
+}
+
+/// A command with its meaning, which is handed the words behind its name, and takes none yet.
+fn command<'a>(alloc: Global, name: &'a str, about: &'a str) -> Command<'a>
+    ensures app { app_of result ≡ without_name (new_app name.entry.now) }
+    ensures args { args_of result ≡ [] }
+    ensures groups { groups_of result ≡ [] }
+    ensures local { (fields_of result).has_globals ≡ false }
+    ensures negates { (fields_of result).subcommand_negates_reqs ≡ false }
+{
+    Command::new(alloc, name).about(about).no_binary_name(true)
 }
 
 /// The command `check`.
@@ -64,12 +96,11 @@ fn check<'a>(alloc: Global) -> Result<Command<'a>, AllocError>
     ensures app { IfOk result (λ c. app_of c ≡ check_command) }
     ensures promises { IfOk result (λ c. (m : ArgMatches) → IsParsedFrom c m → HasWords m) }
 {
-    Command::new(alloc, "loadseq check")
-        .no_binary_name(true)
-        .arg(word(alloc, "FOLDER"))?
-        .arg(word(alloc, "BAPLIE"))?
-        .arg(word(alloc, "MOVINS"))?
-        .arg(option(alloc, "steps"))
+    command(alloc, "loadseq check", ABOUT_CHECK)
+        .arg(word(alloc, "FOLDER", ABOUT_FOLDER))?
+        .arg(word(alloc, "BAPLIE", ABOUT_BAPLIE))?
+        .arg(word(alloc, "MOVINS", ABOUT_MOVINS))?
+        .arg(option(alloc, "steps", ABOUT_STEPS))
 }
 
 /// What `clap` makes of the words behind `check`.
@@ -83,7 +114,7 @@ fn check_matches<'a>(alloc: Global, words: &'a [&'a str]) -> Result<ArgMatches<'
     command.try_get_matches_from(words)
 }
 
-/// The refusal of words, with this text.
+/// A usage error with this text.
 fn usage(alloc: Global, text: &str) -> LineFault {
     match String::from_str(alloc, text) {
         Ok(text) => LineFault::Usage(text),
@@ -91,12 +122,12 @@ fn usage(alloc: Global, text: &str) -> LineFault {
     }
 }
 
-/// The refusal of words that aren't had, or whose first is no command.
-pub fn no_command(alloc: Global) -> LineFault {
+/// The usage error of words whose first is no command.
+fn no_command(alloc: Global) -> LineFault {
     usage(alloc, USAGE)
 }
 
-/// The refusal of words that `clap` refuses.
+/// The usage error that `clap` gives.
 fn refused(alloc: Global, error: &clap::Error) -> LineFault
     ensures { IsUsage result → kind_of error.now ≢ ErrorKind.OutOfMemory }
 {

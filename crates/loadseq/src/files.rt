@@ -1,4 +1,6 @@
-ghost use Rattle.std.specs.Prelude.{◌≡◌, ◌≤◌, ℕ, IfOk, IfSome, length, vec_len};
+ghost use Rattle.std.specs.Prelude.{◌≡◌, ◌≢◌, ◌≤◌, ℕ, List, IfOk, IfErr, IfSome, length, vec_len};
+ghost use Rattle.loadseq.specs.Files.{Known, RemainsOf};
+ghost use Rattle.loadseq.specs.Files.Known.{Nothing};
 
 use std::alloc::Global;
 use std::fs;
@@ -8,14 +10,14 @@ use std::rt::Files;
 /// The greatest number of bytes that a file may have, 64 MiB.
 pub const LIMIT: usize = 67_108_864;
 
-/// Why a file isn't read.
+/// Why a file can't be read.
 #[derive(Clone, Copy, Debug, PartialEq, Eq)]
 pub enum Unopened {
     /// There is none of that name.
     Missing,
     /// It can't be opened or read, or is longer than [`LIMIT`].
     Failed,
-    /// Want of memory.
+    /// Out of memory.
     NoMemory,
 }
 
@@ -23,8 +25,14 @@ pub enum Unopened {
 pub trait Readers {
     type File: Read + Drop;
 
-    /// Opens a file.
-    fn file(&mut self, name: &str) -> Result<Self::File, Unopened>;
+    // What is known of the file of each name.
+    ghost known: { Self → List ℕ → Known };
+
+    /// Opens a file. A file that is known to be there is never answered as missing.
+    fn file(&mut self, name: &str) -> Result<Self::File, Unopened>
+        ensures opened { IfOk result (λ file. RemainsOf (known self.old name.now) (Self.File.remaining file)) }
+        ensures missing { IfErr result (λ e. e ≡ Unopened.Missing → known self.old name.now ≡ Nothing) }
+        ensures same { known self.new ≡ known self.old };
 }
 
 /// The files of the system.
@@ -43,6 +51,9 @@ impl<'a, R: Files> Disk<'a, R> {
 impl<'a, R: Files> Readers for Disk<'a, R> {
     type File = R::File;
 
+    // What a disk holds is beyond any contract.
+    ghost known = { λ _ _. Nothing };
+
     fn file(&mut self, name: &str) -> Result<R::File, Unopened> {
         match fs::open(self.rt, name) {
             Ok(file) => Ok(file),
@@ -59,6 +70,7 @@ impl<'a, R: Files> Readers for Disk<'a, R> {
 pub fn whole<F: Read + Drop>(alloc: Global, file: F) -> Result<Vec<u8>, Unopened>
     ensures all { IfOk result (λ v. IfSome (F.remaining file) (λ bytes. v.items ≡ bytes)) }
     ensures limit { IfOk result (λ v. vec_len v ≤ 67108864) }
+    ensures there { IfErr result (λ e. e ≢ Unopened.Missing) }
 {
     let mut bytes = Vec::new(alloc);
     match file.take(LIMIT as u64 + 1).read_to_end(&mut bytes) {

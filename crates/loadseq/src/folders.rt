@@ -1,33 +1,61 @@
-ghost use Rattle.std.specs.Prelude.{◌≡◌, option_map};
+ghost use Rattle.std.specs.Prelude.{◌≡◌, ◌≢◌, IfOk, IfErr, option_map, string_bytes};
+ghost use Rattle.ship_profile.specs.Record.{texts_of};
+ghost use Rattle.loadseq.specs.Files.{AreShipTexts, AreTexts, IsTextIfNamed, IsTextIfThere, IsTextOf, path_in, texts_in};
+ghost use Rattle.loadseq.specs.Files.Known.{Nothing};
+ghost use Rattle.loadseq.specs.Statuses.{IsUnread, name_shown};
 
 use crate::command_line::Line;
 use crate::files::{Readers, Unopened, whole};
 use crate::stops::Stop;
-use seq_report::Inputs;
+use seq_report::{Inputs, shown};
 use ship_profile::ProfileBytes;
-use std::alloc::Global;
+use std::alloc::{AllocError, Global};
+use std::marker::Model;
 
-/// The bytes of the file of this name, or why they aren't had.
-fn read_file<R: Readers>(alloc: Global, files: &mut R, name: &str) -> Result<Vec<u8>, Unopened> {
-    match files.file(name) {
-        Ok(file) => whole(alloc, file),
-        Err(unopened) => Err(unopened),
-    }
+/// The bytes of the file of this name, or why it can't be read.
+fn read_file<R: Readers>(alloc: Global, files: &mut R, name: &str) -> Result<Vec<u8>, Unopened>
+    ensures text { IfOk result (λ v. IsTextOf (R.known files.old name.now) v.items) }
+    ensures missing { IfErr result (λ e. e ≡ Unopened.Missing → R.known files.old name.now ≡ Nothing) }
+    ensures same { R.known files.new ≡ R.known files.old }
+{
+    let file = files.file(name)?;
+    whole(alloc, file)
 }
 
-/// What ends the run where the file of this name isn't read.
-fn stop(alloc: Global, name: &str, unopened: Unopened) -> Stop {
+/// A name on one line, whatever bytes it has.
+fn shown_name(alloc: Global, name: &str) -> Result<String, AllocError>
+    ensures { IfOk result (λ text. string_bytes text ≡ name_shown name.now) }
+{
+    if name.is_empty() {
+        return String::from_str(alloc, "(empty name)");
+    }
+    let mut text = String::new(alloc);
+    for byte in name.as_bytes() {
+        text.push(char::from(shown(*byte)))?;
+    }
+    Ok(text)
+}
+
+/// What ends the run where the file of this name can't be read.
+fn stop(alloc: Global, name: &str, unopened: Unopened) -> Stop
+    ensures unread { IsUnread result }
+    ensures named { (text : _) → result ≡ Stop.Read text → string_bytes text ≡ name_shown name.now }
+{
     match unopened {
         Unopened::NoMemory => Stop::NoMemory,
-        Unopened::Missing | Unopened::Failed => match String::from_str(alloc, name) {
+        Unopened::Missing | Unopened::Failed => match shown_name(alloc, name) {
             Ok(name) => Stop::Read(name),
-            Err(_) => Stop::NoMemory,
+            Err(AllocError) => Stop::NoMemory,
         },
     }
 }
 
 /// The bytes of the file of this name.
-fn bytes_of<R: Readers>(alloc: Global, files: &mut R, name: &str) -> Result<Vec<u8>, Stop> {
+fn bytes_of<R: Readers>(alloc: Global, files: &mut R, name: &str) -> Result<Vec<u8>, Stop>
+    ensures text { IfOk result (λ v. IsTextOf (R.known files.old name.now) v.items) }
+    ensures unread { IfErr result IsUnread }
+    ensures same { R.known files.new ≡ R.known files.old }
+{
     match read_file(alloc, files, name) {
         Ok(bytes) => Ok(bytes),
         Err(unopened) => Err(stop(alloc, name, unopened)),
@@ -40,7 +68,11 @@ fn bytes_in<R: Readers>(
     files: &mut R,
     folder: &str,
     name: &str,
-) -> Result<Vec<u8>, Stop> {
+) -> Result<Vec<u8>, Stop>
+    ensures text { IfOk result (λ v. IsTextOf (R.known files.old (path_in folder.now name.now)) v.items) }
+    ensures unread { IfErr result IsUnread }
+    ensures same { R.known files.new ≡ R.known files.old }
+{
     let path = format!(in alloc; "{folder}/{name}")?;
     bytes_of(alloc, files, path.as_str())
 }
@@ -51,7 +83,11 @@ fn bytes_if_there<R: Readers>(
     files: &mut R,
     folder: &str,
     name: &str,
-) -> Result<Option<Vec<u8>>, Stop> {
+) -> Result<Option<Vec<u8>>, Stop>
+    ensures text { IfOk result (λ v. IsTextIfThere (R.known files.old (path_in folder.now name.now)) (option_map (λ t. t.items) v)) }
+    ensures unread { IfErr result IsUnread }
+    ensures same { R.known files.new ≡ R.known files.old }
+{
     let path = format!(in alloc; "{folder}/{name}")?;
     match read_file(alloc, files, path.as_str()) {
         Ok(bytes) => Ok(Some(bytes)),
@@ -72,16 +108,29 @@ struct Folder {
     gm: Option<Vec<u8>>,
 }
 
+impl Model for Folder {
+    ghost use Rattle.std.specs.Prelude.{option_map};
+    ghost use Rattle.ship_profile.specs.Record.{Texts as ProfileTexts};
+
+    ghost Value = { ProfileTexts };
+
+    ghost view = { λ f. record {
+      ship = f.ship.items;
+      tables = record {
+        cells = f.cells.items;
+        hydro = f.hydro.items;
+        levers = f.kn.items;
+        bonjean = f.bonjean.items;
+        tanks = f.tanks.items;
+        least_gm = option_map (λ text. text.items) f.gm;
+      };
+    } };
+}
+
 impl Folder {
     /// The texts of the files, each as that of its file.
     fn texts(&self) -> ProfileBytes<'_>
-        ensures ship { result.ship.now ≡ self.now.ship.items }
-        ensures cells { result.cells.now ≡ self.now.cells.items }
-        ensures hydro { result.hydro.now ≡ self.now.hydro.items }
-        ensures kn { result.kn.now ≡ self.now.kn.items }
-        ensures bonjean { result.bonjean.now ≡ self.now.bonjean.items }
-        ensures tanks { result.tanks.now ≡ self.now.tanks.items }
-        ensures gm { option_map (λ text. text.now) result.gm ≡ option_map (λ text. text.items) self.now.gm }
+        ensures { texts_of result ≡ self.now }
     {
         ProfileBytes {
             ship: &self.ship,
@@ -95,8 +144,12 @@ impl Folder {
     }
 }
 
-/// Reads the files of a ship's profile in their order. The first that isn't read ends the run; only `gm.csv` may be missing.
-fn read_folder<R: Readers>(alloc: Global, files: &mut R, folder: &str) -> Result<Folder, Stop> {
+/// Reads the files of a ship's profile in their order. The first that can't be read ends the run; only `gm.csv` may be missing.
+fn read_folder<R: Readers>(alloc: Global, files: &mut R, folder: &str) -> Result<Folder, Stop>
+    ensures texts { IfOk result (AreShipTexts (R.known files.old) folder.now) }
+    ensures unread { IfErr result IsUnread }
+    ensures same { R.known files.new ≡ R.known files.old }
+{
     let ship = bytes_in(alloc, files, folder, "ship.toml")?;
     let cells = bytes_in(alloc, files, folder, "cells.csv")?;
     let hydro = bytes_in(alloc, files, folder, "hydro.csv")?;
@@ -120,7 +173,11 @@ fn bytes_if_given<R: Readers>(
     alloc: Global,
     files: &mut R,
     name: Option<&str>,
-) -> Result<Option<Vec<u8>>, Stop> {
+) -> Result<Option<Vec<u8>>, Stop>
+    ensures text { IfOk result (λ v. IsTextIfNamed (R.known files.old) (option_map (λ n. n.now) name.entry) (option_map (λ t. t.items) v)) }
+    ensures unread { IfErr result IsUnread }
+    ensures same { R.known files.new ≡ R.known files.old }
+{
     match name {
         Some(name) => Ok(Some(bytes_of(alloc, files, name)?)),
         None => Ok(None),
@@ -136,19 +193,24 @@ pub struct Texts {
     steps: Option<Vec<u8>>,
 }
 
+impl Model for Texts {
+    ghost use Rattle.std.specs.Prelude.{option_map};
+    ghost use Rattle.loadseq.specs.Files.{RunTexts};
+
+    ghost Value = { RunTexts };
+
+    ghost view = { λ t. record {
+      profile = t.folder;
+      baplie = t.baplie.items;
+      movins = t.movins.items;
+      steps = option_map (λ text. text.items) t.steps;
+    } };
+}
+
 impl Texts {
     /// What the report is made of: each text as that of its file.
     pub fn inputs(&self) -> Inputs<'_>
-        ensures ship { result.profile.ship.now ≡ self.now.folder.ship.items }
-        ensures cells { result.profile.cells.now ≡ self.now.folder.cells.items }
-        ensures hydro { result.profile.hydro.now ≡ self.now.folder.hydro.items }
-        ensures kn { result.profile.kn.now ≡ self.now.folder.kn.items }
-        ensures bonjean { result.profile.bonjean.now ≡ self.now.folder.bonjean.items }
-        ensures tanks { result.profile.tanks.now ≡ self.now.folder.tanks.items }
-        ensures gm { option_map (λ text. text.now) result.profile.gm ≡ option_map (λ text. text.items) self.now.folder.gm }
-        ensures baplie { result.baplie.now ≡ self.now.baplie.items }
-        ensures movins { result.movins.now ≡ self.now.movins.items }
-        ensures steps { option_map (λ text. text.now) result.steps ≡ option_map (λ text. text.items) self.now.steps }
+        ensures { texts_in result ≡ self.now }
     {
         Inputs {
             profile: self.folder.texts(),
@@ -160,8 +222,11 @@ impl Texts {
 }
 
 /// Reads the files of a command line: the ship's profile, the bay plan, the movement instruction, and the steps file, if one is given. The
-/// first that isn't read ends the run.
-pub fn read_texts<R: Readers>(alloc: Global, files: &mut R, line: Line<'_>) -> Result<Texts, Stop> {
+/// first that can't be read ends the run.
+pub fn read_texts<R: Readers>(alloc: Global, files: &mut R, line: Line<'_>) -> Result<Texts, Stop>
+    ensures texts { IfOk result (AreTexts (R.known files.old) line.entry) }
+    ensures unread { IfErr result IsUnread }
+{
     let folder = read_folder(alloc, files, line.folder)?;
     let baplie = bytes_of(alloc, files, line.baplie)?;
     let movins = bytes_of(alloc, files, line.movins)?;

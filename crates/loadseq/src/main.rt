@@ -2,48 +2,24 @@
 //! planner's steps, and writes the report to standard output.
 #![tactic(auto)]
 
+mod arguments;
 mod command_line;
 mod files;
 mod folders;
 mod serving;
 mod stops;
 
-use command_line::no_command;
+use arguments::words;
 use files::Disk;
 use serving::{serve, stopped};
 use std::alloc::{AllocError, Global};
-use std::io::ErrorKind;
 use std::process::ExitCode;
-use std::{env, io};
 use stops::Stop;
 
 #[cfg(test)]
 mod command_line_tests;
 #[cfg(test)]
 mod tests;
-
-/// What ends the run where the system doesn't give the words of the command line: they are wrong words.
-fn unread(alloc: Global, error: &io::Error) -> Stop {
-    if error.kind() == ErrorKind::OutOfMemory {
-        return Stop::NoMemory;
-    }
-    Stop::from(no_command(alloc))
-}
-
-/// The words after the program's name.
-fn words(rt: &HostRuntime) -> Result<Vec<String>, Stop> {
-    let given = match env::args(rt) {
-        Ok(given) => given,
-        Err(error) => return Err(unread(rt.alloc(), &error)),
-    };
-    let mut words = Vec::new(rt.alloc());
-    for word in given.skip(1) {
-        if words.push(word).is_err() {
-            return Err(Stop::NoMemory);
-        }
-    }
-    Ok(words)
-}
 
 /// The words as they are lent to the program.
 fn borrowed(alloc: Global, words: &[String]) -> Result<Vec<&str>, AllocError> {
@@ -56,7 +32,7 @@ fn borrowed(alloc: Global, words: &[String]) -> Result<Vec<&str>, AllocError> {
 
 /// The program over the system's words, files and streams.
 fn run(rt: &HostRuntime) -> Result<u8, Stop> {
-    let words = words(rt)?;
+    let words = words(rt, rt.alloc())?;
     let list = borrowed(rt.alloc(), &words)?;
     let mut disk = Disk::new(rt);
     let mut out = rt.stdout();

@@ -1,7 +1,10 @@
-ghost use Rattle.std.specs.Prelude.{◌≡◌, ◌≤◌, IfOk, Ok, false};
+ghost use Rattle.std.specs.Prelude.{◌≡◌, ◌≤◌, IfOk, IfErr, Ok, codes, false, map};
 ghost use Rattle.std.specs.Io.KnownBytes.{Appends};
 ghost use Rattle.seq_report.specs.Refusal.{Outcome, outcome_of};
+ghost use Rattle.loadseq.specs.Lines.{IsNotTaken};
+ghost use Rattle.loadseq.specs.Runs.{IsRefusedBy, IsReported, IsReportedBy, IsStopBy, IsStopOf, IsStopOn};
 ghost use Rattle.loadseq.specs.Statuses.{status_of, status_on};
+ghost use Rattle.loadseq.specs.Words.{behind_name};
 
 use crate::command_line::{Line, read_line};
 use crate::files::Readers;
@@ -17,19 +20,22 @@ fn report_to<S: Sink>(alloc: Global, inputs: &Inputs<'_>, sink: &mut S) -> Resul
     ensures written { IfOk result (λ status. (outcome : Outcome) × (outcome_of inputs.now ≡ Ok outcome) × (status ≡ status_on outcome.summary.first)
         × Appends (S.contents sink.old) (S.contents sink.new) outcome.text) }
     ensures status { IfOk result (λ status. status ≤ 1) }
+    ensures stopped { IfErr result (IsStopOn inputs.now) }
 {
     let summary = report(alloc, inputs, sink)?;
     Ok(if summary.first.is_none() { 0 } else { 1 })
 }
 
-/// The exit status of a run that writes its whole report: 0, or 1 where a step fails.
+/// The exit status of a run that writes its whole report on the files of a line: 0, or 1 where a step fails.
 fn check<R: Readers, O: Write>(
     alloc: Global,
     files: &mut R,
     line: Line<'_>,
     out: &mut O,
 ) -> Result<u8, Stop>
-    ensures { IfOk result (λ status. status ≤ 1) }
+    ensures told { IfOk result (IsReported (R.known files.old) line.entry) }
+    ensures status { IfOk result (λ status. status ≤ 1) }
+    ensures stopped { IfErr result (IsStopOf (R.known files.old) line.entry) }
 {
     let texts = read_texts(alloc, files, line)?;
     report_to(alloc, &texts.inputs(), &mut Through::new(out))
@@ -43,9 +49,26 @@ pub fn stopped<E: Write>(stop: &Stop, err: &mut E) -> u8
     stop.status()
 }
 
+/// The exit status of a run on the words of a command line that writes its whole report, or what stopped it.
+fn run_words<R: Readers, O: Write>(
+    alloc: Global,
+    files: &mut R,
+    words: &[&str],
+    out: &mut O,
+) -> Result<u8, Stop>
+    ensures told { IfOk result (IsReportedBy (R.known files.old) (map (λ w. w.now) words.now)) }
+    ensures status { IfOk result (λ status. status ≤ 1) }
+    ensures stopped { IfErr result (IsStopBy (R.known files.old) (map (λ w. w.now) words.now)) }
+{
+    match read_line(alloc, words) {
+        Ok(line) => check(alloc, files, line, out),
+        Err(fault) => Err(Stop::from(fault)),
+    }
+}
+
 /// The whole program over readers and writers: what it writes goes to `out`, and one line on what stopped it to
-/// `err`. It answers the exit status: 0 all steps pass, 1 some step fails, 2 an input is refused, 3 wrong words or
-/// help, 4 want of memory, 5 a file isn't read or `out` isn't written. A fault of `err` changes nothing.
+/// `err`. It answers the exit status: 0 all steps pass, 1 some step fails, 2 an input is refused, 3 usage error or
+/// help, 4 out of memory, 5 a file can't be read or `out` can't be written. A fault of `err` changes nothing.
 pub fn serve<R: Readers, O: Write, E: Write>(
     alloc: Global,
     files: &mut R,
@@ -53,13 +76,12 @@ pub fn serve<R: Readers, O: Write, E: Write>(
     out: &mut O,
     err: &mut E,
 ) -> u8
-    ensures { result ≤ 5 }
+    ensures range { result ≤ 5 }
+    ensures told { result ≤ 1 → IsReportedBy (R.known files.old) (map (λ w. w.now) words.now) result }
+    ensures refused { result ≡ 2 → IsRefusedBy (R.known files.old) (map (λ w. w.now) words.now) }
+    ensures usage { result ≡ 3 → IsNotTaken (behind_name (codes "check") (map (λ w. w.now) words.now)) }
 {
-    let outcome = match read_line(alloc, words) {
-        Ok(line) => check(alloc, files, line, out),
-        Err(fault) => Err(Stop::from(fault)),
-    };
-    match outcome {
+    match run_words(alloc, files, words, out) {
         Ok(status) => status,
         Err(stop) => stopped(&stop, err),
     }

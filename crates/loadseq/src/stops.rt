@@ -4,30 +4,46 @@ ghost use Rattle.loadseq.specs.Statuses.{status_of};
 use crate::command_line::LineFault;
 use seq_report::RunFault;
 use std::alloc::AllocError;
-use thiserror::Error;
+use std::error::Error;
+use std::fmt;
 
-/// Why a run prints no whole report. The display is the one line that standard error gets.
-#[derive(Debug, Drop, Error)]
+/// Why a run prints no whole report. It prints as the one line that standard error gets.
+#[derive(Debug, Drop)]
 pub enum Stop {
     /// An input is refused.
-    #[error("refused {0}")]
     Refused(RunFault),
-    /// The words are wrong, or ask for help.
-    #[error("{0}")]
+    /// A usage error, or a call for help.
     Usage(String),
-    #[error("no memory")]
+    /// Out of memory.
     NoMemory,
-    /// The file of this name isn't read.
-    #[error("read fault {0}")]
+    /// The file of this name can't be read. The name is as it is printed, on one line.
     Read(String),
-    /// Standard output isn't written.
-    #[error("write fault")]
+    /// Standard output can't be written.
     Write,
 }
 
+impl fmt::Display for Stop {
+    ghost use Rattle.std.specs.Prelude.{Some};
+    ghost use Rattle.loadseq.specs.Statuses.{stop_text};
+
+    ghost output = { λ stop. Some (stop_text stop) };
+
+    fn fmt<W: fmt::Write>(&self, f: &mut fmt::Formatter<W>) -> fmt::Result {
+        match self {
+            Stop::Refused(fault) => write!(f, "refused {fault}"),
+            Stop::Usage(text) => f.write_str(text.as_str()),
+            Stop::NoMemory => f.write_str("no memory"),
+            Stop::Read(name) => write!(f, "read fault {name}"),
+            Stop::Write => f.write_str("write fault"),
+        }
+    }
+}
+
+impl Error for Stop {}
+
 impl Stop {
-    /// The exit status: 2 for a refused input, 3 for wrong words or help, 4 for want of memory, 5 where a file isn't
-    /// read or standard output isn't written.
+    /// The exit status: 2 for a refused input, 3 for a usage error or help, 4 out of memory, 5 where a file can't be
+    /// read or standard output can't be written.
     pub fn status(&self) -> u8
         ensures { result ≡ status_of self.now }
     {

@@ -1,11 +1,13 @@
-ghost use Rattle.std.specs.Prelude.{◌≤◌, IfOk, length};
+ghost use Rattle.std.specs.Prelude.{◌≡◌, ◌≤◌, IfOk, length};
+ghost use Rattle.loadseq.specs.Files.Known.{Nothing, Holds};
 
+use crate::arguments::text_of;
 use crate::files::{LIMIT, Readers, Unopened};
-use crate::serving::{serve, stopped};
-use crate::unread;
+use crate::serving::serve;
 use std::io;
 use std::io::{ErrorKind, Read, Write};
 use std::process::Abort;
+use std::test::Fail;
 
 const SHIP: &[u8] =
     b"lbp_mm = 100000\ndownflooding_deg = 60\ndraught_max_mm = 6100\ntrim_max_mm = 500\nlist_max = 500\nclosing_max_kg = 5000\nstations_mm = [0, 100000]\n[[frames]]\nx_mm = 0\nshear_max_kg = 1\nhog_max_kgmm = 1\nsag_max_kgmm = 1\n[[blocks]]\nkg = 8200000\nx_mm = 50000\ny_mm = 0\nz_mm = 6000\nhalf_mm = 50000\n";
@@ -110,6 +112,8 @@ struct Memory<'a> {
 impl<'a> Readers for Memory<'a> {
     type File = Opened;
 
+    ghost known = { λ _ _. Nothing };
+
     fn file(&mut self, name: &str) -> Result<Opened, Unopened> {
         for (known, content) in self.files {
             if *known == name {
@@ -198,63 +202,21 @@ fn statuses(rt: HostRuntime) {
     );
 }
 
-/// Files of the test ship, each with a text and the refusal of it.
-static REFUSALS: [(&str, &[u8], &str); 19] = [
+// One refusal of each kind of input; what each prints is proved, and tested where it is made.
+static REFUSALS: [(&str, &[u8], &str); 5] = [
     ("box/ship.toml", b"", "refused F1 P2 lbp_mm\n"),
-    ("box/ship.toml", b"\x00\xff", "refused F1 P1\n"),
-    ("box/ship.toml", CELLS, "refused F1 P1\n"),
-    ("box/cells.csv", b"", "refused F1 P13 cells.csv\n"),
-    ("box/cells.csv", HYDRO, "refused F1 P4 cells.csv 1\n"),
-    ("box/hydro.csv", b"kg\n", "refused F1 P4 hydro.csv 1\n"),
-    ("box/kn.csv", HYDRO, "refused F1 P4 kn.csv 1\n"),
-    (
-        "box/tanks.csv",
-        b"tank,kg,x,y,z,half,fsm\nDB1,0,0,0,0,1,0\n",
-        "refused F1 P10 tanks.csv 2\n",
-    ),
-    (
-        "box/tanks.csv",
-        b"tank,kg,x,y,z,half,fsm\nDB1,x,0,0,0,1,0\n",
-        "refused F1 P5 tanks.csv 2\n",
-    ),
-    (
-        "box/cells.csv",
-        b"cell,x,y,z,half\n0030082,1000001,0,0,0\n",
-        "refused F1 P6 cells.csv 2\n",
-    ),
     (
         "box/gm.csv",
         b"kg,gm\n4100000,150\n4100000,150\n",
         "refused F1 P7 gm.csv 3\n",
     ),
-    (
-        "box/cells.csv",
-        b"cell,x,y,z,half\n0030082,50000,0,0,0\n030082,50000,0,0,0\n",
-        "refused F1 P8 3\n",
-    ),
-    (
-        "box/gm.csv",
-        b"kg,gm\n4100000,150\n",
-        "refused F1 P13 gm.csv\n",
-    ),
-    ("plan.edi", b"", "refused F2 M1 E1 at 0\n"),
     ("plan.edi", SHIP, "refused F2 M1 E1 at 286\n"),
-    (
-        "plan.edi",
-        b"UNB+UNOA:2+S+P+1:1+7'UNH+1+BAPLIE:D:95B:UN'LOC+147+X'UNT+3+1'UNZ+1+7'",
-        "refused F2 M2 segment 2\n",
-    ),
     (
         "plan.edi",
         b"UNB+UNOA:2+S+P+1:1+7'UNH+1+BAPLIE:D:95B:UN'LOC+147+0990082'MEA+WT++KGM:1'UNT+4+1'UNZ+1+7'",
         "refused F3 S1 item 1\n",
     ),
     ("moves.edi", PLAN, "refused F4 M1 E6 at 35\n"),
-    (
-        "moves.edi",
-        b"UNB+UNOA:2+P+S+1:1+8'UNH+1+MOVINS:D:95B:UN'HAN+RES'UNT+3+1'UNZ+1+8'",
-        "refused F4 M8 segment 2\n",
-    ),
 ];
 
 #[test]
@@ -380,166 +342,6 @@ fn steps_file(rt: HostRuntime) {
     );
 }
 
-/// The files of a run in the order of reading.
-static IN_ORDER: [(&str, Content); 10] = [
-    ("box/ship.toml", Content::Bytes(SHIP)),
-    ("box/cells.csv", Content::Bytes(CELLS)),
-    ("box/hydro.csv", Content::Bytes(HYDRO)),
-    ("box/kn.csv", Content::Bytes(LEVERS)),
-    ("box/bonjean.csv", Content::Bytes(BONJEAN)),
-    ("box/tanks.csv", Content::Bytes(TANKS)),
-    ("box/gm.csv", Content::Bytes(LEAST_GM)),
-    ("plan.edi", Content::Bytes(PLAN)),
-    ("moves.edi", Content::Bytes(MOVES)),
-    ("steps.csv", Content::Bytes(b"")),
-];
-
-/// The line of a run that has only the first so many of them. The table of least metacentric heights may be missing.
-static FIRST_MISSING: [(usize, &str); 10] = [
-    (0, "read fault box/ship.toml\n"),
-    (1, "read fault box/cells.csv\n"),
-    (2, "read fault box/hydro.csv\n"),
-    (3, "read fault box/kn.csv\n"),
-    (4, "read fault box/bonjean.csv\n"),
-    (5, "read fault box/tanks.csv\n"),
-    (6, "read fault plan.edi\n"),
-    (7, "read fault plan.edi\n"),
-    (8, "read fault moves.edi\n"),
-    (9, "read fault steps.csv\n"),
-];
-
-// Where all files from one on are missing, that one is named: so each is read before those behind it.
-#[test]
-fn order_of_reading(rt: HostRuntime) {
-    for (count, line) in &FIRST_MISSING {
-        let files = IN_ORDER.get(..*count).unwrap_or(&[]);
-        check(&rt, files, &WITH_STEPS, 5, "", line);
-    }
-    check(&rt, &IN_ORDER, &WITH_STEPS, 0, REPORT, "");
-}
-
-// A table of least metacentric heights that is there has to be read, before the bay plan.
-#[test]
-fn failing_least_gm(rt: HostRuntime) {
-    for content in [Content::Broken, Content::Closed(Unopened::Failed)] {
-        let files = [
-            ("box/gm.csv", content),
-            ("box/ship.toml", Content::Bytes(SHIP)),
-            ("box/cells.csv", Content::Bytes(CELLS)),
-            ("box/hydro.csv", Content::Bytes(HYDRO)),
-            ("box/kn.csv", Content::Bytes(LEVERS)),
-            ("box/bonjean.csv", Content::Bytes(BONJEAN)),
-            ("box/tanks.csv", Content::Bytes(TANKS)),
-        ];
-        check(&rt, &files, &WORDS, 5, "", "read fault box/gm.csv\n");
-    }
-}
-
-/// Bay plans with a container twice in one place, and with one in a place of 40 feet over one of 20.
-static ARRIVALS: [(&[u8], &str); 2] = [
-    (
-        b"UNB+UNOA:2+S+P+1:1+7'UNH+1+BAPLIE:D:95B:UN'LOC+147+0010082'MEA+WT++KGM:1'LOC+147+0010082'MEA+WT++KGM:1'UNT+6+1'UNZ+1+7'",
-        "refused F3 S2 item 2\n",
-    ),
-    (
-        b"UNB+UNOA:2+S+P+1:1+7'UNH+1+BAPLIE:D:95B:UN'LOC+147+0030082'MEA+WT++KGM:1'LOC+147+0020082'MEA+WT++KGM:1'UNT+6+1'UNZ+1+7'",
-        "refused F3 S3 item 2 cell 0030082\n",
-    ),
-];
-
-#[test]
-fn refused_arrivals(rt: HostRuntime) {
-    for (plan, line) in &ARRIVALS {
-        let files = with("plan.edi", Content::Bytes(plan));
-        check(&rt, &files, &WORDS, 2, "", line);
-    }
-}
-
-/// The test ship with more in a tank than its table has.
-const OVERFILLED: &[u8] =
-    b"lbp_mm = 100000\ndownflooding_deg = 60\ndraught_max_mm = 6100\ntrim_max_mm = 500\nlist_max = 500\nclosing_max_kg = 5000\nstations_mm = [0, 100000]\n[[frames]]\nx_mm = 0\nshear_max_kg = 1\nhog_max_kgmm = 1\nsag_max_kgmm = 1\n[[blocks]]\nkg = 8200000\nx_mm = 50000\ny_mm = 0\nz_mm = 6000\nhalf_mm = 50000\n[[fills]]\ntank = \"DB1\"\nkg = 1001\n";
-
-#[test]
-fn refused_fill(rt: HostRuntime) {
-    let files = with("box/ship.toml", Content::Bytes(OVERFILLED));
-    check(&rt, &files, &WORDS, 2, "", "refused F3 S6 fill 1\n");
-}
-
-/// One container aboard, of 20 feet.
-const ONE_ABOARD: &[u8] =
-    b"UNB+UNOA:2+S+P+1:1+7'UNH+1+BAPLIE:D:95B:UN'LOC+147+0010082'EQD+CN+AB'MEA+WT++KGM:1'UNT+5+1'UNZ+1+7'";
-
-/// Movement instructions of a ship that has one container aboard.
-static SEQUENCES: [(&[u8], &str); 6] = [
-    (
-        b"UNB+UNOA:2+P+S+1:1+8'UNH+1+MOVINS:D:95B:UN'HAN+LOA'LOC+147+0990082'MEA+WT++KGM:1'UNT+5+1'UNZ+1+8'",
-        "refused F5 S1 step 1\n",
-    ),
-    (
-        b"UNB+UNOA:2+P+S+1:1+8'UNH+1+MOVINS:D:95B:UN'HAN+LOA'LOC+147+0010082'MEA+WT++KGM:1'UNT+5+1'UNZ+1+8'",
-        "refused F5 S2 step 1\n",
-    ),
-    (
-        b"UNB+UNOA:2+P+S+1:1+8'UNH+1+MOVINS:D:95B:UN'HAN+LOA'LOC+147+0020082'MEA+WT++KGM:1'UNT+5+1'UNZ+1+8'",
-        "refused F5 S3 step 1 cell 0010082\n",
-    ),
-    // both places of 20 feet are taken by then
-    (
-        b"UNB+UNOA:2+P+S+1:1+8'UNH+1+MOVINS:D:95B:UN'HAN+LOA'LOC+147+0030082'MEA+WT++KGM:1'LOC+147+0020082'MEA+WT++KGM:1'UNT+7+1'UNZ+1+8'",
-        "refused F5 S3 step 2 cell 0010082\n",
-    ),
-    (
-        b"UNB+UNOA:2+P+S+1:1+8'UNH+1+MOVINS:D:95B:UN'HAN+DIS'LOC+147+0030082'EQD+CN+AB'UNT+5+1'UNZ+1+8'",
-        "refused F5 S4 step 1\n",
-    ),
-    (
-        b"UNB+UNOA:2+P+S+1:1+8'UNH+1+MOVINS:D:95B:UN'HAN+DIS'LOC+147+0010082'EQD+CN+CD'UNT+5+1'UNZ+1+8'",
-        "refused F5 S5 step 1\n",
-    ),
-];
-
-/// The files of the test ship with this container and these movements.
-fn moved(plan: &'static [u8], moves: &'static [u8]) -> [(&'static str, Content); 8] {
-    [
-        ("plan.edi", Content::Bytes(plan)),
-        ("moves.edi", Content::Bytes(moves)),
-        ("box/ship.toml", Content::Bytes(SHIP)),
-        ("box/cells.csv", Content::Bytes(CELLS)),
-        ("box/hydro.csv", Content::Bytes(HYDRO)),
-        ("box/kn.csv", Content::Bytes(LEVERS)),
-        ("box/bonjean.csv", Content::Bytes(BONJEAN)),
-        ("box/tanks.csv", Content::Bytes(TANKS)),
-    ]
-}
-
-#[test]
-fn refused_sequences(rt: HostRuntime) {
-    for (moves, line) in &SEQUENCES {
-        check(&rt, &moved(ONE_ABOARD, moves), &WORDS, 2, "", line);
-    }
-}
-
-/// Steps files of a movement instruction without lifts.
-static STEPS: [(&[u8], &str); 6] = [
-    (b"kind,a,b\n", "refused F9 G1 line 1\n"),
-    (b"kind,a,b,c\nswap,,,\n", "refused F9 G2 line 2\n"),
-    (b"kind,a,b,c\ntank,,1,\n", "refused F9 G3 line 2\n"),
-    (b"kind,a,b,c\ntank,DB2,1,\n", "refused F5 S9 step 1\n"),
-    (b"kind,a,b,c\ntank,DB1,1001,\n", "refused F5 S6 step 1\n"),
-    (
-        b"kind,a,b,c\ntank,DB1,1000,\nrestow,0010082,0030082,\n",
-        "refused F5 S4 step 2\n",
-    ),
-];
-
-#[test]
-fn refused_steps(rt: HostRuntime) {
-    for (steps, line) in &STEPS {
-        let files = with("steps.csv", Content::Bytes(steps));
-        check(&rt, &files, &WITH_STEPS, 2, "", line);
-    }
-}
-
 #[test]
 fn longest_file(rt: HostRuntime) {
     check(
@@ -587,21 +389,39 @@ fn failing_outputs(rt: HostRuntime) {
     assert!(rt; out.is_empty());
 }
 
-// Where the system doesn't give the words, there is a line all the same. A line that isn't taken changes no status.
+// A word that isn't UTF-8 is kept as one word that names no file.
 #[test]
-fn unread_words(rt: HostRuntime) {
-    for (kind, status, line) in [
-        (ErrorKind::OutOfMemory, 4, "no memory\n"),
-        (
-            ErrorKind::InvalidData,
-            3,
-            "usage: loadseq check FOLDER BAPLIE MOVINS [--steps FILE]\n",
-        ),
-    ] {
-        let stop = unread(rt.alloc(), &io::Error::from(kind));
-        let mut err = Vec::new(rt.alloc());
-        assert_eq!(rt; stopped(&stop, &mut err), status);
-        assert_eq!(rt; err.as_slice(), line.as_bytes());
-        assert_eq!(rt; stopped(&stop, &mut Full), status);
+fn word_not_utf8(rt: HostRuntime) -> Result<(), Fail> {
+    let whole = text_of(rt.alloc(), "pläne".as_bytes())?;
+    assert_eq!(rt; whole.as_str(), "pläne");
+    let masked = text_of(rt.alloc(), b"pl\xe4ne")?;
+    assert_eq!(rt; masked.as_str(), "pl\0ne");
+    Ok(())
+}
+
+/// Files that all hold one text, which contracts see.
+#[derive(Drop)]
+struct Alike {
+    text: &'static [u8],
+}
+
+impl Readers for Alike {
+    type File = &'static [u8];
+
+    ghost known = { λ files _. Holds files.text.now };
+
+    fn file(&mut self, _: &str) -> Result<&'static [u8], Unopened> {
+        Ok(self.text)
     }
+}
+
+// The text of every file is read as the file's reader gives it.
+#[test]
+fn files_alike(rt: HostRuntime) {
+    let mut out = Vec::new(rt.alloc());
+    let mut err = Vec::new(rt.alloc());
+    let mut files = Alike { text: SHIP };
+    let status = serve(rt.alloc(), &mut files, &WORDS, &mut out, &mut err);
+    assert_eq!(rt; status, 2);
+    assert_eq!(rt; err.as_slice(), b"refused F1 P4 cells.csv 1\n".as_slice());
 }
