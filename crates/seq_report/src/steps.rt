@@ -14,7 +14,7 @@ use lift_sequence::{Op, SeqCode, Sequence, Stowage};
 use ship_profile::Profile;
 use std::alloc::{AllocError, Global};
 
-/// What is said of a step with this aboard, by adding up everything that is aboard.
+/// The line of a step with this aboard: everything aboard is added up.
 fn step_line(
     alloc: Global,
     profile: &Profile,
@@ -32,7 +32,7 @@ fn step_line(
     })
 }
 
-/// Adds the line of a step with this aboard, and what leads to it.
+/// Adds the line of a step with this aboard, and the lift that leads to it.
 pub fn add_step(
     alloc: Global,
     profile: &Profile,
@@ -49,7 +49,7 @@ pub fn add_step(
     draft.add(lift, &line)
 }
 
-/// Does a step that can be done: only memory can be wanting.
+/// Does a step that can be done; it can only run out of memory.
 fn make(stowage: &mut Stowage, profile: &Profile, op: &Op) -> Result<(), AllocError>
     requires { fault_of profile.now (held stowage.old) op.now ≡ None }
     ensures { OnOk result (held stowage.new ≡ moved profile.now (held stowage.old) op.now) }

@@ -92,7 +92,7 @@ downflooding_of ms =
     number_at key.Downflooding (pos 0) (pos 90) ms >>= (λ angle.
     demand (Downflooding (unsigned_abs angle)) (int_le (pos 40) angle) (unsigned_abs angle))
 
--- What is said of the ship but for the fills: her length between perpendiculars, the angle of down-flooding in degrees, the greatest
+-- The ship's values but for the fills: her length between perpendiculars, the angle of down-flooding in degrees, the greatest
 -- draught and the greatest trim either way, the greatest list in ten-thousandths of its tangent, the greatest closing error of the
 -- buoyancy in kg, the stations, the blocks and the frames.
 pub record ShipRecord : Type 0 where

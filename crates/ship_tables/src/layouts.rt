@@ -43,7 +43,7 @@ pub struct Stands {
     pub half: u8,
 }
 
-/// What is said of a CSV file in data: each file is one row of this kind, and one reader serves them all.
+/// A CSV file described as data: each file is one row of this kind, and one reader serves them all.
 #[derive(Clone, Copy, Debug)]
 pub struct Layout<'a> {
     pub file: File,
