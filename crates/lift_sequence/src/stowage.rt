@@ -234,7 +234,7 @@ impl Stowage {
     }
 
     /// Every body that is aboard: the blocks of the light ship, the filling of each tank, and each container at its cell's place,
-    /// in no order that counts. What stands in a cell or a tank that the ship hasn't is no body.
+    /// in unspecified order. What stands in a cell or a tank that the ship hasn't is no body.
     pub fn bodies(&self, alloc: Global, profile: &Profile) -> Result<Vec<Body>, AllocError>
         ensures sum { IfOk result (λ v. (f : Mass → ℤ) → total f v.items ≡ total f (bodies profile.now (held self.now))) }
         ensures few { IfOk result (λ v. length v.items ≤ 30400) }
