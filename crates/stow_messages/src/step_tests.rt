@@ -1,3 +1,4 @@
+use crate::tests::printed;
 use crate::{StepRow, StepsCode, StepsFault, steps};
 use arrayvec::ArrayVec;
 use std::alloc::{AllocError, Global};
@@ -5,45 +6,36 @@ use std::process::Abort;
 use std::test::Fail;
 use units_core::Cell;
 
+/// What a row prints: its word and fields, the cells in seven digits.
+fn shown(alloc: Global, row: &StepRow) -> Result<String, AllocError> {
+    match row {
+        StepRow::Lift(number) => format!(in alloc; "lift {number};"),
+        StepRow::Tank { name, kg } => {
+            let name = printed(name.as_slice());
+            format!(in alloc; "tank {name} {kg};")
+        }
+        StepRow::Restow { from, to, id } => {
+            let Cell { bay, row, tier } = *from;
+            let first = format!(in alloc; "{bay:03}{row:02}{tier:02}")?;
+            let Cell { bay, row, tier } = *to;
+            let id = printed(id.as_slice());
+            format!(in alloc; "restow {first} {bay:03}{row:02}{tier:02} {id};")
+        }
+    }
+}
+
 /// What a steps file answers where there are so many lifts: its rows one after another, or its fault.
 fn answer(alloc: Global, text: &[u8], lifts: u32) -> Result<String, AllocError> {
     let rows = match steps(alloc, text, lifts) {
         Ok(rows) => rows,
         Err(fault) => return format!(in alloc; "{fault}"),
     };
-    let mut shown = String::new(alloc);
+    let mut answer = String::new(alloc);
     for row in &rows {
-        match row {
-            StepRow::Lift(number) => {
-                let one = format!(in alloc; "lift {number};")?;
-                shown.push_str(one.as_str())?;
-            }
-            StepRow::Tank { name, kg } => {
-                shown.push_str("tank ")?;
-                push(&mut shown, name.as_slice())?;
-                let one = format!(in alloc; " {kg};")?;
-                shown.push_str(one.as_str())?;
-            }
-            StepRow::Restow { from, to, id } => {
-                let Cell { bay, row, tier } = *from;
-                let one = format!(in alloc; "restow {bay:03}{row:02}{tier:02}")?;
-                shown.push_str(one.as_str())?;
-                let Cell { bay, row, tier } = *to;
-                let one = format!(in alloc; " {bay:03}{row:02}{tier:02} ")?;
-                shown.push_str(one.as_str())?;
-                push(&mut shown, id.as_slice())?;
-                shown.push(';')?;
-            }
-        }
+        let one = shown(alloc, row)?;
+        answer.push_str(one.as_str())?;
     }
-    Ok(shown)
-}
-
-fn push(shown: &mut String, bytes: &[u8]) -> Result<(), AllocError> {
-    for byte in bytes {
-        shown.push(char::from(*byte))?;
-    }
-    Ok(())
+    Ok(answer)
 }
 
 /// Each file's records, under a heading, with its answer.

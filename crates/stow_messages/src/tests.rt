@@ -6,52 +6,51 @@ use std::process::Abort;
 use std::test::Fail;
 use units_core::{Cell, Kg};
 
-/// The message of this name that has these segments.
-fn message(alloc: Global, name: &str, segments: &[&str]) -> Result<String, AllocError> {
+/// The message of this name that has these segments, separated by a space.
+fn message(alloc: Global, name: &str, segments: &str) -> Result<String, AllocError> {
     let mut text = format!(in alloc; "UNB+UNOA:2+SHIP+PLAN+250101:1200+7'UNH+1+{name}:D:95B:UN'")?;
-    for segment in segments {
+    let mut count: u32 = 2;
+    for segment in segments.split_whitespace() {
         text.push_str(segment)?;
         text.push_str("'")?;
+        count = count.saturating_add(1);
     }
-    let count = segments.len().saturating_add(2);
     let end = format!(in alloc; "UNT+{count}+1'UNZ+1+7'")?;
     text.push_str(end.as_str())?;
     Ok(text)
 }
 
-/// The bay plan of these segments.
-fn plan(alloc: Global, segments: &[&str]) -> Result<String, AllocError> {
-    message(alloc, "BAPLIE", segments)
+/// What bytes print: nothing where they aren't text.
+pub(crate) fn printed(bytes: &[u8]) -> &str {
+    match str::from_utf8(bytes) {
+        Ok(text) => text,
+        Err(_) => "",
+    }
 }
 
 /// What the answer to a plan prints: its items, or its fault.
 fn answer(alloc: Global, text: &[u8]) -> Result<String, AllocError> {
-    match baplie(alloc, text) {
-        Ok(items) => {
-            let mut shown = String::new(alloc);
-            for item in &items {
-                let Cell { bay, row, tier } = item.cell;
-                let kg = item.kg.get();
-                let one = format!(in alloc; "{bay:03}{row:02}{tier:02}={kg} ")?;
-                for byte in item.id.as_slice() {
-                    shown.push(char::from(*byte))?;
-                }
-                shown.push_str("@")?;
-                shown.push_str(one.as_str())?;
-            }
-            Ok(shown)
-        }
-        Err(fault) => format!(in alloc; "{fault}"),
+    let items = match baplie(alloc, text) {
+        Ok(items) => items,
+        Err(fault) => return format!(in alloc; "{fault}"),
+    };
+    let mut shown = String::new(alloc);
+    for item in &items {
+        let Cell { bay, row, tier } = item.cell;
+        let kg = item.kg.get();
+        let id = printed(item.id.as_slice());
+        let one = format!(in alloc; "{id}@{bay:03}{row:02}{tier:02}={kg} ")?;
+        shown.push_str(one.as_str())?;
     }
+    Ok(shown)
 }
 
-/// Each list of segments, separated by a space, with its answer.
+/// Each list of segments of a plan, with its answer.
 fn check(rt: &(impl Abort + AllocGlobal), rows: &[(&str, &str)]) -> Result<(), Fail> {
     for (segments, expected) in rows {
-        let segments: Vec<&str> = segments.split_whitespace().collect(rt.alloc())?;
-        let text = plan(rt.alloc(), &segments)?;
+        let text = message(rt.alloc(), "BAPLIE", segments)?;
         let answer = answer(rt.alloc(), text.as_bytes())?;
-        assert_eq!(rt; answer.as_str(), *expected, "{segments:?}");
+        assert_eq!(rt; answer.as_str(), *expected, "{segments}");
     }
     Ok(())
 }
@@ -312,47 +311,43 @@ fn envelope_and_texts(rt: HostRuntime) -> Result<(), Fail> {
     Ok(())
 }
 
-/// Adds what a lift prints: its kind, cell, identification and mass.
-fn show(alloc: Global, shown: &mut String, lift: &Lift) -> Result<(), AllocError> {
-    let (kind, cell, id) = match lift {
-        Lift::Load(item) => ("L", item.cell, &item.id),
-        Lift::Discharge { cell, id } => ("D", *cell, id),
-    };
-    let Cell { bay, row, tier } = cell;
-    let place = format!(in alloc; "{kind}{bay:03}{row:02}{tier:02}")?;
-    shown.push_str(place.as_str())?;
-    for byte in id.as_slice() {
-        shown.push(char::from(*byte))?;
+/// What a lift prints: its kind, cell, identification and mass.
+fn order(alloc: Global, lift: &Lift) -> Result<String, AllocError> {
+    match lift {
+        Lift::Load(item) => {
+            let Cell { bay, row, tier } = item.cell;
+            let kg = item.kg.get();
+            let id = printed(item.id.as_slice());
+            format!(in alloc; "L{bay:03}{row:02}{tier:02}{id}={kg} ")
+        }
+        Lift::Discharge { cell, id } => {
+            let Cell { bay, row, tier } = *cell;
+            let id = printed(id.as_slice());
+            format!(in alloc; "D{bay:03}{row:02}{tier:02}{id} ")
+        }
     }
-    if let Lift::Load(item) = lift {
-        let kg = item.kg.get();
-        let mass = format!(in alloc; "={kg}")?;
-        shown.push_str(mass.as_str())?;
-    }
-    shown.push_str(" ")
 }
 
 /// What the answer to an instruction prints: its lifts, or its fault.
 fn orders(alloc: Global, text: &[u8]) -> Result<String, AllocError> {
-    match movins(alloc, text) {
-        Ok(lifts) => {
-            let mut shown = String::new(alloc);
-            for lift in &lifts {
-                show(alloc, &mut shown, &lift.copy())?;
-            }
-            Ok(shown)
-        }
-        Err(fault) => format!(in alloc; "{fault}"),
+    let lifts = match movins(alloc, text) {
+        Ok(lifts) => lifts,
+        Err(fault) => return format!(in alloc; "{fault}"),
+    };
+    let mut shown = String::new(alloc);
+    for lift in &lifts {
+        let one = order(alloc, &lift.copy())?;
+        shown.push_str(one.as_str())?;
     }
+    Ok(shown)
 }
 
-/// Each list of segments of an instruction, separated by a space, with its answer.
+/// Each list of segments of an instruction, with its answer.
 fn check_orders(rt: &(impl Abort + AllocGlobal), rows: &[(&str, &str)]) -> Result<(), Fail> {
     for (segments, expected) in rows {
-        let segments: Vec<&str> = segments.split_whitespace().collect(rt.alloc())?;
-        let text = message(rt.alloc(), "MOVINS", &segments)?;
+        let text = message(rt.alloc(), "MOVINS", segments)?;
         let answer = orders(rt.alloc(), text.as_bytes())?;
-        assert_eq!(rt; answer.as_str(), *expected, "{segments:?}");
+        assert_eq!(rt; answer.as_str(), *expected, "{segments}");
     }
     Ok(())
 }
