@@ -1,6 +1,6 @@
 use crate::faults::File;
 use crate::faults::File::{Bonjean, Cells, Hydro, LeastGm, Levers, Tanks};
-use crate::tests::{box_texts, check_text, check_words, extent, fault_of, with_text, words};
+use crate::tests::{check_text, extent};
 use std::test::Fail;
 
 /// A file, another text of it in the box ship's tables, and the words of its fault; none where it is taken.
@@ -319,26 +319,6 @@ static FAULTS: [(File, &str, &str); 102] = [
 fn faults_of_each_file(rt: HostRuntime) -> Result<(), Fail> {
     for (file, text, want) in &FAULTS {
         check_text(&rt, &extent(), *file, text, want)?;
-    }
-    Ok(())
-}
-
-/// Two files with a fault in each, and the words of the first one's.
-static PAIRS: [(File, &[u8], File, &[u8], &str); 5] = [
-    (File::Cells, b"", File::Hydro, b"", "P13 cells.csv"),
-    (File::Hydro, b"", File::Levers, b"", "P13 hydro.csv"),
-    (File::Levers, b"", File::Bonjean, b"", "P13 kn.csv"),
-    (File::Bonjean, b"", File::Tanks, b"h", "P13 bonjean.csv"),
-    (File::Tanks, b"h", File::LeastGm, b"", "P4 tanks.csv 1"),
-];
-
-/// Of several files with a fault the first in their order is named.
-#[test]
-fn first_file_with_a_fault_wins(rt: HostRuntime) -> Result<(), Fail> {
-    for (file, text, next, next_text, want) in &PAIRS {
-        let texts = with_text(with_text(box_texts(), *file, text), *next, next_text);
-        let refused = words(rt.alloc(), fault_of(rt.alloc(), &extent(), &texts))?;
-        check_words(&rt, refused.as_str(), want, want);
     }
     Ok(())
 }

@@ -1,6 +1,7 @@
 use crate::faults::{File, TableFault};
 use crate::{Curves, Extent, Hydro, TableTexts, Tables};
 use std::alloc::Global;
+use std::fmt::Debug;
 use std::process::Abort;
 use std::test::Fail;
 use units_core::{Cell, Mm};
@@ -42,19 +43,19 @@ pub fn widest() -> Extent {
     }
 }
 
-pub fn box_texts() -> TableTexts<'static> {
+fn box_texts() -> TableTexts<'static> {
     TableTexts {
         cells: CELLS.as_bytes(),
         hydro: HYDRO.as_bytes(),
         levers: LEVERS.as_bytes(),
         bonjean: BONJEAN.as_bytes(),
         tanks: TANKS.as_bytes(),
-        least_gm: Some(LEAST_GM.as_bytes()),
+        least_gm: None,
     }
 }
 
 /// Texts, one of them in another form.
-pub fn with_text<'a>(texts: TableTexts<'a>, file: File, text: &'a [u8]) -> TableTexts<'a> {
+fn with_text<'a>(texts: TableTexts<'a>, file: File, text: &'a [u8]) -> TableTexts<'a> {
     match file {
         File::Cells => TableTexts {
             cells: text,
@@ -85,12 +86,12 @@ pub fn with_text<'a>(texts: TableTexts<'a>, file: File, text: &'a [u8]) -> Table
 
 /// The fault of these texts; none where they are tables. It owns tables, and does nothing else with them: each way of dropping
 /// them has its proof.
-pub fn fault_of(alloc: Global, extent: &Extent, texts: &TableTexts<'_>) -> Option<TableFault> {
+fn fault_of(alloc: Global, extent: &Extent, texts: &TableTexts<'_>) -> Option<TableFault> {
     Tables::read(alloc, *extent, 5, texts).err()
 }
 
 /// The words of a fault; none where there is none.
-pub fn words(alloc: Global, fault: Option<TableFault>) -> Result<String, Fail> {
+fn words(alloc: Global, fault: Option<TableFault>) -> Result<String, Fail> {
     match fault {
         Some(fault) => Ok(format!(in alloc; "{fault}")?),
         None => Ok(String::new(alloc)),
@@ -159,18 +160,23 @@ enum Asked {
     Bonjean,
     LeastGm,
     /// Where the container of a cell stands.
-    Cell(&'static str),
+    Cell(Cell),
     /// The number of a tank by its name, and how many tanks there are.
     Tank(&'static str),
     /// The filling of a tank with so many kg.
     Filling(u16, u32),
 }
 
+/// A value as it is debugged.
+fn debug_text<T: Debug + Drop>(alloc: Global, value: T) -> Result<String, Fail> {
+    Ok(format!(in alloc; "{value:?}")?)
+}
+
 /// The columns of the hydrostatic table from left to right.
 fn hydro_text(alloc: Global, hydro: &Hydro) -> Result<String, Fail> {
     let first = [hydro.kg(), hydro.draught(), hydro.kmt()];
     let last = [hydro.lcb(), hydro.lcf(), hydro.mct()];
-    Ok(format!(in alloc; "{first:?} {last:?}")?)
+    debug_text(alloc, [first, last])
 }
 
 /// The arguments, each curve, and what stands behind the last.
@@ -193,20 +199,9 @@ fn least_gm_text(alloc: Global, tables: &Tables) -> Result<String, Fail> {
     }
 }
 
-fn place_text(alloc: Global, tables: &Tables, name: &str) -> Result<String, Fail> {
-    let cell = Cell::read(name.as_bytes()).ok_or("a cell")?;
-    let place = tables.cell(cell);
-    Ok(format!(in alloc; "{place:?}")?)
-}
-
+/// The number of a tank by its name, and how many tanks there are.
 fn tank_text(alloc: Global, tables: &Tables, name: &str) -> Result<String, Fail> {
-    let (number, count) = (tables.tank(name.as_bytes()), tables.tanks());
-    Ok(format!(in alloc; "{number:?} of {count}")?)
-}
-
-fn filling_text(alloc: Global, tables: &Tables, tank: u16, kg: u32) -> Result<String, Fail> {
-    let body = tables.tank_item(tank, kg);
-    Ok(format!(in alloc; "{body:?}")?)
+    debug_text(alloc, (tables.tank(name.as_bytes()), tables.tanks()))
 }
 
 fn shown(alloc: Global, tables: &Tables, asked: Asked) -> Result<String, Fail> {
@@ -215,9 +210,9 @@ fn shown(alloc: Global, tables: &Tables, asked: Asked) -> Result<String, Fail> {
         Asked::Levers => curves_text(alloc, tables.levers()),
         Asked::Bonjean => curves_text(alloc, tables.bonjean()),
         Asked::LeastGm => least_gm_text(alloc, tables),
-        Asked::Cell(name) => place_text(alloc, tables, name),
+        Asked::Cell(cell) => debug_text(alloc, tables.cell(cell)),
         Asked::Tank(name) => tank_text(alloc, tables, name),
-        Asked::Filling(tank, kg) => filling_text(alloc, tables, tank, kg),
+        Asked::Filling(tank, kg) => debug_text(alloc, tables.tank_item(tank, kg)),
     }
 }
 
@@ -253,21 +248,50 @@ fn check_answers(
 /// Each number as its text has it; a filling on the straight line between two rows, each figure rounded down.
 static UNLIKE: [(Asked, &str); 19] = [
     (
-        Asked::Cell("0010384"),
+        Asked::Cell(Cell {
+            bay: 1,
+            row: 3,
+            tier: 84,
+        }),
         "Some(Place { x: Mm { mm: 31031 }, y: Mm { mm: 1032 }, z: Mm { mm: 6033 }, half: Mm { mm: 3034 } })",
     ),
     (
-        Asked::Cell("050284"),
+        Asked::Cell(Cell {
+            bay: 5,
+            row: 2,
+            tier: 84,
+        }),
         "Some(Place { x: Mm { mm: 71035 }, y: Mm { mm: -2036 }, z: Mm { mm: 7037 }, half: Mm { mm: 6038 } })",
     ),
     // another bay, row or tier than each has
-    (Asked::Cell("0030384"), "None"),
-    (Asked::Cell("0010284"), "None"),
-    (Asked::Cell("0010382"), "None"),
+    (
+        Asked::Cell(Cell {
+            bay: 3,
+            row: 3,
+            tier: 84,
+        }),
+        "None",
+    ),
+    (
+        Asked::Cell(Cell {
+            bay: 1,
+            row: 2,
+            tier: 84,
+        }),
+        "None",
+    ),
+    (
+        Asked::Cell(Cell {
+            bay: 1,
+            row: 3,
+            tier: 82,
+        }),
+        "None",
+    ),
     (
         Asked::Hydro,
-        "[[1000039, 2000045], [2040, 4046], [9041, 8047]] \
-[[45042, 46048], [44043, 43049], [8000044, 9000050]]",
+        "[[[1000039, 2000045], [2040, 4046], [9041, 8047]], \
+[[45042, 46048], [44043, 43049], [8000044, 9000050]]]",
     ),
     (
         Asked::Levers,
@@ -280,9 +304,9 @@ Some([1100, 1150]) Some([1200, 1250]) Some([1300, 1350]) None",
         "[53, 6058] Some([5400, 59000]) Some([5500, 60000]) Some([5600, 61000]) Some([5700, 62000]) Some([5800, 63000]) None",
     ),
     (Asked::LeastGm, "[1000076, 2000078] Some([277, 379]) None"),
-    (Asked::Tank("P"), "Some(0) of 2"),
-    (Asked::Tank("S"), "Some(1) of 2"),
-    (Asked::Tank("p"), "None of 2"),
+    (Asked::Tank("P"), "(Some(0), 2)"),
+    (Asked::Tank("S"), "(Some(1), 2)"),
+    (Asked::Tank("p"), "(None, 2)"),
     (Asked::Filling(0, 999), "None"),
     (
         Asked::Filling(0, 1000),
@@ -312,10 +336,11 @@ fn tables_of_unlike_numbers(rt: HostRuntime) -> Result<(), Fail> {
 }
 
 /// The double bottom tank of the box ship: each kg raises the filling by 1/500 mm and adds 4,100 kg mm.
-static BOX: [(Asked, &str); 10] = [
-    (Asked::Tank("DB1"), "Some(0) of 1"),
-    (Asked::Tank("DB2"), "None of 1"),
-    (Asked::Tank(""), "None of 1"),
+static BOX: [(Asked, &str); 11] = [
+    (Asked::LeastGm, "None"),
+    (Asked::Tank("DB1"), "(Some(0), 1)"),
+    (Asked::Tank("DB2"), "(None, 1)"),
+    (Asked::Tank(""), "(None, 1)"),
     (
         Asked::Filling(0, 0),
         "Some(Body { kg: 0, place: Place { x: Mm { mm: 50000 }, y: Mm { mm: 0 }, z: Mm { mm: 0 }, half: Mm { mm: 5000 } }, fsm: 0 })",
@@ -340,43 +365,4 @@ static BOX: [(Asked, &str); 10] = [
 #[test]
 fn tank_fill(rt: HostRuntime) -> Result<(), Fail> {
     check_answers(&rt, &box_texts(), &BOX)
-}
-
-static NO_LEAST_GM: [(Asked, &str); 1] = [(Asked::LeastGm, "None")];
-
-#[test]
-fn no_least_gm_where_there_is_none(rt: HostRuntime) -> Result<(), Fail> {
-    let texts = TableTexts {
-        least_gm: None,
-        ..box_texts()
-    };
-    check_answers(&rt, &texts, &NO_LEAST_GM)
-}
-
-static TEXTS: [(TableFault, &str); 13] = [
-    (TableFault::BadCsv(File::Hydro, 3), "P4 hydro.csv 3"),
-    (TableFault::BadNumber(File::Cells, 2), "P5 cells.csv 2"),
-    (TableFault::OutOfLimits(File::Levers, 2), "P6 kn.csv 2"),
-    (TableFault::NotRising(File::Bonjean, 4), "P7 bonjean.csv 4"),
-    (TableFault::DoubleCell(4), "P8 4"),
-    (
-        TableFault::OutsideStations(File::Tanks, 5),
-        "P10 tanks.csv 5",
-    ),
-    (TableFault::TooFewRows(File::LeastGm), "P13 gm.csv"),
-    (TableFault::TooFewRows(File::Cells), "P13 cells.csv"),
-    (TableFault::TooFewRows(File::Hydro), "P13 hydro.csv"),
-    (TableFault::TooFewRows(File::Levers), "P13 kn.csv"),
-    (TableFault::TooFewRows(File::Bonjean), "P13 bonjean.csv"),
-    (TableFault::TooFewRows(File::Tanks), "P13 tanks.csv"),
-    (TableFault::NoMemory, "P14"),
-];
-
-#[test]
-fn texts_of_faults(rt: HostRuntime) -> Result<(), Fail> {
-    for (fault, want) in &TEXTS {
-        let text = words(rt.alloc(), Some(*fault))?;
-        assert_eq!(rt; text.as_str(), *want);
-    }
-    Ok(())
 }

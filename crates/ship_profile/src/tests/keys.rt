@@ -115,18 +115,8 @@ fn values_of_another_type(rt: HostRuntime) -> Result<(), Fail> {
     Ok(())
 }
 
-/// A key, a value of it, and the words of its fault; none for one that is taken.
-static VALUES: [(&str, &str, &str); 101] = [
-    // a key that is missing
-    ("lbp_mm", "", "P2 lbp_mm"),
-    ("downflooding_deg", "", "P2 downflooding_deg"),
-    ("draught_max_mm", "", "P2 draught_max_mm"),
-    ("trim_max_mm", "", "P2 trim_max_mm"),
-    ("list_max", "", "P2 list_max"),
-    ("closing_max_kg", "", "P2 closing_max_kg"),
-    ("stations_mm", "", "P2 stations_mm"),
-    ("blocks", "", "P2 blocks"),
-    ("frames", "", "P2 frames"),
+/// A key of a number or the stations, a value of it, and the words of its fault; none for one that is taken.
+static NUMBERS: [(&str, &str, &str); 29] = [
     // an array for a number, a number for an array
     ("lbp_mm", "[1]", "P3 lbp_mm"),
     ("closing_max_kg", "[1]", "P3 closing_max_kg"),
@@ -164,6 +154,15 @@ static VALUES: [(&str, &str, &str); 101] = [
     ("stations_mm", "[5, 1000001, 4]", "P6 ship.toml 0"),
     ("stations_mm", "[5, -1000001]", "P6 ship.toml 0"),
     ("stations_mm", "[\"x\"]", "P3 stations_mm"),
+];
+
+#[test]
+fn values_of_numbers_and_stations(rt: HostRuntime) -> Result<(), Fail> {
+    check_values(&rt, &NUMBERS)
+}
+
+/// The same of the blocks.
+static BLOCKS: [(&str, &str, &str); 23] = [
     // blocks: each a table, its keys in order, within the stations, each block whole before the next; then too few
     ("blocks", "[]", "P13 ship.toml"),
     ("blocks", "[5]", "P3 blocks"),
@@ -261,6 +260,15 @@ static VALUES: [(&str, &str, &str); 101] = [
         "[{kg = 1, x_mm = 0, y_mm = 0, z_mm = 0, half_mm = 1000001}]",
         "P6 ship.toml 0",
     ),
+];
+
+#[test]
+fn values_of_blocks(rt: HostRuntime) -> Result<(), Fail> {
+    check_values(&rt, &BLOCKS)
+}
+
+/// The same of the frames.
+static FRAMES: [(&str, &str, &str); 19] = [
     // frames: each a table, its keys in order, above the one before, at a station; then too few
     ("frames", "[]", "P13 ship.toml"),
     ("frames", "[0]", "P3 frames"),
@@ -342,6 +350,15 @@ static VALUES: [(&str, &str, &str); 101] = [
         "[{x_mm = 1000001, shear_max_kg = 0, hog_max_kgmm = 0, sag_max_kgmm = 0}]",
         "P6 ship.toml 0",
     ),
+];
+
+#[test]
+fn values_of_frames(rt: HostRuntime) -> Result<(), Fail> {
+    check_values(&rt, &FRAMES)
+}
+
+/// The same of the fills.
+static FILLS: [(&str, &str, &str); 21] = [
     // fills: each a table, its keys in order; all are read before the first is looked up
     ("fills", "", ""),
     ("fills", "{}", "P3 fills"),
@@ -400,8 +417,8 @@ static VALUES: [(&str, &str, &str); 101] = [
 ];
 
 #[test]
-fn values_of_keys(rt: HostRuntime) -> Result<(), Fail> {
-    check_values(&rt, &VALUES)
+fn values_of_fills(rt: HostRuntime) -> Result<(), Fail> {
+    check_values(&rt, &FILLS)
 }
 
 /// A number in a key's value: the key, what stands before the number and behind it, both ends of its range, and the words of what is

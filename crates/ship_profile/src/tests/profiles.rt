@@ -125,122 +125,115 @@ fn places_reach_from_the_first_station_to_the_last(rt: HostRuntime) -> Result<()
     Ok(())
 }
 
-/// The prefixes of `ship.toml`: those up to each length, from the length before, have the fault beside it. One that ends in a key or
-/// before a value is no document; one that ends in a value or after it has the fault of what comes next.
-static PREFIXES: [(usize, &str); 78] = [
+/// The prefixes of `ship.toml`, from one length to before another, and the words of their faults; the last go to its end. One that ends in
+/// a key or before a value is no document; one that ends in a value or after it has the fault of what comes next.
+static PREFIXES: [(usize, usize, &str); 78] = [
     // no text at all
-    (1, "P2 lbp_mm"),
+    (0, 1, "P2 lbp_mm"),
     // each of the first keys: cut in its name or before its value, and in its value or after it
-    (10, "P1"),
-    (17, "P2 downflooding_deg"),
-    (36, "P1"),
-    (37, "P11 6"),
-    (39, "P2 draught_max_mm"),
-    (56, "P1"),
-    (61, "P2 trim_max_mm"),
-    (75, "P1"),
-    (79, "P2 list_max"),
-    (90, "P1"),
-    (94, "P2 closing_max_kg"),
-    (111, "P1"),
-    (116, "P2 stations_mm"),
-    (161, "P1"),
-    (163, "P2 blocks"),
+    (1, 10, "P1"),
+    (10, 17, "P2 downflooding_deg"),
+    (17, 36, "P1"),
+    (36, 37, "P11 6"),
+    (37, 39, "P2 draught_max_mm"),
+    (39, 56, "P1"),
+    (56, 61, "P2 trim_max_mm"),
+    (61, 75, "P1"),
+    (75, 79, "P2 list_max"),
+    (79, 90, "P1"),
+    (90, 94, "P2 closing_max_kg"),
+    (94, 111, "P1"),
+    (111, 116, "P2 stations_mm"),
+    (116, 161, "P1"),
+    (161, 163, "P2 blocks"),
     // the block, key by key
-    (172, "P1"),
-    (174, "P2 blocks"),
-    (179, "P1"),
-    (187, "P2 blocks"),
-    (194, "P1"),
-    (200, "P2 blocks"),
-    (207, "P1"),
-    (209, "P2 blocks"),
-    (216, "P1"),
-    (221, "P2 blocks"),
-    (231, "P1"),
-    (237, "P2 frames"),
+    (163, 172, "P1"),
+    (172, 174, "P2 blocks"),
+    (174, 179, "P1"),
+    (179, 187, "P2 blocks"),
+    (187, 194, "P1"),
+    (194, 200, "P2 blocks"),
+    (200, 207, "P1"),
+    (207, 209, "P2 blocks"),
+    (209, 216, "P1"),
+    (216, 221, "P2 blocks"),
+    (221, 231, "P1"),
+    (231, 237, "P2 frames"),
     // the first frame, after which the ship is whole
-    (246, "P1"),
-    (248, "P2 frames"),
-    (255, "P1"),
-    (257, "P2 frames"),
-    (272, "P1"),
-    (279, "P2 frames"),
-    (294, "P1"),
-    (305, "P2 frames"),
-    (320, "P1"),
-    (331, ""),
+    (237, 246, "P1"),
+    (246, 248, "P2 frames"),
+    (248, 255, "P1"),
+    (255, 257, "P2 frames"),
+    (257, 272, "P1"),
+    (272, 279, "P2 frames"),
+    (279, 294, "P1"),
+    (294, 305, "P2 frames"),
+    (305, 320, "P1"),
+    (320, 331, ""),
     // each further frame, of which a part is a fault
-    (340, "P1"),
-    (342, "P2 frames"),
-    (349, "P1"),
-    (355, "P2 frames"),
-    (370, "P1"),
-    (377, "P2 frames"),
-    (392, "P1"),
-    (403, "P2 frames"),
-    (418, "P1"),
-    (429, ""),
-    (438, "P1"),
-    (440, "P2 frames"),
-    (447, "P1"),
-    (453, "P2 frames"),
-    (468, "P1"),
-    (475, "P2 frames"),
-    (490, "P1"),
-    (501, "P2 frames"),
-    (516, "P1"),
-    (527, ""),
-    (536, "P1"),
-    (538, "P2 frames"),
-    (545, "P1"),
-    (551, "P2 frames"),
-    (566, "P1"),
-    (573, "P2 frames"),
-    (588, "P1"),
-    (599, "P2 frames"),
-    (614, "P1"),
-    (625, ""),
-    (634, "P1"),
-    (636, "P2 frames"),
-    (643, "P1"),
-    (650, "P2 frames"),
-    (665, "P1"),
-    (672, "P2 frames"),
-    (687, "P1"),
-    (698, "P2 frames"),
-    (713, "P1"),
-    (724, ""),
+    (331, 340, "P1"),
+    (340, 342, "P2 frames"),
+    (342, 349, "P1"),
+    (349, 355, "P2 frames"),
+    (355, 370, "P1"),
+    (370, 377, "P2 frames"),
+    (377, 392, "P1"),
+    (392, 403, "P2 frames"),
+    (403, 418, "P1"),
+    (418, 429, ""),
+    (429, 438, "P1"),
+    (438, 440, "P2 frames"),
+    (440, 447, "P1"),
+    (447, 453, "P2 frames"),
+    (453, 468, "P1"),
+    (468, 475, "P2 frames"),
+    (475, 490, "P1"),
+    (490, 501, "P2 frames"),
+    (501, 516, "P1"),
+    (516, 527, ""),
+    (527, 536, "P1"),
+    (536, 538, "P2 frames"),
+    (538, 545, "P1"),
+    (545, 551, "P2 frames"),
+    (551, 566, "P1"),
+    (566, 573, "P2 frames"),
+    (573, 588, "P1"),
+    (588, 599, "P2 frames"),
+    (599, 614, "P1"),
+    (614, 625, ""),
+    (625, 634, "P1"),
+    (634, 636, "P2 frames"),
+    (636, 643, "P1"),
+    (643, 650, "P2 frames"),
+    (650, 665, "P1"),
+    (665, 672, "P2 frames"),
+    (672, 687, "P1"),
+    (687, 698, "P2 frames"),
+    (698, 713, "P1"),
+    (713, 9999, ""),
 ];
 
-/// Reads the prefixes of `ship.toml` from one length to before another: each has this fault.
-fn check_prefixes_between(
+/// Reads the prefixes of `ship.toml` from one length to before another, those that it has.
+fn check_prefixes(
     rt: &(impl Abort + AllocGlobal),
     from: usize,
     past: usize,
     want: &str,
 ) -> Result<(), Fail> {
     for length in from..past {
-        let ship = SHIP.get(..length).ok_or("a prefix")?;
-        check_ship(rt, ship, want, ship)?;
+        if let Some(ship) = SHIP.get(..length) {
+            check_ship(rt, ship, want, ship)?;
+        }
     }
-    Ok(())
-}
-
-/// Reads every prefix of `ship.toml`.
-fn check_prefixes(rt: &(impl Abort + AllocGlobal), rows: &[(usize, &str)]) -> Result<(), Fail> {
-    let mut from = 0;
-    for (past, want) in rows {
-        check_prefixes_between(rt, from, *past, want)?;
-        from = *past;
-    }
-    assert_eq!(rt; from, SHIP.len() + 1);
     Ok(())
 }
 
 #[test]
 fn every_prefix_of_ship_toml(rt: HostRuntime) -> Result<(), Fail> {
-    check_prefixes(&rt, &PREFIXES)
+    for (from, past, want) in &PREFIXES {
+        check_prefixes(&rt, *from, *past, want)?;
+    }
+    Ok(())
 }
 
 /// Comments before the text of `ship.toml`, and the words of their faults: one in UTF-8, and one that isn't.

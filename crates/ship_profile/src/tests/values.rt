@@ -1,6 +1,6 @@
 //! What a profile gives, compared with the numbers that stand in its files. The ship is one of which no two numbers are equal, so
 //! that one in the place of another shows.
-use super::files::{CELLS, SHIP, TANKS, box_files, check_words, seen};
+use super::files::{check_words, seen};
 use crate::{Curves, Hydro, Profile, ProfileBytes};
 use std::alloc::Global;
 use std::fmt::Debug;
@@ -8,7 +8,7 @@ use std::process::Abort;
 use std::test::Fail;
 use units_core::Cell;
 
-static UNLIKE_SHIP: &str = "lbp_mm = 90001
+static UNLIKE_SHIP: &[u8] = b"lbp_mm = 90001
 downflooding_deg = 41
 draught_max_mm = 7003
 trim_max_mm = 604
@@ -45,47 +45,47 @@ tank = \"P\"
 kg = 1028
 ";
 
-static UNLIKE_CELLS: &str = "cell,x,y,z,half
+static UNLIKE_CELLS: &[u8] = b"cell,x,y,z,half
 0010384,31031,1032,6033,3034
 0050284,71035,-2036,7037,6038
 ";
 
-static UNLIKE_HYDRO: &str = "kg,draught,kmt,lcb,lcf,mct
+static UNLIKE_HYDRO: &[u8] = b"kg,draught,kmt,lcb,lcf,mct
 1000039,2040,9041,45042,44043,8000044
 2000045,4046,8047,46048,43049,9000050
 ";
 
-static UNLIKE_KN: &str = "kg,0,5,10,15,20,25,30,35,40,45,50,55,60
+static UNLIKE_KN: &[u8] = b"kg,0,5,10,15,20,25,30,35,40,45,50,55,60
 1000051,100,200,300,400,500,600,700,800,900,1000,1100,1200,1300
 2000052,150,250,350,450,550,650,750,850,950,1050,1150,1250,1350
 ";
 
-static UNLIKE_BONJEAN: &str = "draught,-107,20008,51009,92010
+static UNLIKE_BONJEAN: &[u8] = b"draught,-107,20008,51009,92010
 53,5400,5500,5600,5700
 6058,59000,60000,61000,62000
 ";
 
-static UNLIKE_TANKS: &str = "tank,kg,x,y,z,half,fsm
+static UNLIKE_TANKS: &[u8] = b"tank,kg,x,y,z,half,fsm
 P,1000,20063,-3064,1065,566,67000
 P,1100,20066,-3067,1066,570,67003
 S,20,60068,69,70,71,72
 S,30,60070,66,75,79,93
 ";
 
-static UNLIKE_GM: &str = "kg,gm
+static UNLIKE_GM: &[u8] = b"kg,gm
 1000076,277
 2000078,379
 ";
 
 fn unlike_ship() -> ProfileBytes<'static> {
     ProfileBytes {
-        ship: UNLIKE_SHIP.as_bytes(),
-        cells: UNLIKE_CELLS.as_bytes(),
-        hydro: UNLIKE_HYDRO.as_bytes(),
-        kn: UNLIKE_KN.as_bytes(),
-        bonjean: UNLIKE_BONJEAN.as_bytes(),
-        tanks: UNLIKE_TANKS.as_bytes(),
-        gm: Some(UNLIKE_GM.as_bytes()),
+        ship: UNLIKE_SHIP,
+        cells: UNLIKE_CELLS,
+        hydro: UNLIKE_HYDRO,
+        kn: UNLIKE_KN,
+        bonjean: UNLIKE_BONJEAN,
+        tanks: UNLIKE_TANKS,
+        gm: Some(UNLIKE_GM),
     }
 }
 
@@ -103,18 +103,23 @@ enum Asked {
     Bonjean,
     LeastGm,
     /// Where the container of a cell stands.
-    Cell(&'static str),
+    Cell(Cell),
     /// The number of a tank by its name.
     Tank(&'static str),
     /// A tank that holds so many kg.
     Filling(u16, u32),
 }
 
+/// A value as it is debugged.
+fn debug_text<T: Debug + Drop>(alloc: Global, value: T) -> Result<String, Fail> {
+    Ok(format!(in alloc; "{value:?}")?)
+}
+
 /// The columns of the hydrostatic table from left to right.
 fn hydro_text(alloc: Global, hydro: &Hydro) -> Result<String, Fail> {
     let first = [hydro.kg(), hydro.draught(), hydro.kmt()];
     let last = [hydro.lcb(), hydro.lcf(), hydro.mct()];
-    Ok(format!(in alloc; "{first:?} {last:?}")?)
+    debug_text(alloc, [first, last])
 }
 
 /// The arguments, each curve, and what stands behind the last.
@@ -138,47 +143,25 @@ fn least_gm_text(alloc: Global, profile: &Profile) -> Result<String, Fail> {
 }
 
 fn limits_text(alloc: Global, profile: &Profile) -> Result<String, Fail> {
-    let angle = profile.downflooding();
     let lengths = [profile.lbp(), profile.draught_max(), profile.trim_max()];
     let others = [profile.list_max(), profile.closing_max()];
-    Ok(format!(in alloc; "{angle} {lengths:?} {others:?}")?)
-}
-
-fn place_text(alloc: Global, profile: &Profile, name: &str) -> Result<String, Fail> {
-    let cell = Cell::read(name.as_bytes()).ok_or("a cell")?;
-    let place = profile.cell(cell);
-    Ok(format!(in alloc; "{place:?}")?)
-}
-
-fn tank_text(alloc: Global, profile: &Profile, name: &str) -> Result<String, Fail> {
-    let number = profile.tank(name.as_bytes());
-    Ok(format!(in alloc; "{number:?}")?)
-}
-
-fn filling_text(alloc: Global, profile: &Profile, tank: u16, kg: u32) -> Result<String, Fail> {
-    let body = profile.tank_item(tank, kg);
-    Ok(format!(in alloc; "{body:?}")?)
-}
-
-/// A list, each item as it is debugged.
-fn list_text<T: Debug>(alloc: Global, items: &[T]) -> Result<String, Fail> {
-    Ok(format!(in alloc; "{items:?}")?)
+    debug_text(alloc, (profile.downflooding(), lengths, others))
 }
 
 fn shown(alloc: Global, profile: &Profile, asked: Asked) -> Result<String, Fail> {
     match asked {
         Asked::Limits => limits_text(alloc, profile),
-        Asked::Stations => list_text(alloc, profile.stations()),
-        Asked::Blocks => list_text(alloc, profile.blocks()),
-        Asked::Frames => list_text(alloc, profile.frames().as_slice()),
-        Asked::Fills => list_text(alloc, profile.fills()),
+        Asked::Stations => debug_text(alloc, profile.stations()),
+        Asked::Blocks => debug_text(alloc, profile.blocks()),
+        Asked::Frames => debug_text(alloc, profile.frames().as_slice()),
+        Asked::Fills => debug_text(alloc, profile.fills()),
         Asked::Hydro => hydro_text(alloc, profile.hydro()),
         Asked::Levers => curves_text(alloc, profile.levers()),
         Asked::Bonjean => curves_text(alloc, profile.bonjean()),
         Asked::LeastGm => least_gm_text(alloc, profile),
-        Asked::Cell(name) => place_text(alloc, profile, name),
-        Asked::Tank(name) => tank_text(alloc, profile, name),
-        Asked::Filling(tank, kg) => filling_text(alloc, profile, tank, kg),
+        Asked::Cell(cell) => debug_text(alloc, profile.cell(cell)),
+        Asked::Tank(name) => debug_text(alloc, profile.tank(name.as_bytes())),
+        Asked::Filling(tank, kg) => debug_text(alloc, profile.tank_item(tank, kg)),
     }
 }
 
@@ -204,7 +187,7 @@ fn check_answer(
 static UNLIKE: [(Asked, &str); 21] = [
     (
         Asked::Limits,
-        "41 [Mm { mm: 90001 }, Mm { mm: 7003 }, Mm { mm: 604 }] [505, 4006]",
+        "(41, [Mm { mm: 90001 }, Mm { mm: 7003 }, Mm { mm: 604 }], [505, 4006])",
     ),
     (
         Asked::Stations,
@@ -227,8 +210,8 @@ Frame { x: Mm { mm: 51009 }, shear_max: 24024, hog_max: 25025025, sag_max: 26026
     ),
     (
         Asked::Hydro,
-        "[[1000039, 2000045], [2040, 4046], [9041, 8047]] \
-[[45042, 46048], [44043, 43049], [8000044, 9000050]]",
+        "[[[1000039, 2000045], [2040, 4046], [9041, 8047]], \
+[[45042, 46048], [44043, 43049], [8000044, 9000050]]]",
     ),
     (
         Asked::Levers,
@@ -242,14 +225,29 @@ Some([1100, 1150]) Some([1200, 1250]) Some([1300, 1350]) None",
     ),
     (Asked::LeastGm, "[1000076, 2000078] Some([277, 379]) None"),
     (
-        Asked::Cell("0010384"),
+        Asked::Cell(Cell {
+            bay: 1,
+            row: 3,
+            tier: 84,
+        }),
         "Some(Place { x: Mm { mm: 31031 }, y: Mm { mm: 1032 }, z: Mm { mm: 6033 }, half: Mm { mm: 3034 } })",
     ),
     (
-        Asked::Cell("050284"),
+        Asked::Cell(Cell {
+            bay: 5,
+            row: 2,
+            tier: 84,
+        }),
         "Some(Place { x: Mm { mm: 71035 }, y: Mm { mm: -2036 }, z: Mm { mm: 7037 }, half: Mm { mm: 6038 } })",
     ),
-    (Asked::Cell("0010284"), "None"),
+    (
+        Asked::Cell(Cell {
+            bay: 1,
+            row: 2,
+            tier: 84,
+        }),
+        "None",
+    ),
     (Asked::Tank("P"), "Some(0)"),
     (Asked::Tank("S"), "Some(1)"),
     (Asked::Tank("p"), "None"),
@@ -273,17 +271,6 @@ Some([1100, 1150]) Some([1200, 1250]) Some([1300, 1350]) None",
 fn profile_of_unlike_numbers(rt: HostRuntime) -> Result<(), Fail> {
     for (asked, want) in &UNLIKE {
         check_answer(&rt, &unlike_ship(), *asked, want)?;
-    }
-    Ok(())
-}
-
-/// A ship that has neither `gm.csv` nor fills.
-static BARE: [(Asked, &str); 2] = [(Asked::LeastGm, "None"), (Asked::Fills, "[]")];
-
-#[test]
-fn profile_of_the_box_ship(rt: HostRuntime) -> Result<(), Fail> {
-    for (asked, want) in &BARE {
-        check_answer(&rt, &box_files(SHIP, CELLS, TANKS, None), *asked, want)?;
     }
     Ok(())
 }
