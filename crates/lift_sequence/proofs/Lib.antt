@@ -1,4 +1,5 @@
 pub mod ArrivalSums
+pub mod Changes
 pub mod Listings
 pub mod Overlaps
 pub mod States

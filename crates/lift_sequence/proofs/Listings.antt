@@ -64,14 +64,7 @@ module _ (ship : ProfileRecord) where
       let past : slice_get ship.tables.tanks k ≡ None = slice_get_past ship.tables.tanks k (grind (arith, e)) in
       rw (is, past) refl
 
-  pub fillings : (f : Mass → ℤ) (es : List (ℕ × ℕ)) → IsDistinct nat_eq (keys_of es)
-      → total f (flat_map (λ (e : ℕ × ℕ). option_to_list (tank_body ship e.0 e.1)) es) ≡ total f (bodies_in_tanks ship (λ q. lookup (nat_eq q) es))
-  fillings f es apart =
-      ap (total f) (sym (same_lists _ _ (λ (e : ℕ × ℕ). tank_given e.0 e.1 (nat_lt e.0 (length ship.tables.tanks)) refl) es))
-      ∙ sym (listed (λ (t : ℕ). t) nat_eq (λ a b h. eqb-true a b h) (λ t held. option_to_list (filling_in ship t held)) (λ t. refl) f nat_turn
-      (range_with_len 0 (length ship.tables.tanks)) (distinct_range 0 (length ship.tables.tanks)) es apart)
-
-  found : (k : Cell) (cells : List (Cell × Place)) → lookup (cell_eq k) cells ≡ option_map (λ (e : Cell × Place). e.1) (find (λ (e : Cell × Place). cell_eq k e.0) cells)
+  pub found : (k : Cell) (cells : List (Cell × Place)) → lookup (cell_eq k) cells ≡ option_map (λ (e : Cell × Place). e.1) (find (λ (e : Cell × Place). cell_eq k e.0) cells)
   found k [] = refl
   found k (e ∷ cells) = by_cases (cell_eq k e.0) (found k cells) where
     by_cases : (b : Bool) → lookup (cell_eq k) cells ≡ option_map (λ (e : Cell × Place). e.1) (find (λ (e : Cell × Place). cell_eq k e.0) cells)
@@ -85,15 +78,6 @@ module _ (ship : ProfileRecord) where
   cell_given v None = refl
   cell_given v (Some e) = refl
 
-  pub containers : (f : Mass → ℤ) (es : List (Cell × Container)) → IsDistinct cell_eq (keys_of es) → IsDistinct cell_eq (keys_of ship.tables.cells)
-      → total f (flat_map (λ (e : Cell × Container). option_to_list (body_in (place_of ship e.0) (Some e.1))) es)
-      ≡ total f (bodies_in_cells ship (λ q. lookup (cell_eq q) es))
-  containers f es apart tidy =
-      ap (total f) (same_lists _ _ (λ (e : Cell × Container). ap (λ o. option_to_list (body_in o (Some e.1))) (found e.0 ship.tables.cells)
-      ∙ sym (cell_given e.1 (find (λ (x : Cell × Place). cell_eq e.0 x.0) ship.tables.cells))) es)
-      ∙ sym (listed (λ (e : Cell × Place). e.0) cell_eq cells_same (λ e held. option_to_list (body_in (Some e.1) held)) (λ e. refl) f cell_turn
-      ship.tables.cells tidy es apart)
-
 -- how many they are
 at_most_one : {X Y : Type 0} (g : X → Option Y) (x : X) (o : Option Y) → g x ≡ o → length (option_to_list (g x)) ≤ 1
 at_most_one g x None e = rw e (omega arith)
@@ -103,32 +87,6 @@ pub few_options : {X Y : Type 0} (g : X → Option Y) (xs : List X) → length (
 few_options g [] = omega arith
 few_options g (x ∷ xs) =
     omega (arith, length-append (option_to_list (g x)) (flat_map (λ x. option_to_list (g x)) xs), at_most_one g x (g x) refl, few_options g xs)
-
--- the blocks, the fillings and the containers, listed one behind another
-pub sum_parts : (f : Mass → ℤ) (all some first blocks fs cs ts ks : List Mass) → all ≡ some ++ cs → some ≡ first ++ fs → first ≡ blocks → total f fs ≡ total f ts
-    → total f cs ≡ total f ks → total f all ≡ total f (blocks ++ (ts ++ ks))
-sum_parts f all some first blocks fs cs ts ks a b d p q =
-    omega (
-      arith,
-      ints,
-      ap (total f) a,
-      ap (total f) b,
-      ap (total f) d,
-      total-append f some cs,
-      total-append f first fs,
-      total-append f blocks (ts ++ ks),
-      total-append f ts ks,
-      p,
-      q,
-    )
-
-pub few_parts : {X Y : Type 0} (all blocks : List Mass) (g : X → Option Mass) (xs : List X) (h : Y → Option Mass) (ys : List Y)
-    → ((f : Mass → ℤ) → total f all ≡ total f (blocks ++ (flat_map (λ x. option_to_list (g x)) xs ++ flat_map (λ y. option_to_list (h y)) ys)))
-    → length blocks ≤ 200 → length xs ≤ 200 → length ys ≤ 30000 → length all ≤ 30400
-few_parts all blocks g xs h ys sums b x y =
-    let ts = flat_map (λ x. option_to_list (g x)) xs in
-    let ks = flat_map (λ y. option_to_list (h y)) ys in
-    omega (arith, ints, sums (λ m. pos 1), ones all, ones (blocks ++ (ts ++ ks)), length-append blocks (ts ++ ks), length-append ts ks, few_options g xs, few_options h ys, b, x, y)
 
 -- a container that can be put into a cell has a place, and nothing stands there
 stood : (o : Option Place) (taken : Bool) (rival : Option Cell) → standing o taken rival ≡ None → ((p : Place) × (o ≡ Some p)) × (taken ≡ false)

@@ -1,5 +1,5 @@
 -- What is aboard, item by item and step by step.
-use Rattle.std.proofs.Common.{◌≡◌, ℕ, suc, ◌+◌, ◌<◌, List, [], ◌∷◌, ◌++◌, length, take, drop, get_or, Option, None, Some, refl, sym, ap, ◌∙◌}
+use Rattle.std.proofs.Common.{◌≡◌, ℕ, zero, suc, ◌+◌, ◌<◌, ◌≤◌, arith, length-append, List, [], ◌∷◌, ◌++◌, length, take, drop, get_or, Option, None, Some, refl, sym, ap, ◌∙◌}
 use Rattle.std.specs.List.{filter_map}
 use Rattle.std.specs.Option.{option_or, option_map, option_to_list}
 use Rattle.std.proofs.lemmas.List.{take_more, drop_more}
@@ -16,6 +16,7 @@ use Rattle.lift_sequence.specs.Arrival.{with_items, with_fills, items_fault, fil
 use Rattle.lift_sequence.specs.declared.operations.Op.{Op}
 use Rattle.lift_sequence.specs.Bodies.{steps_of}
 use Rattle.lift_sequence.specs.Legal.{stand_fault, over_fault}
+use Rattle.lift_sequence.specs.Sequence.{AreSteps}
 
 -- two that hold the same in each cell and in each tank are one
 pub same : (a b : Aboard) → ((cell : Cell) → a.cells cell ≡ b.cells cell) → ((tank : ℕ) → a.tanks tank ≡ b.tanks tank) → a ≡ b
@@ -31,6 +32,15 @@ module _ {X Y : Type 0} (h : X → Option Y) where
 
   pub filter_first : (x : X) (xs : List X) → filter_map h (x ∷ xs) ≡ option_to_list (h x) ++ filter_map h xs
   filter_first x xs = filter_map-append h (x ∷ []) xs ∙ ap (λ ys. ys ++ filter_map h xs) (filter_one x)
+
+  at_most_one : (o : Option Y) → length (option_to_list o) ≤ 1
+  at_most_one None = omega arith
+  at_most_one (Some y) = omega arith
+
+  pub filter_few : (xs : List X) → length (filter_map h xs) ≤ length xs
+  filter_few [] = omega arith
+  filter_few (x ∷ xs) =
+      omega (arith, ap length (filter_first x xs), length-append (option_to_list (h x)) (filter_map h xs), at_most_one (h x), filter_few xs)
 
   pub filter_more : (xs : List X) (i : ℕ) (x : X) (before after : List Y) (o : Option Y) → i < length xs → x ≡ get_or xs i x → before ≡ filter_map h (take i xs)
       → o ≡ h x → after ≡ before ++ option_to_list o → after ≡ filter_map h (take (i + 1) xs)
@@ -102,3 +112,9 @@ restow_refused a b e h k = rw (h, k) refl
 pub as_many : (ship : ProfileRecord) (at : Aboard) (ops : List Op) → length (steps_of ship at ops) ≡ length ops
 as_many ship at [] = refl
 as_many ship at (op ∷ ops) = ap (λ n. suc n) (as_many ship (moved ship at op) ops)
+
+-- step k is what op k does to what is aboard after those before it
+pub each_step : (ship : ProfileRecord) (at : Aboard) (ops : List Op) → AreSteps ship at ops (steps_of ship at ops)
+each_step ship at [] k = refl
+each_step ship at (op ∷ ops) zero = refl
+each_step ship at (op ∷ ops) (suc k) = each_step ship (moved ship at op) ops k

@@ -38,26 +38,46 @@ module _ {E K V B : Type 0} (key : E → K) (eq : K → K → Bool) (same : (a b
       let here : h x (cond (eq k (key x)) w (at (key x))) ≡ h x (at (key x)) = ap (λ b. h x (cond b w (at (key x)))) apart.0 in
       λ i. here i ++ unchanged at k w es apart.1 i
 
+  -- what the element of a key gives
+  abbrev pub gives : Option E → Option V → List B
+  gives None w = []
+  gives (Some x) w = h x w
+
+  -- one key's value changes, and the total by what stood there and what stands there now
+  pub changed : (f : B → ℤ) (at : K → Option V) (k : K) (w : Option V) (es : List E) → IsDistinct eq (map key es)
+      → total f (rows (update eq at k w) es) +ℤ total f (gives (element es k) (at k)) ≡ total f (rows at es) +ℤ total f (gives (element es k) w)
+  unfolding IsDistinct
+  changed f at k w [] apart = refl
+  changed f at k w (x ∷ es) apart =
+      elim (eq k (key x)) as (λ b. eq k (key x) ≡ b → total f (h x (cond b w (at (key x))) ++ rows (update eq at k w) es) +ℤ total f (gives (cond b (Some x) (element es k)) (at k))
+      ≡ total f (rows at (x ∷ es)) +ℤ total f (gives (cond b (Some x) (element es k)) w)) [
+        | true ↦ λ is.
+            let here : k ≡ key x = same k (key x) is in
+            let rest : rows (update eq at k w) es ≡ rows at es = unchanged at k w es (subst (λ y. AllByRecursion (λ z. eq y z ≡ false) (map key es)) (sym here) apart.0) in
+            let was : h x (at (key x)) ≡ h x (at k) = ap (λ y. h x (at y)) (sym here) in
+            let a = total-append f (h x w) (rows (update eq at k w) es) in
+            let b = total-append f (h x (at (key x))) (rows at es) in
+            omega (arith, ints, a, b, ap (total f) was, ap (total f) rest)
+        | false ↦ λ is.
+            let a = total-append f (h x (at (key x))) (rows (update eq at k w) es) in
+            let b = total-append f (h x (at (key x))) (rows at es) in
+            omega (arith, ints, a, b, changed f at k w es apart.1)
+      ] refl
+
+  nothing_given : (o : Option E) (w : Option V) → w ≡ None → gives o w ≡ []
+  nothing_given None w e = refl
+  nothing_given (Some x) w e = ap (h x) e ∙ none x
+
+  given_is : (o : Option E) (v : V) → gives o (Some v) ≡ given o v
+  given_is None v = refl
+  given_is (Some x) v = refl
+
   -- something comes to a key at which nothing stood
   pub one_more : (f : B → ℤ) (at : K → Option V) (k : K) (v : V) (es : List E) → at k ≡ None → IsDistinct eq (map key es)
       → total f (rows (update eq at k (Some v)) es) ≡ total f (rows at es) +ℤ total f (given (element es k) v)
-  unfolding IsDistinct
-  one_more f at k v [] free apart = omega (arith, ints)
-  one_more f at k v (x ∷ es) free apart =
-      elim (eq k (key x)) as (λ b. eq k (key x) ≡ b → total f (h x (cond b (Some v) (at (key x))) ++ rows (update eq at k (Some v)) es)
-      ≡ total f (rows at (x ∷ es)) +ℤ total f (given (cond b (Some x) (element es k)) v)) [
-        | true ↦ λ is.
-            let here : k ≡ key x = same k (key x) is in
-            let rest : rows (update eq at k (Some v)) es ≡ rows at es = unchanged at k (Some v) es (subst (λ y. AllByRecursion (λ z. eq y z ≡ false) (map key es)) (sym here) apart.0) in
-            let was : total f (h x (at (key x))) ≡ pos 0 = ap (λ y. total f (h x (at y))) (sym here) ∙ ap (λ o. total f (h x o)) free ∙ ap (total f) (none x) in
-            let a = total-append f (h x (Some v)) (rows (update eq at k (Some v)) es) in
-            let b = total-append f (h x (at (key x))) (rows at es) in
-            omega (arith, ints, a, b, was, ap (total f) rest)
-        | false ↦ λ is.
-            let a = total-append f (h x (at (key x))) (rows (update eq at k (Some v)) es) in
-            let b = total-append f (h x (at (key x))) (rows at es) in
-            omega (arith, ints, a, b, one_more f at k v es free apart.1)
-      ] refl
+  one_more f at k v es free apart =
+      let both = changed f at k (Some v) es apart in
+      omega (arith, ints, both, ap (total f) (nothing_given (element es k) (at k) free), ap (total f) (given_is (element es k) v))
 
   absent : (k : K) (es : List (K × V)) → AllByRecursion (λ y. eq k y ≡ false) (keys_of es) → lookup (eq k) es ≡ None
   absent k [] apart = refl

@@ -1,18 +1,21 @@
 -- A sequence of steps: what the planner orders, in his order, and the first step that can't be done.
-use Rattle.std.specs.Prelude.{◌≡◌, ℕ, zero, suc, ◌+◌, List, [], ◌∷◌, length, map, filter_map, Option, None, Some, option_map, slice_get, nat_lt, if◌then◌else◌}
+use Rattle.std.specs.Prelude.{◌≡◌, ℕ, zero, suc, ◌+◌, ℤ, ◌+ℤ◌, List, [], ◌∷◌, length, map, take, filter_map, Option, None, Some, option_map, slice_get, nat_lt, if◌then◌else◌}
 use Rattle.std.specs.Option.{option_or}
 use Rattle.stow_messages.specs.declared.lifts.Lift as lift
 use Rattle.stow_messages.specs.declared.step_rows.StepRow.{StepRow}
 use Rattle.stow_messages.specs.declared.step_rows.StepRow.TheVariants as row
-use Rattle.ship_profile.specs.Record.{ProfileRecord}
+use Rattle.ship_profile.specs.Record.{ProfileRecord, IsSound}
 use Rattle.lift_sequence.specs.declared.faults.SeqFault.{SeqFault}
 use Rattle.lift_sequence.specs.declared.faults.SeqCode.TheVariants.{TooManySteps}
 use Rattle.lift_sequence.specs.declared.operations.Op as operation
 use Rattle.lift_sequence.specs.declared.operations.Op.TheVariants.{Lift, Fill, Restow}
 use Rattle.lift_sequence.specs.declared.steps.Step.{Step}
-use Rattle.lift_sequence.specs.Aboard.{Aboard, moved}
+use Rattle.units_core.specs.Bodies.{Mass}
+use Rattle.lift_sequence.specs.Aboard.{Aboard, after_all, moved}
 use Rattle.lift_sequence.specs.Arrival.{ArrivalRecord, arrival_fault, arrival_bodies, fault_at}
+use Rattle.lift_sequence.specs.Bodies.{bodies, step_of}
 use Rattle.lift_sequence.specs.Legal.{fault_of}
+use Rattle.lift_sequence.specs.Totals.{change, total}
 
 -- the lift of a number, the first being 1
 abbrev pub lift_at : List lift.Lift → ℕ → Option lift.Lift
@@ -41,12 +44,24 @@ abbrev pub sequence_fault : ProfileRecord → Aboard → List operation.Op → O
 sequence_fault ship at ops =
     if nat_lt 120000 (length ops) then Some (fault_at 120001 TooManySteps) else first_fault ship at 1 ops
 
+-- Each step does what it does to what is aboard after the steps before it.
+abbrev pub AreSteps : ProfileRecord → Aboard → List operation.Op → List Step → Type 0
+AreSteps ship at ops steps =
+    (k : ℕ) → slice_get steps k ≡ option_map (λ op. step_of ship (after_all ship at (take k ops)) op) (slice_get ops k)
+
+-- Whatever value is added up over the bodies aboard: after the first k steps it is that on arrival, less what these steps took out, and what
+-- they put in.
+abbrev pub StepsAddUp : ProfileRecord → Aboard → List operation.Op → List Step → Type 0
+StepsAddUp ship at ops steps = (f : Mass → ℤ) (k : ℕ)
+    → total f (bodies ship (after_all ship at (take k ops))) ≡ total f (bodies ship at) +ℤ total (change f) (take k steps)
+
 -- what a sequence is
 pub record SequenceRecord : Type 0 where
   pub ops : List operation.Op
   pub steps : List Step
 
--- the arrival was made with this profile
+-- the arrival was made with this profile, which keeps what every profile keeps
 pub record IsOf (ship : ProfileRecord) (arrival : ArrivalRecord) : Type 0 where
+  pub sound : IsSound ship
   pub legal : arrival_fault ship arrival.items arrival.fills ≡ None
   pub bodies : arrival.bodies ≡ arrival_bodies ship arrival.items arrival.fills

@@ -56,6 +56,7 @@ fn stow_items(
     requires none { bodies.old.items ≡ [] }
     ensures legal { OnOk result (items_fault profile.now nothing 1 items.now ≡ None) }
     ensures bodies { OnOk result (bodies.new.items ≡ filter_map (λ item. body_in (place_of profile.now item.cell) (Some (container_of item))) items.now) }
+    ensures few { OnOk result (length items.now ≤ 30000) }
     ensures refused { IfErr result (λ e. e.code ≢ SeqCode.NoMemory → items_fault profile.now nothing 1 items.now ≡ Some e) }
     ensures memory { IfErr result (λ e. e.code ≡ SeqCode.NoMemory → e.at ≡ 0) }
 {
@@ -78,6 +79,7 @@ fn item_bodies(alloc: Global, profile: &Profile, items: &[Item]) -> Result<Vec<B
     requires { IsSound profile.now }
     ensures legal { OnOk result (items_fault profile.now nothing 1 items.now ≡ None) }
     ensures bodies { IfOk result (λ b. b.items ≡ filter_map (λ item. body_in (place_of profile.now item.cell) (Some (container_of item))) items.now) }
+    ensures few { OnOk result (length items.now ≤ 30000) }
     ensures refused { IfErr result (λ e. e.code ≢ SeqCode.NoMemory → items_fault profile.now nothing 1 items.now ≡ Some e) }
     ensures memory { IfErr result (λ e. e.code ≡ SeqCode.NoMemory → e.at ≡ 0) }
 {
@@ -140,6 +142,7 @@ impl Arrival {
         ensures items { IfOk result (λ a. a.items ≡ items.items) }
         ensures fills { IfOk result (λ a. a.fills ≡ fills.now) }
         ensures bodies { IfOk result (λ a. a.bodies ≡ arrival_bodies profile.now items.items fills.now) }
+        ensures few { IfOk result (λ a. length a.bodies ≤ 30400) }
         ensures of { IfOk result (λ a. IsOf profile.now a) }
         ensures sums { IfOk result (λ a. IsDistinct nat_eq (map (λ fill. fill.tank) fills.now) → (f : Mass → ℤ)
             → total f a.bodies ≡ total f (bodies profile.now (on_arrival items.items fills.now))) }
@@ -170,7 +173,7 @@ impl Arrival {
     }
 
     /// What is aboard, to go on from.
-    pub fn stowage(&self, alloc: Global) -> Result<Stowage, AllocError>
+    pub(crate) fn stowage(&self, alloc: Global) -> Result<Stowage, AllocError>
         ensures { IfOk result (λ s. held s ≡ on_arrival self.now.items self.now.fills) }
     {
         let mut stowage = Stowage::empty(alloc);

@@ -3,8 +3,8 @@
 //!
 //! [`Arrival::new`] puts the items of a bay plan into the ship's cells and the fills into her tanks. [`Sequence::new`] goes through the
 //! steps that [`ops`] makes of a movement instruction and a steps file, and tells of each the body that it takes out and the one that it
-//! puts in. Both answer the first item, fill or step that can't be, and why. [`Stowage`] is what is aboard at one step, from which all
-//! bodies can be listed. A look-up takes constant time; so does the search for a cell that wants the same room.
+//! puts in. Both answer the first item, fill or step that can't be, and why. What is aboard is known to this crate alone: the bodies on
+//! arrival and those of each step are all that a sum needs. A look-up takes constant time; so does the search for a cell that overlaps.
 #![tactic(auto)]
 
 mod arrivals;
@@ -22,4 +22,3 @@ pub use faults::{SeqCode, SeqFault};
 pub use operations::{Op, ops};
 pub use sequences::Sequence;
 pub use steps::Step;
-pub use stowage::Stowage;

@@ -3,7 +3,7 @@ ghost use Rattle.lift_sequence.specs.Arrival.{fault_at, on_arrival};
 ghost use Rattle.lift_sequence.specs.Aboard.{held, moved};
 ghost use Rattle.lift_sequence.specs.Bodies.{step_of, steps_of};
 ghost use Rattle.lift_sequence.specs.Legal.{fault_of};
-ghost use Rattle.lift_sequence.specs.Sequence.{IsOf, first_fault, sequence_fault};
+ghost use Rattle.lift_sequence.specs.Sequence.{AreSteps, IsOf, StepsAddUp, first_fault, sequence_fault};
 
 use crate::arrivals::Arrival;
 use crate::faults::{NO_MEMORY, SeqCode, SeqFault, fault_at};
@@ -67,7 +67,8 @@ impl Sequence {
     /// The sequence of these steps from the condition on arrival, which was made with the same profile. The first fault is answered:
     /// [`SeqCode::TooManySteps`] at 120,001 where there are more than 120,000; then step by step, from 1, of a load `UnknownCell`, `CellTaken`,
     /// `Overlap`; of a discharge `UnknownCell`, `CellEmpty`, `WrongContainer`; of a filling `UnknownTank`, `TankOver`; of a restow those of a
-    /// discharge, and then those of a load into the other cell.
+    /// discharge, and then those of a load into the other cell. What the steps take out and put in is what changes each sum over the bodies
+    /// aboard.
     pub fn new(
         alloc: Global,
         profile: &Profile,
@@ -79,6 +80,8 @@ impl Sequence {
         ensures ops { IfOk result (λ s. s.ops ≡ ops.items) }
         ensures few { IfOk result (λ s. length s.ops ≤ 120000) }
         ensures steps { IfOk result (λ s. s.steps ≡ steps_of profile.now (on_arrival arrival.now.items arrival.now.fills) ops.items) }
+        ensures each { IfOk result (λ s. AreSteps profile.now (on_arrival arrival.now.items arrival.now.fills) ops.items s.steps) }
+        ensures sums { IfOk result (λ s. StepsAddUp profile.now (on_arrival arrival.now.items arrival.now.fills) ops.items s.steps) }
         ensures refused { IfErr result (λ e. e.code ≢ SeqCode.NoMemory →
             sequence_fault profile.now (on_arrival arrival.now.items arrival.now.fills) ops.items ≡ Some e) }
         ensures memory { IfErr result (λ e. e.code ≡ SeqCode.NoMemory → e.at ≡ 0) }

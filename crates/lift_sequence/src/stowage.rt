@@ -1,16 +1,9 @@
-ghost use Rattle.std.specs.Prelude.{◌≡◌, ◌≢◌, ◌++◌, ℕ, ℤ, ◌≤◌, length, flat_map, nat_eq, OnOk, IfOk, IfErr, Some, None, pos};
-ghost use Rattle.std.specs.Option.{is_some, option_or, option_to_list};
-ghost use Rattle.units_core.specs.declared.cells.Cell.{Cell as CellValue};
-ghost use Rattle.lift_sequence.specs.declared.containers.Container.{Container as ContainerValue};
-ghost use Rattle.indexmap.specs.IndexMap.{IsUnique};
-ghost use Rattle.units_core.specs.Bodies.{Mass};
-ghost use Rattle.units_core.specs.Cells.{cell_eq};
-ghost use Rattle.ship_profile.specs.Record.{place_of, tank_of, tank_body};
-ghost use Rattle.lift_sequence.specs.Aboard.{Aboard, held, moved, nothing, with_cell, with_tank};
-ghost use Rattle.lift_sequence.specs.Arrival.{on_arrival, with_items, with_fills};
-ghost use Rattle.lift_sequence.specs.Bodies.{bodies, body_of, body_in, filling_step, step_of};
-ghost use Rattle.lift_sequence.specs.Legal.{fault_of, fill_fault, hold_fault, in_bay, is_rival, overlap, stand_fault, take_fault};
-ghost use Rattle.lift_sequence.specs.Totals.{total};
+ghost use Rattle.std.specs.Prelude.{◌≡◌, ◌≢◌, OnOk, IfOk, IfErr, Some, None, pos};
+ghost use Rattle.std.specs.Option.{is_some, option_or};
+ghost use Rattle.ship_profile.specs.Record.{place_of, tank_of};
+ghost use Rattle.lift_sequence.specs.Aboard.{held, moved, nothing, with_cell, with_tank};
+ghost use Rattle.lift_sequence.specs.Bodies.{body_of, body_in, filling_step, step_of};
+ghost use Rattle.lift_sequence.specs.Legal.{fault_of, fill_fault, in_bay, is_rival, overlap, stand_fault, take_fault};
 
 use crate::containers::{Container, container_of, differ};
 use crate::faults::SeqCode;
@@ -18,13 +11,13 @@ use crate::operations::Op;
 use crate::steps::Step;
 use indexmap::IndexMap;
 use ship_profile::Profile;
-use std::alloc::{AllocError, Global};
+use std::alloc::Global;
 use stow_messages::Lift;
 use units_core::{Body, Cell, Kg, Place, conflicts};
 
 /// What is aboard: what stands in each cell, and how much each tank holds.
 #[derive(Debug, Drop)]
-pub struct Stowage {
+pub(crate) struct Stowage {
     pub(crate) cells: IndexMap<Cell, Container>,
     pub(crate) tanks: IndexMap<u16, u32>,
 }
@@ -205,9 +198,9 @@ impl Stowage {
         })
     }
 
-    /// Does one step, and tells the bodies that it takes out and puts in; or why it can't be done, and then what is aboard isn't
-    /// told.
-    pub fn make(&mut self, profile: &Profile, op: &Op) -> Result<Step, SeqCode>
+    /// Does one step, and tells the bodies that it takes out and puts in; or why it can't be done, and then the state
+    /// is unspecified.
+    pub(crate) fn make(&mut self, profile: &Profile, op: &Op) -> Result<Step, SeqCode>
         ensures legal { OnOk result (fault_of profile.now (held self.old) op.now ≡ None) }
         ensures moved { OnOk result (held self.new ≡ moved profile.now (held self.old) op.now) }
         ensures step { IfOk result (λ s. s ≡ step_of profile.now (held self.old) op.now) }
@@ -232,53 +225,4 @@ impl Stowage {
             Op::Restow { from, to, id } => self.restow(profile, *from, *to, id.as_slice()),
         }
     }
-
-    /// Every body that is aboard: the blocks of the light ship, the filling of each tank, and each container at its cell's place,
-    /// in unspecified order. What stands in a cell or a tank that the ship hasn't is no body.
-    pub fn bodies(&self, alloc: Global, profile: &Profile) -> Result<Vec<Body>, AllocError>
-        ensures sum { IfOk result (λ v. (f : Mass → ℤ) → total f v.items ≡ total f (bodies profile.now (held self.now))) }
-        ensures few { IfOk result (λ v. length v.items ≤ 30400) }
-    {
-        let mut bodies = Vec::new(alloc);
-        bodies.extend_from_slice(profile.blocks())?;
-        add_fillings(profile, &self.tanks, &mut bodies)?;
-        add_containers(profile, &self.cells, &mut bodies)?;
-        Ok(bodies)
-    }
-}
-
-/// Adds the filling of each tank.
-fn add_fillings(
-    profile: &Profile,
-    tanks: &IndexMap<u16, u32>,
-    bodies: &mut Vec<Body>,
-) -> Result<(), AllocError>
-    ensures added { OnOk result (bodies.new.items ≡ bodies.old.items
-        ++ flat_map (λ (e : ℕ × ℕ). option_to_list (tank_body profile.now e.0 e.1)) tanks.now.entries) }
-    ensures unique { IsUnique nat_eq tanks.now }
-{
-    for (tank, kg) in tanks.iter() {
-        if let Some(body) = profile.tank_item(*tank, *kg) {
-            bodies.push(body)?;
-        }
-    }
-    Ok(())
-}
-
-/// Adds each container at its cell's place.
-fn add_containers(
-    profile: &Profile,
-    cells: &IndexMap<Cell, Container>,
-    bodies: &mut Vec<Body>,
-) -> Result<(), AllocError>
-    ensures added { OnOk result (bodies.new.items ≡ bodies.old.items
-        ++ flat_map (λ (e : CellValue × ContainerValue). option_to_list (body_in (place_of profile.now e.0) (Some e.1))) cells.now.entries) }
-    ensures unique { IsUnique cell_eq cells.now }
-{
-    for (cell, container) in cells.iter() {
-        if let Some(place) = profile.cell(*cell) {
-            bodies.push(body_of(place, container.kg))?;
-        }
-    }
-    Ok(())
 }

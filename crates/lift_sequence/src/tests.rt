@@ -4,4 +4,3 @@ mod operations;
 mod orders;
 mod sequences;
 mod ships;
-mod stowages;

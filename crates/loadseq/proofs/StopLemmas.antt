@@ -1,14 +1,34 @@
 -- What stopped a run, by the words of its command line.
-use Rattle.std.proofs.Common.{◌≡◌, ℕ, List, codes, arith}
+use Rattle.std.proofs.Common.{◌≡◌, ℕ, List, codes, true, Err, refl, sym, subst, arith}
 use Rattle.clap.specs.Words.{Text}
+use Rattle.prefix_scan.specs.declared.divisions.CutFault.{CutFault}
+use Rattle.seq_report.specs.declared.faults.RunFault.{RunFault}
+use Rattle.seq_report.specs.declared.faults.RunFault.TheVariants as run
+use Rattle.seq_report.specs.declared.inputs.Inputs.{Inputs}
+use Rattle.seq_report.specs.Refusal.{is_refusal, outcome_of}
 use Rattle.loadseq.specs.declared.command_line.Line.{Line}
 use Rattle.loadseq.specs.declared.stops.Stop.{Stop}
 use Rattle.loadseq.specs.declared.stops.Stop.TheVariants.{Refused, Usage, NoMemory, Read, Write}
 use Rattle.loadseq.specs.Files.{Known}
 use Rattle.loadseq.specs.Lines.{IsLineBehind}
-use Rattle.loadseq.specs.Runs.{IsRefusedBy, IsStopBy, IsStopOf}
-use Rattle.loadseq.specs.Statuses.{status_of}
+use Rattle.loadseq.specs.Runs.{IsRefusedBy, IsStopBy, IsStopOf, IsStopOn}
+use Rattle.loadseq.specs.Statuses.{status_of, stop_of_run}
 use Rattle.loadseq.specs.Words.{behind_name}
+
+-- a run without a report whose cuts have no fault
+pub of_run : (inputs : Inputs) (fault : RunFault) (stop : Stop) → stop ≡ stop_of_run fault → (is_refusal fault ≡ true → outcome_of inputs ≡ Err fault)
+    → ((f : CutFault) → fault ≡ run.Cuts f → ⊥) → IsStopOn inputs stop
+of_run inputs fault stop is refused uncut = subst (IsStopOn inputs) (sym is) (by fault refused uncut) where
+  by : (fault : RunFault) → (is_refusal fault ≡ true → outcome_of inputs ≡ Err fault) → ((f : CutFault) → fault ≡ run.Cuts f → ⊥) → IsStopOn inputs (stop_of_run fault)
+  by (run.Profile f) refused uncut = refused refl
+  by (run.Baplie f) refused uncut = refused refl
+  by (run.Arrival f) refused uncut = refused refl
+  by (run.Movins f) refused uncut = refused refl
+  by (run.Steps f) refused uncut = refused refl
+  by (run.Sequence f) refused uncut = refused refl
+  by (run.Cuts f) refused uncut = absurd (uncut f refl)
+  by run.NoMemory refused uncut = tt
+  by (run.Write m) refused uncut = tt
 
 module _ (known : List ℕ → Known) (words : List Text) where
   -- files of a line that have no report

@@ -10,9 +10,12 @@ use crate::command_line::{Line, read_line};
 use crate::files::Readers;
 use crate::folders::read_texts;
 use crate::stops::Stop;
-use seq_report::{Inputs, Sink, Through, report};
+use seq_report::{CutPlan, Inputs, Sink, Through, report};
 use std::alloc::Global;
 use std::io::Write;
+
+/// How many lines of a report are made at a time.
+const CHUNK: u32 = 256;
 
 /// Writes the report on the inputs to a sink, and gives the exit status: 0, or 1 where a step fails.
 fn report_to<S: Sink>(alloc: Global, inputs: &Inputs<'_>, sink: &mut S) -> Result<u8, Stop>
@@ -22,7 +25,10 @@ fn report_to<S: Sink>(alloc: Global, inputs: &Inputs<'_>, sink: &mut S) -> Resul
     ensures status { IfOk result (λ status. status ≤ 1) }
     ensures stopped { IfErr result (IsStopOn inputs.now) }
 {
-    let summary = report(alloc, inputs, sink)?;
+    let summary = match report(alloc, inputs, CutPlan::Every(CHUNK), sink) {
+        Ok(summary) => summary,
+        Err(fault) => return Err(Stop::from(fault)),
+    };
     Ok(if summary.first.is_none() { 0 } else { 1 })
 }
 

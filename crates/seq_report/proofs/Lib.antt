@@ -1,3 +1,6 @@
+pub mod ChunkLemmas
 pub mod Digits
+pub mod OffsetLemmas
+pub mod PlanLemmas
+pub mod SumLemmas
 pub mod Totals
-pub mod Walk

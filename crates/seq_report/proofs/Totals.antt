@@ -1,20 +1,36 @@
 -- Adding up a list of bodies, one after another.
-use Rattle.std.proofs.Common.{◌≡◌, ℕ, ◌+◌, ◌*◌, ◌<◌, ◌≤◌, unsigned_abs, List, [], ◌∷◌, ◌++◌, length, take, get_or, ℤ, ◌+ℤ◌, sym, ◌∙◌, ap, arith}
+use Rattle.std.proofs.Common.{◌≡◌, ℕ, zero, suc, ◌+◌, ◌<◌, ◌≤◌, List, [], ◌∷◌, ◌++◌, length, take, get_or, slice_get, ℤ, ◌+ℤ◌, refl, sym, ◌∙◌, ap, arith}
+use Rattle.std.specs.Option.{option_to_list}
 use Rattle.std.proofs.lemmas.Int.{ints}
 use Rattle.std.proofs.lemmas.List.{take_more}
-use Rattle.units_core.proofs.Signed.{sum_within}
+use Rattle.units_core.specs.Bodies.{Mass}
+use Rattle.ship_profile.specs.declared.frames.Frame.{Frame}
 use Rattle.lift_sequence.specs.Totals.{total}
+use Rattle.moment_sums.specs.Sum.{Sum, joined, of_body, sum_of, value}
 
-pub total-append : {X : Type 0} (f : X → ℤ) (xs : List X) (x : X) → total f (xs ++ x ∷ []) ≡ total f xs +ℤ f x
+total-append : {X : Type 0} (f : X → ℤ) (xs : List X) (x : X) → total f (xs ++ x ∷ []) ≡ total f xs +ℤ f x
 total-append f [] x = omega (arith, ints)
 total-append f (y ∷ xs) x = omega (arith, ints, total-append f xs x)
 
--- one more is added to a running sum
-pub one_more : {X : Type 0} (f : X → ℤ) (xs : List X) (i : ℕ) (x : X) (sum value next : ℤ) → i < length xs → x ≡ get_or xs i x
-    → sum ≡ total f (take i xs) → value ≡ f x → next ≡ sum +ℤ value → next ≡ total f (take (i + 1) xs)
-one_more f xs i x sum value next inside is so_far adds sums =
-    let longer : total f (take (i + 1) xs) ≡ total f (take i xs) +ℤ f (get_or xs i x) = ap (total f) (take_more xs i x inside) ∙ total-append f (take i xs) (get_or xs i x) in
-    sums ∙ (λ j. so_far j +ℤ adds j) ∙ ap (λ y. total f (take i xs) +ℤ f y) is ∙ sym longer
+pub take_past : {X : Type 0} (xs : List X) (n : ℕ) → length xs ≤ n → take n xs ≡ xs
+take_past [] zero past = refl
+take_past [] (suc n) past = refl
+take_past (x ∷ xs) zero past = absurd (omega arith)
+take_past (x ∷ xs) (suc n) past = ap (λ l. x ∷ l) (take_past xs n (omega arith))
 
-pub within_more : (i m : ℕ) (sum value next : ℤ) → next ≡ sum +ℤ value → unsigned_abs sum ≤ i * m → unsigned_abs value ≤ m → unsigned_abs next ≤ (i + 1) * m
-within_more i m sum value next sums small one = rw sums (let both = sum_within sum value (i * m) m small one in omega (arith, both))
+-- one more is added to a running sum
+one_more : {X : Type 0} (f : X → ℤ) (xs : List X) (i : ℕ) (x : X) → i < length xs → x ≡ get_or xs i x → total f (take i xs) +ℤ f x ≡ total f (take (i + 1) xs)
+one_more f xs i x inside is =
+    sym (ap (total f) (take_more xs i x inside) ∙ total-append f (take i xs) (get_or xs i x) ∙ ap (λ y. total f (take i xs) +ℤ f y) (sym is))
+
+pub body_more : (frames : List Frame) (bodies : List Mass) (i : ℕ) (b : Mass) (s t r : Sum) → i < length bodies → b ≡ get_or bodies i b
+    → s ≡ sum_of frames (take i bodies) → t ≡ of_body frames b → r ≡ joined s t → r ≡ sum_of frames (take (i + 1) bodies)
+body_more frames bodies i b s t r inside is so_far adds sums =
+    sums ∙ (λ j. joined (so_far j) (adds j)) ∙ (λ j c. one_more (value frames c) bodies i b inside is j)
+
+-- the first k, and the one behind them, if there is one
+pub total_next : {X : Type 0} (f : X → ℤ) (xs : List X) (k : ℕ) → total f (take (suc k) xs) ≡ total f (take k xs) +ℤ total f (option_to_list (slice_get xs k))
+total_next f [] zero = omega (arith, ints)
+total_next f [] (suc k) = omega (arith, ints)
+total_next f (x ∷ xs) zero = omega (arith, ints)
+total_next f (x ∷ xs) (suc k) = omega (arith, ints, total_next f xs k)

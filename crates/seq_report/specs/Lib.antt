@@ -1,6 +1,9 @@
+pub mod Cases
+pub mod Chunks
 pub mod Criteria
 pub mod Floating
 pub mod Lifts
+pub mod Plans
 pub mod Printed
 pub mod Refusal
 pub mod Report

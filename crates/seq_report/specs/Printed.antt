@@ -7,8 +7,9 @@ use Rattle.lift_sequence.specs.declared.faults.SeqCode.{SeqCode}
 use Rattle.lift_sequence.specs.declared.faults.SeqCode.TheVariants.{Overlap, TankOver}
 use Rattle.lift_sequence.specs.declared.faults.SeqFault.{SeqFault}
 use Rattle.lift_sequence.specs.Printed.{seq_code_text}
+use Rattle.prefix_scan.specs.Printed.{cut_fault_text}
 use Rattle.seq_report.specs.declared.faults.RunFault.{RunFault}
-use Rattle.seq_report.specs.declared.faults.RunFault.TheVariants.{Profile, Baplie, Arrival, Movins, Steps, Sequence, NoMemory, Write}
+use Rattle.seq_report.specs.declared.faults.RunFault.TheVariants.{Profile, Baplie, Arrival, Movins, Steps, Sequence, Cuts, NoMemory, Write}
 use Rattle.seq_report.specs.Lifts.{cell_text}
 
 -- the other cell of two that overlap
@@ -33,5 +34,6 @@ run_fault_text (Arrival fault) = codes "F3 " ++ placed_text (thing_of fault.code
 run_fault_text (Movins fault) = codes "F4 " ++ stow_fault_text fault
 run_fault_text (Steps fault) = codes "F9 " ++ steps_fault_text fault
 run_fault_text (Sequence fault) = codes "F5 " ++ placed_text (codes "step") fault
+run_fault_text (Cuts fault) = codes "F6 " ++ cut_fault_text fault
 run_fault_text NoMemory = codes "F7"
 run_fault_text (Write written) = codes "F8 " ++ decimal written

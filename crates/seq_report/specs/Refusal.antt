@@ -22,10 +22,12 @@ use Rattle.lift_sequence.specs.declared.operations.Op.{Op}
 use Rattle.lift_sequence.specs.Aboard.{Aboard}
 use Rattle.lift_sequence.specs.Arrival.{arrival_fault, on_arrival}
 use Rattle.lift_sequence.specs.Sequence.{ops_of, sequence_fault}
+use Rattle.prefix_scan.specs.declared.divisions.CutFault.{CutFault}
+use Rattle.prefix_scan.specs.declared.divisions.CutFault.TheVariants as cut
 use Rattle.seq_report.specs.declared.faults.RunFault.{RunFault}
-use Rattle.seq_report.specs.declared.faults.RunFault.TheVariants.{Profile, Baplie, Arrival, Movins, Steps, Sequence, NoMemory, Write}
+use Rattle.seq_report.specs.declared.faults.RunFault.TheVariants.{Profile, Baplie, Arrival, Movins, Steps, Sequence, Cuts, NoMemory, Write}
 use Rattle.seq_report.specs.declared.inputs.Inputs.{Inputs}
-use Rattle.seq_report.specs.declared.drafts.Summary.{Summary}
+use Rattle.seq_report.specs.declared.finished.Summary.{Summary}
 use Rattle.seq_report.specs.Report.{Line, lines_of, report_of, first_of}
 
 infixl 10 ◌>>=◌
@@ -69,6 +71,10 @@ by_steps_code refusal code = refusal
 
 abbrev pub steps_refusal : StepsFault → RunFault
 steps_refusal fault = by_steps_code (Steps fault) fault.code
+
+abbrev pub cuts_refusal : CutFault → RunFault
+cuts_refusal cut.NoMemory = NoMemory
+cuts_refusal fault = Cuts fault
 
 -- this, unless there is a fault
 abbrev pub unless : {A : Type 0} → (SeqFault → RunFault) → Option SeqFault → A → Result A RunFault
@@ -141,9 +147,19 @@ abbrev pub is_write : {A : Type 0} → Result A RunFault → Bool
 is_write (Ok a) = false
 is_write (Err e) = is_write_fault e
 
--- the inputs are refused, by their bytes alone
+-- the plan of the cuts doesn't fit
+abbrev pub is_cut_fault : RunFault → Bool
+is_cut_fault (Cuts fault) = true
+is_cut_fault fault = false
+
+abbrev pub is_cut : {A : Type 0} → Result A RunFault → Bool
+is_cut (Ok a) = false
+is_cut (Err e) = is_cut_fault e
+
+-- the inputs are refused, by their bytes alone; a cut that doesn't fit is no fault of theirs
 abbrev pub is_refusal : RunFault → Bool
 is_refusal NoMemory = false
+is_refusal (Cuts fault) = false
 is_refusal (Write written) = false
 is_refusal fault = true
 
@@ -155,4 +171,5 @@ TellsMemory (Arrival fault) = fault.code ≢ seq.NoMemory
 TellsMemory (Movins fault) = fault.code ≢ stow.NoMemory
 TellsMemory (Steps fault) = fault.code ≢ rows.NoMemory
 TellsMemory (Sequence fault) = fault.code ≢ seq.NoMemory
+TellsMemory (Cuts fault) = fault ≢ cut.NoMemory
 TellsMemory fault = Unit {0}

@@ -7,6 +7,8 @@ use Rattle.ship_profile.specs.Record.{ProfileRecord}
 use Rattle.lift_sequence.specs.declared.operations.Op.{Op}
 use Rattle.lift_sequence.specs.Aboard.{Aboard, after_all}
 use Rattle.lift_sequence.specs.Bodies.{bodies}
+use Rattle.moment_sums.specs.Sum as sums
+use Rattle.moment_sums.specs.Sum.{Weight, sum_of}
 use Rattle.seq_report.specs.declared.floating.Figures.{Figures}
 use Rattle.seq_report.specs.declared.criteria.Criterion.{Criterion}
 use Rattle.seq_report.specs.declared.criteria.Criterion.TheVariants.{C0, C1}
@@ -19,7 +21,7 @@ use Rattle.seq_report.specs.declared.lines.Column.TheVariants as column
 use Rattle.seq_report.specs.declared.lines.StepLine.{StepLine}
 use Rattle.seq_report.specs.Criteria.{verdict_of, first_failed}
 use Rattle.seq_report.specs.Lifts.{lift_text}
-use Rattle.seq_report.specs.Sums.{sum_of}
+use Rattle.seq_report.specs.Sums.{judged_by}
 
 -- The columns of figures, in their order, with their headings, and the figure of each. Between the displacement and the verdict
 -- a line has one number for each of them.
@@ -88,22 +90,22 @@ abbrev pub first_of : List Line → Option (ℕ × Criterion)
 first_of [] = None
 first_of (line ∷ more) = option_or (failure_of line.step) (first_of more)
 
--- what is said of a step with this aboard, by adding up everything afresh
-abbrev pub step_line : ProfileRecord → ℕ → Aboard → StepLine
-step_line ship step at = record {
-  step = step;
-  kg = (sum_of (bodies ship at)).kg;
-  verdict = verdict_of ship.tables.hydro (sum_of (bodies ship at));
-}
+-- what is said of a step at which everything aboard adds up to this
+abbrev pub step_line : ProfileRecord → ℕ → sums.Sum → StepLine
+step_line ship step s = record { step = step; kg = s Weight; verdict = verdict_of ship.tables.hydro (judged_by s) }
+
+-- everything that is aboard once the first k steps are done, added up afresh
+abbrev pub sum_at : ProfileRecord → Aboard → List Op → ℕ → sums.Sum
+sum_at ship arrival ops k = sum_of ship.ship.frames (bodies ship (after_all ship arrival (take k ops)))
 
 -- what leads to a line: nothing to the condition on arrival, line 0, and step k to line k
 abbrev pub lift_to : List Op → ℕ → Option Op
 lift_to ops zero = None
 lift_to ops (suc k) = slice_get ops k
 
--- line k: what is said with this aboard on arrival once the first k steps are done
+-- line k, with this aboard on arrival
 abbrev pub line_at : ProfileRecord → Aboard → List Op → ℕ → Line
-line_at ship arrival ops k = record { lift = lift_to ops k; step = step_line ship k (after_all ship arrival (take k ops)) }
+line_at ship arrival ops k = record { lift = lift_to ops k; step = step_line ship k (sum_at ship arrival ops k) }
 
 -- the lines of a run, from that of the condition on arrival to that of the last step
 abbrev pub lines_of : ProfileRecord → Aboard → List Op → List Line

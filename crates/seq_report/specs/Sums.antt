@@ -1,22 +1,8 @@
--- What is aboard, added up: each value by itself, over a list of bodies.
-use Rattle.std.specs.Prelude.{ℤ, pos, ◌*ℤ◌, List}
-use Rattle.units_core.specs.Bodies.{Mass}
-use Rattle.lift_sequence.specs.Totals.{total}
+-- The values that a step is judged by, of what is aboard, added up.
+use Rattle.moment_sums.specs.Sum as sums
+use Rattle.moment_sums.specs.Sum.{Weight, MomentZ, Surface}
 use Rattle.seq_report.specs.declared.sums.Sum.{Sum}
 
--- what a body adds: its mass, the moment of its mass about the keel, its free surface moment
-abbrev pub weight_of : Mass → ℤ
-weight_of body = pos body.kg
-
-abbrev pub height_moment : Mass → ℤ
-height_moment body = pos body.kg *ℤ body.place.z
-
-abbrev pub free_surface : Mass → ℤ
-free_surface body = body.fsm
-
-abbrev pub sum_of : List Mass → Sum
-sum_of bodies = record {
-  kg = total weight_of bodies;
-  height_moment = total height_moment bodies;
-  free_surface = total free_surface bodies;
-}
+-- the mass, its moment about the keel, and the free surface moments
+abbrev pub judged_by : sums.Sum → Sum
+judged_by s = record { kg = s Weight; height_moment = s MomentZ; free_surface = s Surface }

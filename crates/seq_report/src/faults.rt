@@ -3,12 +3,13 @@ ghost use Rattle.seq_report.specs.Printed.{thing_of};
 
 use crate::lifts::CellText;
 use lift_sequence::{SeqCode, SeqFault};
+use prefix_scan::CutFault;
 use ship_profile::ProfileFault;
 use std::error::Error;
 use std::fmt;
 use stow_messages::{StepsFault, StowFault};
 
-/// Why a run gives no report. The inputs are checked in the order of the first six. It prints as the code of the input, that of its
+/// Why a run gives no report. The inputs are checked in the order of the first six, and then the plan of the cuts. It prints as the code of the input, that of its
 /// fault, and the place.
 #[derive(Clone, Copy, Debug, PartialEq, Eq)]
 pub enum RunFault {
@@ -24,6 +25,8 @@ pub enum RunFault {
     Steps(StepsFault),
     /// F5: a step can't be done where it comes, or there are too many.
     Sequence(SeqFault),
+    /// F6: the plan of the cuts doesn't fit the lines.
+    Cuts(CutFault),
     /// F7: out of memory; nothing was written.
     NoMemory,
     /// F8: the sink failed, once it held so many bytes of the report.
@@ -90,6 +93,7 @@ impl fmt::Display for RunFault {
                 };
                 write!(f, "F5 {placed}")
             }
+            RunFault::Cuts(fault) => write!(f, "F6 {fault}"),
             RunFault::NoMemory => f.write_str("F7"),
             RunFault::Write(written) => write!(f, "F8 {written}"),
         }

@@ -1,7 +1,8 @@
-ghost use Rattle.std.specs.Prelude.{◌≡◌, ◌≢◌, ◌≤◌, length, option_map, false, IfOk, IfErr, None, Ok, Err};
+ghost use Rattle.std.specs.Prelude.{◌≡◌, ◌≢◌, ◌≤◌, length, option_map, false, IfOk, IfErr, Ok, Err};
 ghost use Rattle.lift_sequence.specs.Arrival.{on_arrival};
-ghost use Rattle.lift_sequence.specs.Sequence.{IsOf, sequence_fault};
-ghost use Rattle.seq_report.specs.Refusal.{TellsMemory, arrival_in, is_write, items_in, lifts_in, orders_in, orders_on, rows_of, sequence_in, ship_in};
+ghost use Rattle.lift_sequence.specs.Sequence.{IsOf, StepsAddUp};
+ghost use Rattle.seq_report.specs.Cases.{HasArrived};
+ghost use Rattle.seq_report.specs.Refusal.{TellsMemory, arrival_in, is_cut, is_write, items_in, lifts_in, orders_in, orders_on, rows_of, sequence_in, ship_in};
 
 use crate::faults::RunFault;
 use crate::refusals::{
@@ -32,6 +33,7 @@ pub fn ship(alloc: Global, inputs: &Inputs<'_>) -> Result<Profile, RunFault>
     ensures refused { IfErr result (λ e. e ≢ RunFault.NoMemory → ship_in inputs.now ≡ Err e) }
     ensures memory { IfErr result TellsMemory }
     ensures silent { is_write result ≡ false }
+    ensures uncut { is_cut result ≡ false }
 {
     match Profile::read(alloc, &inputs.profile) {
         Ok(profile) => Ok(profile),
@@ -45,6 +47,7 @@ pub fn items(alloc: Global, inputs: &Inputs<'_>) -> Result<Vec<Item>, RunFault>
     ensures refused { IfErr result (λ e. e ≢ RunFault.NoMemory → items_in inputs.now ≡ Err e) }
     ensures memory { IfErr result TellsMemory }
     ensures silent { is_write result ≡ false }
+    ensures uncut { is_cut result ≡ false }
 {
     match baplie(alloc, inputs.baplie) {
         Ok(items) => Ok(items),
@@ -55,10 +58,11 @@ pub fn items(alloc: Global, inputs: &Inputs<'_>) -> Result<Vec<Item>, RunFault>
 /// The condition of the ship on arrival with these items.
 pub fn arrival(alloc: Global, profile: &Profile, items: Vec<Item>) -> Result<Arrival, RunFault>
     ensures ok { IfOk result (λ a. arrival_in profile.now items.items ≡ Ok (on_arrival a.items a.fills)) }
-    ensures of { IfOk result (λ a. IsOf profile.now a) }
+    ensures arrived { IfOk result (λ a. HasArrived profile.now a) }
     ensures refused { IfErr result (λ e. e ≢ RunFault.NoMemory → arrival_in profile.now items.items ≡ Err e) }
     ensures memory { IfErr result TellsMemory }
     ensures silent { is_write result ≡ false }
+    ensures uncut { is_cut result ≡ false }
 {
     match Arrival::new(alloc, profile, items, profile.fills()) {
         Ok(arrival) => Ok(arrival),
@@ -72,6 +76,7 @@ fn lifts(alloc: Global, inputs: &Inputs<'_>) -> Result<Vec<Lift>, RunFault>
     ensures refused { IfErr result (λ e. e ≢ RunFault.NoMemory → lifts_in inputs.now ≡ Err e) }
     ensures memory { IfErr result TellsMemory }
     ensures silent { is_write result ≡ false }
+    ensures uncut { is_cut result ≡ false }
     ensures few { IfOk result (λ lifts. length lifts.items ≤ 200000) }
 {
     match movins(alloc, inputs.movins) {
@@ -86,6 +91,7 @@ fn rows(alloc: Global, text: Option<&[u8]>, lifts: u32) -> Result<Option<Vec<Ste
     ensures refused { IfErr result (λ e. e ≢ RunFault.NoMemory → rows_of (option_map (λ t. t.now) text.entry) lifts ≡ Err e) }
     ensures memory { IfErr result TellsMemory }
     ensures silent { is_write result ≡ false }
+    ensures uncut { is_cut result ≡ false }
 {
     let Some(text) = text else {
         return Ok(None);
@@ -103,6 +109,7 @@ fn orders_on(alloc: Global, inputs: &Inputs<'_>, lifts: Vec<Lift>) -> Result<Vec
     ensures refused { IfErr result (λ e. e ≢ RunFault.NoMemory → orders_on inputs.now lifts.items ≡ Err e) }
     ensures memory { IfErr result TellsMemory }
     ensures silent { is_write result ≡ false }
+    ensures uncut { is_cut result ≡ false }
 {
     let rows = rows(alloc, inputs.steps, lifts.len() as u32)?;
     match ops(alloc, lifts, rows) {
@@ -117,6 +124,7 @@ pub fn orders(alloc: Global, inputs: &Inputs<'_>) -> Result<Vec<Op>, RunFault>
     ensures refused { IfErr result (λ e. e ≢ RunFault.NoMemory → orders_in inputs.now ≡ Err e) }
     ensures memory { IfErr result TellsMemory }
     ensures silent { is_write result ≡ false }
+    ensures uncut { is_cut result ≡ false }
 {
     let lifts = lifts(alloc, inputs)?;
     orders_on(alloc, inputs, lifts)
@@ -131,11 +139,12 @@ pub fn sequence(
 ) -> Result<Sequence, RunFault>
     requires { IsOf profile.now arrival.now }
     ensures ok { IfOk result (λ s. sequence_in profile.now (on_arrival arrival.now.items arrival.now.fills) ops.items ≡ Ok s.ops) }
-    ensures legal { IfOk result (λ s. sequence_fault profile.now (on_arrival arrival.now.items arrival.now.fills) s.ops ≡ None) }
+    ensures sums { IfOk result (λ s. StepsAddUp profile.now (on_arrival arrival.now.items arrival.now.fills) s.ops s.steps) }
     ensures few { IfOk result (λ s. length s.ops ≤ 120000) }
     ensures refused { IfErr result (λ e. e ≢ RunFault.NoMemory → sequence_in profile.now (on_arrival arrival.now.items arrival.now.fills) ops.items ≡ Err e) }
     ensures memory { IfErr result TellsMemory }
     ensures silent { is_write result ≡ false }
+    ensures uncut { is_cut result ≡ false }
 {
     match Sequence::new(alloc, profile, arrival, ops) {
         Ok(sequence) => Ok(sequence),

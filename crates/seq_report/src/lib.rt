@@ -2,24 +2,28 @@
 //! line to a sink, with the first step that fails and every refusal in a fixed order.
 #![tactic(auto)]
 
+mod cases;
+mod chunks;
 mod criteria;
-mod drafts;
 mod faults;
+mod finished;
 mod floating;
 mod inputs;
 mod lifts;
 mod lines;
+mod plans;
 mod refusals;
 mod runs;
+mod sections;
 mod sink;
-mod steps;
 mod sums;
 
 pub use criteria::Criterion;
-pub use drafts::Summary;
 pub use faults::RunFault;
+pub use finished::Summary;
 pub use inputs::Inputs;
 pub use lifts::shown;
+pub use plans::CutPlan;
 pub use runs::report;
 pub use sink::{Sink, SinkFailed, Through};
 

@@ -1,11 +1,15 @@
 ghost use Rattle.std.specs.Prelude.{◌≡◌, ◌++◌, OnOk, string_bytes, option_map};
 ghost use Rattle.std.specs.Fmt.{signed_decimal};
-ghost use Rattle.seq_report.specs.Report.{heading_of, figure_of, figures_text, headings_text, header_of, line_of, last_line, failure_of, judged_headings, judged_text, verdict_text};
+ghost use Rattle.moment_sums.specs.Kept.{values};
+ghost use Rattle.seq_report.specs.Report.{heading_of, figure_of, figures_text, headings_text, header_of, line_of, last_line, failure_of, judged_headings, judged_text, step_line, verdict_text};
 
-use crate::criteria::{Criterion, Verdict};
+use crate::criteria::{Criterion, Verdict, judge};
 use crate::floating::Figures;
 use crate::lifts::write_lift;
+use crate::sums::judged_by;
 use lift_sequence::Op;
+use moment_sums::Totals;
+use ship_profile::Profile;
 use std::alloc::AllocError;
 use std::fmt::Write;
 
@@ -55,6 +59,18 @@ pub struct StepLine {
 }
 
 impl StepLine {
+    /// The line of a step at which everything aboard adds up to this.
+    pub fn judged(profile: &Profile, step: u32, sum: &Totals) -> StepLine
+        ensures { result ≡ step_line profile.now step (values sum.now) }
+    {
+        let values = judged_by(sum);
+        StepLine {
+            step,
+            kg: values.kg,
+            verdict: judge(profile.hydro(), &values),
+        }
+    }
+
     /// The step, where it fails, with its first criterion.
     pub fn failure(&self) -> Option<(u32, Criterion)>
         ensures { result ≡ failure_of self.now }
@@ -133,7 +149,7 @@ fn write_judged(text: &mut String, line: &StepLine) -> Result<(), AllocError>
     text.push_str("\n")
 }
 
-/// Writes the line of a step, with what leads to it.
+/// Writes the line of a step, with the lift that leads to it.
 pub fn write_line(text: &mut String, lift: Option<&Op>, line: &StepLine) -> Result<(), AllocError>
     ensures { OnOk result (string_bytes text.new ≡ string_bytes text.old ++ line_of (option_map (λ op. op.now) lift.entry) line.now) }
 {

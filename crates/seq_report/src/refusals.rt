@@ -1,8 +1,9 @@
 ghost use Rattle.std.specs.Prelude.{◌≡◌, ◌≢◌, false};
-ghost use Rattle.seq_report.specs.Refusal.{TellsMemory, arrival_refusal, baplie_refusal, is_write_fault, movins_refusal, profile_refusal, sequence_refusal, steps_refusal};
+ghost use Rattle.seq_report.specs.Refusal.{TellsMemory, arrival_refusal, baplie_refusal, cuts_refusal, is_cut_fault, is_refusal, is_write_fault, movins_refusal, profile_refusal, sequence_refusal, steps_refusal};
 
 use crate::faults::RunFault;
 use lift_sequence::{SeqCode, SeqFault};
+use prefix_scan::CutFault;
 use ship_profile::ProfileFault;
 use stow_messages::{StepsCode, StepsFault, StowCode, StowFault};
 
@@ -12,6 +13,7 @@ pub fn profile_refusal(fault: ProfileFault) -> RunFault
     ensures told { result ≢ RunFault.NoMemory → (fault ≢ ProfileFault.NoMemory) × (result ≡ RunFault.Profile fault) }
     ensures memory { TellsMemory result }
     ensures silent { is_write_fault result ≡ false }
+    ensures uncut { is_cut_fault result ≡ false }
 {
     match fault {
         ProfileFault::NoMemory => RunFault::NoMemory,
@@ -25,6 +27,7 @@ pub fn baplie_refusal(fault: StowFault) -> RunFault
     ensures told { result ≢ RunFault.NoMemory → (fault.code ≢ StowCode.NoMemory) × (result ≡ RunFault.Baplie fault) }
     ensures memory { TellsMemory result }
     ensures silent { is_write_fault result ≡ false }
+    ensures uncut { is_cut_fault result ≡ false }
 {
     match fault.code {
         StowCode::NoMemory => RunFault::NoMemory,
@@ -38,6 +41,7 @@ pub fn arrival_refusal(fault: SeqFault) -> RunFault
     ensures told { result ≢ RunFault.NoMemory → (fault.code ≢ SeqCode.NoMemory) × (result ≡ RunFault.Arrival fault) }
     ensures memory { TellsMemory result }
     ensures silent { is_write_fault result ≡ false }
+    ensures uncut { is_cut_fault result ≡ false }
 {
     match fault.code {
         SeqCode::NoMemory => RunFault::NoMemory,
@@ -51,6 +55,7 @@ pub fn movins_refusal(fault: StowFault) -> RunFault
     ensures told { result ≢ RunFault.NoMemory → (fault.code ≢ StowCode.NoMemory) × (result ≡ RunFault.Movins fault) }
     ensures memory { TellsMemory result }
     ensures silent { is_write_fault result ≡ false }
+    ensures uncut { is_cut_fault result ≡ false }
 {
     match fault.code {
         StowCode::NoMemory => RunFault::NoMemory,
@@ -64,6 +69,7 @@ pub fn steps_refusal(fault: StepsFault) -> RunFault
     ensures told { result ≢ RunFault.NoMemory → (fault.code ≢ StepsCode.NoMemory) × (result ≡ RunFault.Steps fault) }
     ensures memory { TellsMemory result }
     ensures silent { is_write_fault result ≡ false }
+    ensures uncut { is_cut_fault result ≡ false }
 {
     match fault.code {
         StepsCode::NoMemory => RunFault::NoMemory,
@@ -77,9 +83,24 @@ pub fn sequence_refusal(fault: SeqFault) -> RunFault
     ensures told { result ≢ RunFault.NoMemory → (fault.code ≢ SeqCode.NoMemory) × (result ≡ RunFault.Sequence fault) }
     ensures memory { TellsMemory result }
     ensures silent { is_write_fault result ≡ false }
+    ensures uncut { is_cut_fault result ≡ false }
 {
     match fault.code {
         SeqCode::NoMemory => RunFault::NoMemory,
         _ => RunFault::Sequence(fault),
+    }
+}
+
+/// A fault of the plan of the cuts as one of the run; out of memory stays out of memory.
+pub fn cuts_refusal(fault: CutFault) -> RunFault
+    ensures exact { result ≡ cuts_refusal fault }
+    ensures told { result ≢ RunFault.NoMemory → (fault ≢ CutFault.NoMemory) × (result ≡ RunFault.Cuts fault) }
+    ensures plan { is_refusal result ≡ false }
+    ensures memory { TellsMemory result }
+    ensures silent { is_write_fault result ≡ false }
+{
+    match fault {
+        CutFault::NoMemory => RunFault::NoMemory,
+        fault => RunFault::Cuts(fault),
     }
 }

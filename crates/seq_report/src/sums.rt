@@ -1,9 +1,10 @@
-ghost use Rattle.std.specs.Prelude.{◌≡◌, ℕ, ℤ, pos, ◌+ℤ◌, ◌*ℤ◌, ◌+◌, ◌*◌, ◌^◌, ◌≤◌, unsigned_abs, length};
-ghost use Rattle.seq_report.specs.Sums.{sum_of, weight_of, height_moment, free_surface};
+ghost use Rattle.std.specs.Prelude.{◌≡◌, ◌*◌, ◌^◌, ◌≤◌, unsigned_abs};
+ghost use Rattle.moment_sums.specs.Kept.{values};
+ghost use Rattle.seq_report.specs.Sums.{judged_by};
 
-use units_core::Body;
+use moment_sums::Totals;
 
-/// What is aboard, added up.
+/// The values that a step is judged by.
 #[derive(Clone, Copy, Debug, PartialEq, Eq)]
 pub struct Sum {
     /// The displacement in kg.
@@ -14,44 +15,15 @@ pub struct Sum {
     pub free_surface: i128,
 }
 
-/// One more of a value.
-fn plus(sum: i128, value: i128) -> i128
-    requires sum { unsigned_abs sum ≤ 10 ^ 36 }
-    requires value { unsigned_abs value ≤ 10 ^ 36 }
-    ensures { result ≡ sum +ℤ value }
-{
-    sum + value
-}
-
-/// The moment of a body's mass about the keel.
-fn height_moment_of(body: &Body) -> i128
-    ensures value { result ≡ height_moment body.now }
-    ensures within { unsigned_abs result ≤ 10 ^ 15 }
-{
-    let kg = i128::from(body.kg());
-    let height = i128::from(body.place().z.get());
-    kg * height
-}
-
-/// The sum over some bodies, at most 2^20.
-pub fn sum_of(bodies: &[Body]) -> Sum
-    requires { length bodies.now ≤ 2 ^ 20 }
-    ensures value { result ≡ sum_of bodies.now }
-    ensures kg_within { unsigned_abs result.kg ≤ 2 ^ 20 * 10 ^ 9 }
+/// The values that a step is judged by, where everything aboard adds up to this.
+pub fn judged_by(totals: &Totals) -> Sum
+    ensures value { result ≡ judged_by (values totals.now) }
     ensures moment_within { unsigned_abs result.height_moment ≤ 2 ^ 20 * 10 ^ 15 }
     ensures surface_within { unsigned_abs result.free_surface ≤ 2 ^ 20 * 10 ^ 12 }
 {
-    let mut kg = 0;
-    let mut height_moment = 0;
-    let mut free_surface = 0;
-    for body in bodies {
-        kg = plus(kg, i128::from(body.kg()));
-        height_moment = plus(height_moment, height_moment_of(body));
-        free_surface = plus(free_surface, i128::from(body.fsm()));
-    }
     Sum {
-        kg,
-        height_moment,
-        free_surface,
+        kg: totals.kg(),
+        height_moment: totals.z(),
+        free_surface: totals.fsm(),
     }
 }

@@ -1,9 +1,10 @@
-use crate::{Inputs, RunFault, Summary, Through, report};
+use crate::{CutPlan, Inputs, RunFault, Summary, Through, report};
 use ship_profile::ProfileBytes;
 use std::alloc::Global;
 use std::process::Abort;
 use std::test::Fail;
 
+mod cuts;
 mod refusals;
 mod sinks;
 mod steps;
@@ -76,11 +77,20 @@ impl<'a> Run<'a> {
     }
 }
 
-/// The report of a run, as text, and what it came to.
-fn written(alloc: Global, run: &Run<'_>) -> (Result<Summary, RunFault>, Vec<u8>) {
+/// The report of a run, as text, and what it came to, made in the chunks of a plan.
+fn written_by(
+    alloc: Global,
+    run: &Run<'_>,
+    plan: CutPlan<'_>,
+) -> (Result<Summary, RunFault>, Vec<u8>) {
     let mut taken = Vec::new(alloc);
-    let outcome = report(alloc, &run.inputs(), &mut Through::new(&mut taken));
+    let outcome = report(alloc, &run.inputs(), plan, &mut Through::new(&mut taken));
     (outcome, taken)
+}
+
+/// The same in chunks of 256 lines.
+fn written(alloc: Global, run: &Run<'_>) -> (Result<Summary, RunFault>, Vec<u8>) {
+    written_by(alloc, run, CutPlan::Every(256))
 }
 
 /// A run in which all steps pass has these lines behind the heading.

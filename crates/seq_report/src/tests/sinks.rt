@@ -1,7 +1,10 @@
 use super::IDLE;
-use crate::{RunFault, Sink, SinkFailed, Summary, Through, report};
+use crate::{CutPlan, RunFault, Sink, SinkFailed, Summary, Through, report};
 use std::io;
 use std::io::{ErrorKind, Write};
+
+/// All lines in one chunk.
+const PLAN: CutPlan<'static> = CutPlan::Every(256);
 
 /// A writer that takes `left` bytes, `most` of them a call, and then fails.
 #[derive(Drop)]
@@ -36,7 +39,7 @@ fn writer_fails_after_seven(rt: HostRuntime) {
             left: 7,
             most: 100,
         };
-        report(rt.alloc(), &IDLE.inputs(), &mut Through::new(writer))
+        report(rt.alloc(), &IDLE.inputs(), PLAN, &mut Through::new(writer))
     };
     assert_eq!(rt; outcome, Err(RunFault::Write(7)));
     assert_eq!(rt; taken.as_slice(), b"STEP LI".as_slice());
@@ -55,7 +58,7 @@ fn failing_writers(rt: HostRuntime) {
                     left,
                     most,
                 };
-                report(rt.alloc(), &IDLE.inputs(), &mut Through::new(writer))
+                report(rt.alloc(), &IDLE.inputs(), PLAN, &mut Through::new(writer))
             };
             let expected = if left < 65 {
                 Err(RunFault::Write(left))
@@ -75,7 +78,7 @@ fn failing_writers(rt: HostRuntime) {
         left: 100,
         most: 0,
     };
-    let outcome = report(rt.alloc(), &IDLE.inputs(), &mut Through::new(writer));
+    let outcome = report(rt.alloc(), &IDLE.inputs(), PLAN, &mut Through::new(writer));
     assert_eq!(rt; outcome, Err(RunFault::Write(0)));
 }
 

@@ -43,3 +43,8 @@ pub overflow_add-number : goal.overflow_add-number
 overflow_add-number c =
     let few = stowed_few c.args.profile.now (held c.loop-item.stowage) c.loop-item.number c.requires.sound.tables.tables.few_cells c.loop-item.invariant.stowed in
     omega (arith, few)
+
+pub returns-clause-few : goal.returns-clause-few
+returns-clause-few c =
+    let few = stowed_few c.args.profile.now (held c.loop-item.stowage) c.loop-item.number c.requires.sound.tables.tables.few_cells c.loop-item.invariant.stowed in
+    omega (arith, few, c.loop-item.invariant.number_is)

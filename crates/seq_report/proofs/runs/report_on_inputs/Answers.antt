@@ -1,16 +1,16 @@
-use Rattle.std.proofs.Common.{◌≡◌, ◌∙◌, ap}
+use Rattle.std.proofs.Common.{◌≡◌, ◌∙◌, Ok, ap, sym, true, false}
 use Rattle.std.proofs.lemmas.Result.{IfOk-weaker, IfErr-weaker}
-use Rattle.seq_report.specs.Refusal.{◌>>=◌, outcome_for, outcome_of}
+use Rattle.seq_report.specs.Cases.{outcome_in}
 use Rattle.seq_report.proofs.runs.report_on_inputs.Goals as goal
 
 pub returns-clause-ok : goal.returns-clause-ok
 returns-clause-ok c =
-    let inputs = c.args.inputs.now in
-    let ship : outcome_of inputs ≡ outcome_for c.in_ok-profile.profile inputs = ap (λ r. r >>= (λ ship. outcome_for ship inputs)) c.in_ok-profile.ensures.ok in
-    IfOk-weaker c.report_on_ship.result _ _ (λ made h. ship ∙ h) c.report_on_ship.ensures.ok
+    IfOk-weaker c.report_by_plan.result _ _ (λ made is. c.in_ok-case.ensures.ok ∙ ap Ok (sym is)) c.report_by_plan.ensures.ok
 
 pub returns-clause-refused : goal.returns-clause-refused
 returns-clause-refused c =
-    let inputs = c.args.inputs.now in
-    let ship : outcome_of inputs ≡ outcome_for c.in_ok-profile.profile inputs = ap (λ r. r >>= (λ ship. outcome_for ship inputs)) c.in_ok-profile.ensures.ok in
-    IfErr-weaker c.report_on_ship.result _ _ (λ e h m. ship ∙ h m) c.report_on_ship.ensures.refused
+    IfErr-weaker c.report_by_plan.result _ _ (λ e none refused. let both : false ≡ true = sym none ∙ refused in absurd (cc)) c.report_by_plan.ensures.plan
+
+pub returns-clause-unfit : goal.returns-clause-unfit
+returns-clause-unfit c =
+    IfErr-weaker c.report_by_plan.result _ _ (λ e h fault is. (outcome_in c.in_ok-case.case, c.in_ok-case.ensures.ok, h fault is)) c.report_by_plan.ensures.unfit

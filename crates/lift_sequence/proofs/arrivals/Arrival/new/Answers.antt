@@ -1,9 +1,10 @@
-use Rattle.std.proofs.Common.{◌≡◌, ◌∙◌, ◌++◌, List, ap}
+use Rattle.std.proofs.Common.{◌≡◌, ◌≤◌, ◌∙◌, ◌++◌, List, ap, arith, length, length-append}
 use Rattle.stow_messages.specs.declared.items.Item.{Item}
 use Rattle.lift_sequence.specs.Arrival.{arrival_bodies, on_arrival}
 use Rattle.lift_sequence.specs.Bodies.{bodies}
 use Rattle.lift_sequence.specs.Totals.{total}
 use Rattle.lift_sequence.proofs.ArrivalSums.{arrival_sums}
+use Rattle.lift_sequence.proofs.States.{filter_few}
 use Rattle.lift_sequence.proofs.arrivals.Arrival.new.Goals as goal
 
 pub returns-clause-sums : goal.returns-clause-sums
@@ -17,3 +18,15 @@ returns-clause-sums c =
     λ once f.
     ap (total f) listed ∙ arrival_sums ship items fills c.blocks-blocks.ensures.sound.tables.tables.distinct c.in_ok-stowed.ensures.legal once f
     ∙ ap (λ (given : List Item). total f (bodies ship (on_arrival given fills))) c.deref.ensures.value
+
+pub returns-clause-few : goal.returns-clause-few
+returns-clause-few c =
+    let ship = c.args.profile.now in
+    let blocks = c.blocks-blocks.result.now in
+    let filled = c.in_ok-filled.filled.items in
+    let stowed = c.in_ok-stowed.stowed.items in
+    let all : c.in-Ok.bodies.items ≡ blocks ++ (filled ++ stowed) = c.in-Ok.ensures ∙ (λ j. blocks ++ (c.deref-2.ensures.value j ++ c.deref-3.ensures.value j)) in
+    let few_blocks : length blocks ≤ 200 = rw c.blocks-blocks.ensures.value c.blocks-blocks.ensures.sound.ship.blocks.few in
+    let few_fills : length filled ≤ length c.args.fills.now = rw c.in_ok-filled.ensures.bodies (filter_few _ c.args.fills.now) in
+    let few_items : length stowed ≤ length c.deref.result.now = rw c.in_ok-stowed.ensures.bodies (filter_few _ c.deref.result.now) in
+    omega (arith, ap length all, length-append blocks (filled ++ stowed), length-append filled stowed, few_blocks, few_fills, few_items, c.in_ok-stowed.ensures.few, c.requires)

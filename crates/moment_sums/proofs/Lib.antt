@@ -1,0 +1,4 @@
+pub mod Bounds
+pub mod PlaceLemmas
+pub mod Sizes
+pub mod StepLemmas

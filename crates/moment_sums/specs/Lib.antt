@@ -1,0 +1,4 @@
+pub mod Kept
+pub mod KeptLaws
+pub mod Shares
+pub mod Sum

@@ -1,0 +1,6 @@
+mod bodies;
+mod limits;
+mod shares;
+mod ships;
+mod steps;
+mod tables;

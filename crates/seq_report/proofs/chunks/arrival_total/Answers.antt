@@ -1,0 +1,33 @@
+use Rattle.std.proofs.Common.{◌≡◌, ◌∙◌, ◌≤◌, length, ap, arith}
+use Rattle.moment_sums.specs.Kept.{size_of, values}
+use Rattle.moment_sums.specs.KeptLaws.{kept_laws}
+use Rattle.moment_sums.specs.Sum.{of_body, sum_of}
+use Rattle.moment_sums.proofs.Bounds.{values_both, values_nothing}
+use Rattle.seq_report.proofs.Totals.{body_more, take_past}
+use Rattle.seq_report.proofs.chunks.arrival_total.Goals as goal
+
+pub loop-body-init : goal.loop-body-init
+loop-body-init c = record {
+  sum = ap values c.unit-sum.ensures ∙ values_nothing;
+  size = ap size_of c.unit-sum.ensures;
+}
+
+pub loop-body-preserved : goal.loop-body-preserved
+loop-body-preserved c =
+    let so_far = c.loop-body.invariant in
+    let inside = c.loop-body-test.true in
+    let few = c.requires in
+    let count : length c.bodies-bodies.result.now ≡ length c.args.case.now.arrival.bodies = ap length c.bodies-bodies.ensures in
+    let both = kept_laws.op_weight c.loop-body.sum c.of.result (omega (arith, so_far.size, c.of.ensures.size, inside, few, count)) in
+    record {
+      sum = body_more c.args.case.now.profile.ship.frames c.bodies-bodies.result.now c.loop-body.body-index c.body-item.result _ _ _
+          inside c.body-item.is so_far.sum (c.of.ensures.values ∙ ap (λ f. of_body f c.body-item.result) c.frames-frames.ensures.value)
+          (ap values c.join-sum.ensures ∙ values_both c.loop-body.sum c.of.result);
+      size = omega (arith, ap size_of c.join-sum.ensures, both, so_far.size, c.of.ensures.size);
+    }
+
+pub returns-clause-sum : goal.returns-clause-sum
+returns-clause-sum c =
+    let past : length c.bodies-bodies.result.now ≤ c.loop-body.body-index = omega (arith, c.loop-body-test.false) in
+    c.loop-body.invariant.sum
+    ∙ ap (sum_of c.args.case.now.profile.ship.frames) (take_past c.bodies-bodies.result.now c.loop-body.body-index past ∙ c.bodies-bodies.ensures)

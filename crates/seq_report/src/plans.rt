@@ -1,0 +1,48 @@
+ghost use Rattle.std.specs.Prelude.{◌≡◌, ◌≢◌, ◌<◌, IfOk, IfErr, false};
+ghost use Rattle.prefix_scan.specs.Cut.{Divides};
+ghost use Rattle.prefix_scan.specs.declared.divisions.CutFault.{CutFault as CutFaultValue};
+ghost use Rattle.seq_report.specs.Plans.{Fits, IsPlanFault};
+ghost use Rattle.seq_report.specs.Refusal.{TellsMemory, is_refusal, is_write};
+
+use crate::faults::RunFault;
+use crate::refusals::cuts_refusal;
+use prefix_scan::{CutFault, Cuts};
+use std::alloc::Global;
+
+/// Where the lines of a report are cut into chunks. The report is the same for every plan.
+#[derive(Clone, Copy, Debug)]
+pub enum CutPlan<'a> {
+    /// Chunks of so many lines, the last with what is left.
+    Every(u32),
+    /// Chunks that end before these lines, the first line being 0; the last end is the number of lines.
+    At(&'a [u32]),
+}
+
+/// The cuts that a plan makes of so many lines, or the first fault of the plan.
+fn divided(alloc: Global, plan: CutPlan<'_>, lines: u32) -> Result<Cuts, CutFault>
+    requires { 0 < lines }
+    ensures cut { IfOk result (λ cuts. Divides cuts lines) }
+    ensures fits { IfOk result (λ _. Fits plan.entry lines) }
+    ensures unfit { IfErr result (λ fault. fault ≢ CutFault.NoMemory → IsPlanFault plan.entry lines fault) }
+{
+    match plan {
+        CutPlan::Every(n) => Cuts::every(alloc, n, lines),
+        CutPlan::At(ends) => Cuts::at(alloc, ends, lines),
+    }
+}
+
+/// The same for a run.
+pub fn cuts_of(alloc: Global, plan: CutPlan<'_>, lines: u32) -> Result<Cuts, RunFault>
+    requires { 0 < lines }
+    ensures cut { IfOk result (λ cuts. Divides cuts lines) }
+    ensures fits { IfOk result (λ _. Fits plan.entry lines) }
+    ensures unfit { IfErr result (λ e. (fault : CutFaultValue) → e ≡ RunFault.Cuts fault → IsPlanFault plan.entry lines fault) }
+    ensures plan { IfErr result (λ e. is_refusal e ≡ false) }
+    ensures memory { IfErr result TellsMemory }
+    ensures silent { is_write result ≡ false }
+{
+    match divided(alloc, plan, lines) {
+        Ok(cuts) => Ok(cuts),
+        Err(fault) => Err(cuts_refusal(fault)),
+    }
+}

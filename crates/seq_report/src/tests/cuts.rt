@@ -1,0 +1,92 @@
+use super::{EMPTY, Run, SHIP, written_by};
+use crate::{CutPlan, Summary};
+use std::test::Fail;
+
+/// The container of 20,500 kg to starboard, and then one of 20,500 kg on deck amidships.
+const TWO_LOADS: &[u8] =
+    b"UNB+UNOA:2+PLAN+SHIP+250101:1200+8'UNH+1+MOVINS:D:95B:UN'HAN+LOA'LOC+147+0030782::5'MEA+WT++KGM:20500'EQD+CN+ABCU1234560'HAN+LOA'LOC+147+0050082::5'MEA+WT++KGM:20500'EQD+CN+ABCU7654321'UNT+10+1'UNZ+1+8'";
+
+/// A container is discharged from an empty cell.
+const NONE_THERE: &[u8] =
+    b"UNB+UNOA:2+PLAN+SHIP+250101:1200+8'UNH+1+MOVINS:D:95B:UN'HAN+DIS'LOC+147+0050082'EQD+CN+ABCU1234560'UNT+5+1'UNZ+1+8'";
+
+/// Two steps, and so three lines.
+const TWICE: Run<'static> = Run {
+    ship: SHIP,
+    baplie: EMPTY,
+    movins: TWO_LOADS,
+    steps: None,
+};
+
+// 8,200,000 and twice 20,500 kg are 8,241,000 kg; the draught rises by 2,000 mm over 4,100,000 kg.
+const LINES: &[u8] =
+    b"STEP LIFT KG GM MEAN VERDICT\n0 - 8200000 4333 4000 PASS\n1 L0030782 8220500 4314 4010 PASS\n2 L0050082 8241000 4295 4020 PASS\nALL PASS\n";
+
+static PLANS: [CutPlan<'static>; 5] = [
+    CutPlan::Every(1),
+    CutPlan::Every(2),
+    CutPlan::Every(3),
+    CutPlan::Every(200_000),
+    CutPlan::At(&[1, 3]),
+];
+
+#[test]
+fn two_loads(rt: HostRuntime) {
+    for plan in &PLANS {
+        let (outcome, text) = written_by(rt.alloc(), &TWICE, *plan);
+        assert_eq!(rt; text.as_slice(), LINES);
+        assert_eq!(rt;
+            outcome,
+            Ok(Summary {
+                lines: 3,
+                first: None
+            })
+        );
+    }
+}
+
+/// Plans that don't fit three lines, and what is told of each.
+static UNFIT: [(CutPlan<'static>, &str); 8] = [
+    (CutPlan::Every(0), "F6 K1"),
+    (CutPlan::At(&[]), "F6 K1"),
+    (CutPlan::At(&[0, 3]), "F6 K2"),
+    (CutPlan::At(&[2, 2]), "F6 K2"),
+    (CutPlan::At(&[2, 1, 3]), "F6 K2"),
+    (CutPlan::At(&[4, 3]), "F6 K2"),
+    (CutPlan::At(&[1, 2]), "F6 K3"),
+    (CutPlan::At(&[1, 4]), "F6 K3"),
+];
+
+#[test]
+fn plans_that_do_not_fit(rt: HostRuntime) -> Result<(), Fail> {
+    for (plan, refusal) in &UNFIT {
+        let (outcome, text) = written_by(rt.alloc(), &TWICE, *plan);
+        assert!(rt; text.is_empty());
+        match outcome {
+            Ok(_) => assert!(rt; false, "not refused: {refusal}"),
+            Err(fault) => {
+                let shown = format!(in rt.alloc(); "{fault}")?;
+                assert_eq!(rt; shown.as_str(), *refusal);
+            }
+        }
+    }
+    Ok(())
+}
+
+// A sequence that can't be is told before a plan that doesn't fit.
+#[test]
+fn sequence_before_plan(rt: HostRuntime) -> Result<(), Fail> {
+    let run = Run {
+        movins: NONE_THERE,
+        ..TWICE
+    };
+    let (outcome, _) = written_by(rt.alloc(), &run, CutPlan::Every(0));
+    match outcome {
+        Ok(_) => assert!(rt; false),
+        Err(fault) => {
+            let shown = format!(in rt.alloc(); "{fault}")?;
+            assert_eq!(rt; shown.as_str(), "F5 S4 step 1");
+        }
+    }
+    Ok(())
+}
