@@ -1,9 +1,21 @@
--- The command `check` is one of those whose matches clap's definition gives.
-use Rattle.std.proofs.Common.{◌≡◌, ◌∙◌, sym, refl, true, [], Result, Ok, Err, IfOk}
-use Rattle.clap.specs.Words.{is_simple, is_simple_and_free, FailsBy, Kinds}
+-- The command `check`: clap's definition gives its matches, and a parse promises its words.
+use Rattle.std.proofs.Common.{◌≡◌, ◌∙◌, sym, refl, true, false, [], ◌∷◌, List, codes, Some, Result, Ok, Err, IfOk, IfErr, ap, arith}
+use Rattle.std.specs.List.{All}
+use Rattle.std.proofs.lemmas.List.Elements.{All-cons, All-nil}
+use Rattle.clap.specs.Facts.{args_of, groups_of}
+use Rattle.clap.specs.Built.{AddsArg, AddsInTurn, FitsChain, IsParsedFrom, TakesValue}
+use Rattle.clap.specs.Words.{App, Text, app_of, fault_of, found_of, is_simple, is_simple_and_free, kind_of, matches_of, new_app, rows_of, rule_of, takes, with_rule, FailsBy, HasMatchesOf}
+use Rattle.clap.specs.declared.error.ErrorKind.TheVariants.{OutOfMemory}
+use Rattle.clap.specs.declared.builder.arg.Arg.{Arg}
+use Rattle.clap.specs.declared.builder.command.Command.{Command}
+use Rattle.clap.specs.declared.builder.command.Command.TheViews.{out-Command}
 use Rattle.clap.specs.declared.error.Error.{Error}
+use Rattle.clap.specs.declared.parser.matches.ArgMatches.{ArgMatches}
+use Rattle.clap.proofs.CallerLemmas.{required_in_chain}
 use Rattle.clap.proofs.OnLiterals.{clap_on_literals}
-use Rattle.loadseq.specs.Words.{check_command}
+use Rattle.loadseq.specs.Promised.{HasWords}
+use Rattle.loadseq.specs.Words.{check_command, number_option, option_of, positional, within, without_name}
+use Rattle.loadseq.proofs.Chain.{accepted_in_chain, distinct}
 
 pub simple : is_simple check_command ≡ true
 unfolding clap_on_literals
@@ -13,6 +25,52 @@ pub simple_and_free : is_simple_and_free check_command ≡ true
 unfolding clap_on_literals
 simple_and_free = refl
 
-pub fails_by_ok : {T : Type 0} (r : Result T Error) (a b : Kinds) → a ≡ b → FailsBy a r → IfOk r (λ _. b ≡ [])
-fails_by_ok (Ok v) a b e h = sym e ∙ h
-fails_by_ok (Err x) a b e h = tt
+-- What clap says of the matches of a command it says of the definition that the command is. The definition stands as a variable: to compute
+-- with it written out takes too long.
+pub rows_by : (r : Result ArgMatches Error) (a b : App) (words : List Text) → a ≡ b → is_simple b ≡ true → IfOk r (HasMatchesOf a words)
+    → IfOk r (λ m. rows_of (found_of m) ≡ matches_of b words)
+rows_by (Ok m) a b words e s h = (h (ap is_simple e ∙ s)).0 ∙ ap (λ (x : App). matches_of x words) e
+rows_by (Err x) a b words e s h = tt
+
+pub taken_by : (r : Result ArgMatches Error) (a b : App) (words : List Text) → a ≡ b → is_simple_and_free b ≡ true
+    → (is_simple_and_free a ≡ true → FailsBy (fault_of a words) r) → IfOk r (λ _. fault_of b words ≡ [])
+taken_by (Ok m) a b words e s h = sym (ap (λ (x : App). fault_of x words) e) ∙ h (ap is_simple_and_free e ∙ s)
+taken_by (Err x) a b words e s h = tt
+
+pub refused_by : (r : Result ArgMatches Error) (a b : App) (words : List Text) → a ≡ b → IfErr r (λ x. takes a words ≡ true → kind_of x ≡ OutOfMemory)
+    → IfErr r (λ x. takes b words ≡ true → kind_of x ≡ OutOfMemory)
+refused_by (Ok m) a b words e h = tt
+refused_by (Err x) a b words e h = λ t. h (ap (λ (y : App). takes y words) e ∙ t)
+
+pub is_check : (start one two three four command : Command) (a b c d e : Arg)
+    → AddsArg start a one → AddsArg one b two → AddsArg two c three → AddsArg three d four → AddsArg four e command
+    → a.global ≡ false → b.global ≡ false → c.global ≡ false → d.global ≡ false → e.global ≡ false
+    → app_of start ≡ without_name (new_app (codes "loadseq check"))
+    → rule_of a ≡ positional (codes "FOLDER") → rule_of b ≡ positional (codes "BAPLIE") → rule_of c ≡ positional (codes "MOVINS")
+    → rule_of d ≡ option_of (codes "steps") → rule_of e ≡ number_option (codes "chunk") 1 200_000 → app_of command ≡ check_command
+is_check start one two three four command a b c d e aa ab ac ad ae ga gb gc gd ge s ra rb rc rd re =
+    let p1 = aa.shape ga ∙ (λ i. with_rule (s i) (ra i)) in
+    let p2 = ab.shape gb ∙ (λ i. with_rule (p1 i) (rb i)) in
+    let p3 = ac.shape gc ∙ (λ i. with_rule (p2 i) (rc i)) in
+    let p4 = ad.shape gd ∙ (λ i. with_rule (p3 i) (rd i)) in
+    ae.shape ge ∙ (λ i. with_rule (p4 i) (re i))
+
+pub has_words : (start one two three four command : Command) (a b c d e : Arg) (m : ArgMatches)
+    → AddsArg start a one → AddsArg one b two → AddsArg two c three → AddsArg three d four → AddsArg four e command
+    → args_of start ≡ [] → groups_of start ≡ [] → (out-Command start).has_globals ≡ false → (out-Command start).subcommand_negates_reqs ≡ false
+    → a.id.now ≡ codes "FOLDER" → b.id.now ≡ codes "BAPLIE" → c.id.now ≡ codes "MOVINS" → d.id.now ≡ codes "steps" → e.id.now ≡ codes "chunk"
+    → FitsChain a → FitsChain b → FitsChain c → FitsChain d → FitsChain e → TakesValue a → TakesValue b → TakesValue c
+    → e.value_parser ≡ Some (within 1 200_000) → e.ignore_case ≡ false → IsParsedFrom command m → HasWords m
+has_words start one two three four command a b c d e m aa ab ac ad ae args groups globals negates na nb nc nd ne fa fb fc fd fe ta tb tc parser exact p =
+    let xs : List Arg = a ∷ b ∷ c ∷ d ∷ e ∷ [] in
+    let chain : AddsInTurn AddsArg start xs command = (one, aa, (two, ab, (three, ac, (four, ad, (command, ae, refl))))) in
+    let last = All-cons FitsChain e [] fe (All-nil FitsChain) in
+    let options = All-cons FitsChain d (e ∷ []) fd last in
+    let all : All FitsChain xs = All-cons FitsChain a (b ∷ c ∷ d ∷ e ∷ []) fa (All-cons FitsChain b (c ∷ d ∷ e ∷ []) fb (All-cons FitsChain c (d ∷ e ∷ []) fc options)) in
+    let apart = distinct xs (codes "FOLDER" ∷ codes "BAPLIE" ∷ codes "MOVINS" ∷ codes "steps" ∷ codes "chunk" ∷ []) (rw (na, nb, nc, nd, ne) refl) refl in
+    record {
+      folder = rw na at (required_in_chain start command xs 0 a m chain args groups globals negates all apart (omega arith) ta p);
+      baplie = rw nb at (required_in_chain start command xs 1 a m chain args groups globals negates all apart (omega arith) tb p);
+      movins = rw nc at (required_in_chain start command xs 2 a m chain args groups globals negates all apart (omega arith) tc p);
+      chunk = rw ne at (accepted_in_chain start command xs 4 e m chain args groups globals all apart (omega arith) (within 1 200_000) parser exact p);
+    }

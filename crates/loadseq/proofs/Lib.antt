@@ -1,4 +1,5 @@
 pub mod Chain
 pub mod CheckWords
 pub mod LineReads
+pub mod OptionReads
 pub mod StopLemmas

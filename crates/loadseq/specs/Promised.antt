@@ -1,13 +1,21 @@
 -- What a parse of the command promises of its words.
-use Rattle.std.specs.Prelude.{◌≡◌, ℕ, codes, true, List, is_some}
-use Rattle.clap.specs.Words.{first_value, found_of}
+use Rattle.std.specs.Prelude.{◌≡◌, ℕ, codes, true, false, List, Some, is_some}
+use Rattle.clap.specs.Words.{Accepts, first_value, found_of, one_text, read_as, reading_of}
+use Rattle.clap.specs.declared.builder.value_parser.ValueParser.{ValueParser}
 use Rattle.clap.specs.declared.parser.matches.ArgMatches.{ArgMatches}
+use Rattle.loadseq.specs.Words.{within}
 
 abbrev pub HasWord : ArgMatches → List ℕ → Type 0
 HasWord matches name = is_some (first_value (found_of matches) name) ≡ true
 
--- each word that has to be there is
+-- an option that is given has a text that its parser takes, and is read as that parser reads it
+abbrev pub IsAccepted : ArgMatches → List ℕ → ValueParser → Type 0
+IsAccepted matches name parser = HasWord matches name
+    → (text : List ℕ) × (one_text (found_of matches) name ≡ Some (read_as (reading_of parser) text)) × Accepts false parser text
+
+-- each word that has to be there is, and the number lies within its limits
 pub record HasWords (matches : ArgMatches) : Type 0 where
   pub folder : HasWord matches (codes "FOLDER")
   pub baplie : HasWord matches (codes "BAPLIE")
   pub movins : HasWord matches (codes "MOVINS")
+  pub chunk : IsAccepted matches (codes "chunk") (within 1 200_000)

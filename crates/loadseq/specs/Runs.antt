@@ -1,5 +1,5 @@
 -- What a run comes to, by the files that its command line names.
-use Rattle.std.specs.Prelude.{◌≡◌, ℕ, List, codes, Result, Ok, Err}
+use Rattle.std.specs.Prelude.{◌≡◌, ℕ, List, codes, Ok, Err}
 use Rattle.clap.specs.Words.{Text}
 use Rattle.seq_report.specs.declared.faults.RunFault.{RunFault}
 use Rattle.seq_report.specs.declared.inputs.Inputs.{Inputs}

@@ -1,14 +1,14 @@
-ghost use Rattle.std.specs.Prelude.{◌≡◌, ◌≢◌, [], IfOk, IfErr, true, false, map, codes};
+ghost use Rattle.std.specs.Prelude.{◌≡◌, ◌≢◌, [], IfOk, IfErr, Some, true, false, map, codes};
 ghost use Rattle.clap.specs.Words.{app_of, args_of, groups_of, new_app, takes, fault_of, matches_of, rows_of, rule_of, found_of, kind_of, IsParsedFrom};
 ghost use Rattle.clap.specs.Built.{TakesValue, IsPlainArg};
 ghost use Rattle.clap.specs.declared.builder.command.Command.TheViews.{out-Command as fields_of};
 ghost use Rattle.clap.specs.declared.parser.matches.ArgMatches.{ArgMatches};
 ghost use Rattle.loadseq.specs.Lines.{IsLineOf, IsUsage, IsLineBehind, IsNotTaken};
 ghost use Rattle.loadseq.specs.Promised.{HasWords};
-ghost use Rattle.loadseq.specs.Words.{check_command, positional, option_of, behind_name, without_name};
+ghost use Rattle.loadseq.specs.Words.{check_command, positional, option_of, number_option, within, behind_name, without_name};
 
 use clap::error::ErrorKind;
-use clap::{Arg, ArgAction, ArgMatches, Command};
+use clap::{Arg, ArgAction, ArgMatches, Command, value_parser};
 use std::alloc::{AllocError, Global};
 use thiserror::Error;
 
@@ -23,6 +23,8 @@ pub struct Line<'a> {
     pub movins: &'a str,
     /// The planner's steps file, if one is given.
     pub steps: Option<&'a str>,
+    /// How many lines of the report are made at a time: 1 to 200,000, and 256 where it isn't given.
+    pub chunk: u32,
 }
 
 /// Why words are no command line.
@@ -37,7 +39,7 @@ pub enum LineFault {
 }
 
 /// The usage text where the first word is no command.
-const USAGE: &str = "usage: loadseq check FOLDER BAPLIE MOVINS [--steps FILE]";
+const USAGE: &str = "usage: loadseq check FOLDER BAPLIE MOVINS [--steps FILE] [--chunk N]";
 
 /// What help says of the command, of each of its words, and of its option.
 const ABOUT_CHECK: &str =
@@ -51,6 +53,12 @@ const ABOUT_MOVINS: &str = "The movement instruction (MOVINS, directory D.95B)";
 
 const ABOUT_STEPS: &str =
     "The order of the steps: lifts, fillings of tanks and restows (CSV); without it the order of the movement instruction";
+
+const ABOUT_CHUNK: &str =
+    "How many lines are made at a time, 1 to 200000 [default: 256]; the report is the same for each";
+
+/// How many lines of the report are made at a time where the words don't say.
+const DEFAULT_CHUNK: u32 = 256;
 
 /// A word that has to be there, with its meaning.
 fn word<'a>(alloc: Global, name: &'a str, meaning: &'a str) -> Arg<'a>
@@ -80,6 +88,23 @@ fn option<'a>(alloc: Global, name: &'a str, about: &'a str) -> Arg<'a>
         .help(about)
 }
 
+/// The option that says how many lines of the report are made at a time.
+fn chunk<'a>(alloc: Global) -> Arg<'a>
+    ensures rule { rule_of result ≡ number_option (codes "chunk") 1 200_000 }
+    ensures id { result.id.now ≡ codes "chunk" }
+    ensures plain { IsPlainArg result }
+    ensures one { result.global ≡ false }
+    ensures limits { result.value_parser ≡ Some (within 1 200_000) }
+    ensures exact_case { result.ignore_case ≡ false }
+{
+    Arg::new(alloc, "chunk")
+        .long("chunk")
+        .value_name("N")
+        .action(ArgAction::Set)
+        .value_parser(value_parser!(u32).range(1..=200_000))
+        .help(ABOUT_CHUNK)
+}
+
 /// A command with its meaning, which is handed the words behind its name, and takes none yet.
 fn command<'a>(alloc: Global, name: &'a str, about: &'a str) -> Command<'a>
     ensures app { app_of result ≡ without_name (new_app name.entry.now) }
@@ -100,7 +125,8 @@ fn check<'a>(alloc: Global) -> Result<Command<'a>, AllocError>
         .arg(word(alloc, "FOLDER", ABOUT_FOLDER))?
         .arg(word(alloc, "BAPLIE", ABOUT_BAPLIE))?
         .arg(word(alloc, "MOVINS", ABOUT_MOVINS))?
-        .arg(option(alloc, "steps", ABOUT_STEPS))
+        .arg(option(alloc, "steps", ABOUT_STEPS))?
+        .arg(chunk(alloc))
 }
 
 /// What `clap` makes of the words behind `check`.
@@ -153,11 +179,13 @@ fn check_line<'a>(alloc: Global, words: &'a [&'a str]) -> Result<Line<'a>, LineF
     let baplie = matches.get_str("BAPLIE").unwrap();
     let movins = matches.get_str("MOVINS").unwrap();
     let steps = matches.get_str("steps");
+    let chunk = matches.get_one::<u32>("chunk").unwrap_or(DEFAULT_CHUNK);
     Ok(Line {
         folder,
         baplie,
         movins,
         steps,
+        chunk,
     })
 }
 

@@ -1,5 +1,5 @@
-//! The program: `loadseq check FOLDER BAPLIE MOVINS [--steps FILE]` reads a ship's profile, a bay plan, a movement instruction and a
-//! planner's steps, and writes the report to standard output.
+//! The program: `loadseq check FOLDER BAPLIE MOVINS [--steps FILE] [--chunk N]` reads a ship's profile, a bay plan, a movement
+//! instruction and a planner's steps, and writes the report to standard output.
 #![tactic(auto)]
 
 mod arguments;

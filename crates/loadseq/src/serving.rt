@@ -14,18 +14,21 @@ use seq_report::{CutPlan, Inputs, Sink, Through, report};
 use std::alloc::Global;
 use std::io::Write;
 
-/// How many lines of a report are made at a time.
-const CHUNK: u32 = 256;
-
-/// Writes the report on the inputs to a sink, and gives the exit status: 0, or 1 where a step fails.
-fn report_to<S: Sink>(alloc: Global, inputs: &Inputs<'_>, sink: &mut S) -> Result<u8, Stop>
+/// Writes the report on the inputs to a sink, made this many lines at a time, and gives the exit status: 0, or 1 where a step fails.
+fn report_to<S: Sink>(
+    alloc: Global,
+    inputs: &Inputs<'_>,
+    chunk: u32,
+    sink: &mut S,
+) -> Result<u8, Stop>
+    requires chunk { 1 ≤ chunk }
     requires sound { S.has_failed sink.old ≡ false }
     ensures written { IfOk result (λ status. (outcome : Outcome) × (outcome_of inputs.now ≡ Ok outcome) × (status ≡ status_on outcome.summary.first)
         × Appends (S.contents sink.old) (S.contents sink.new) outcome.text) }
     ensures status { IfOk result (λ status. status ≤ 1) }
     ensures stopped { IfErr result (IsStopOn inputs.now) }
 {
-    let summary = match report(alloc, inputs, CutPlan::Every(CHUNK), sink) {
+    let summary = match report(alloc, inputs, CutPlan::Every(chunk), sink) {
         Ok(summary) => summary,
         Err(fault) => return Err(Stop::from(fault)),
     };
@@ -39,12 +42,13 @@ fn check<R: Readers, O: Write>(
     line: Line<'_>,
     out: &mut O,
 ) -> Result<u8, Stop>
+    requires chunk { 1 ≤ line.chunk }
     ensures told { IfOk result (IsReported (R.known files.old) line.entry) }
     ensures status { IfOk result (λ status. status ≤ 1) }
     ensures stopped { IfErr result (IsStopOf (R.known files.old) line.entry) }
 {
     let texts = read_texts(alloc, files, line)?;
-    report_to(alloc, &texts.inputs(), &mut Through::new(out))
+    report_to(alloc, &texts.inputs(), line.chunk, &mut Through::new(out))
 }
 
 /// Writes the one line on what stopped a run to `err`, and gives the exit status. A fault of `err` changes nothing.

@@ -229,7 +229,7 @@ fn refusals(rt: HostRuntime) {
 #[test]
 fn words(rt: HostRuntime) {
     let files = with("box/ship.toml", Content::Bytes(SHIP));
-    let usage = "usage: loadseq check FOLDER BAPLIE MOVINS [--steps FILE]\n";
+    let usage = "usage: loadseq check FOLDER BAPLIE MOVINS [--steps FILE] [--chunk N]\n";
     check(&rt, &files, &[], 3, "", usage);
     check(&rt, &files, &["report"], 3, "", usage);
     check(&rt, &files, &["--help"], 3, "", usage);

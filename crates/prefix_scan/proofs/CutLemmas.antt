@@ -47,5 +47,6 @@ rises_to : (ends : List ℕ) → IsRising ends → (j k : ℕ) → k + j ≡ len
 rises_to ends up zero k e = let same : k ≡ length ends = omega arith in let h = ap (start_of ends) same in omega arith
 rises_to ends up (suc j) k e = let here = up k (omega arith) in let later = rises_to ends up j (suc k) (omega arith) in omega arith
 
-pub start_within : (ends : List ℕ) (len k : ℕ) → Divides ends len → k < length ends → start_of ends k ≤ len
+-- where a chunk begins or ends, the list hasn't ended before
+pub start_within : (ends : List ℕ) (len k : ℕ) → Divides ends len → k ≤ length ends → start_of ends k ≤ len
 start_within ends len k d h = let w = d.whole in let r = rises_to ends d.rising (length ends - k) k (omega arith) in omega arith

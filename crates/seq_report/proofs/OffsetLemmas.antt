@@ -1,14 +1,16 @@
 -- The sum before each chunk is the fold of the totals of the chunks before it.
-use Rattle.std.proofs.Common.{◌≡◌, ◌∙◌, ℕ, zero, suc, ◌+◌, ◌-◌, ◌^◌, ◌<◌, ◌≤◌, List, [], ◌∷◌, ◌++◌, length, take, get_or, sum_by, below_more, refl, sym, ap, subst, arith}
-use Rattle.std.specs.List.{fold, scan}
+use Rattle.std.proofs.Common.{◌≡◌, ◌∙◌, ℕ, zero, suc, ◌+◌, ◌^◌, ◌<◌, ◌≤◌, List, [], ◌∷◌, ◌++◌, length, take, get_or, sum_by, below_more, refl, sym, ap, subst, arith}
+use Rattle.std.specs.List.{fold}
 use Rattle.std.proofs.Math.Seq.{get_or-append_seam}
 use Rattle.std.proofs.lemmas.List.{get_or_append_left}
 use Rattle.std.proofs.lemmas.List.Sums.{fold_more, sum_by_more}
 use Rattle.units_core.specs.Bodies.{Mass}
 use Rattle.ship_profile.specs.declared.frames.Frame.{Frame}
 use Rattle.lift_sequence.specs.declared.steps.Step.{Step}
-use Rattle.prefix_scan.specs.Cut.{start_of, IsRising, Divides}
+use Rattle.prefix_scan.specs.Cut.{start_of, Divides}
 use Rattle.prefix_scan.specs.Folds.{offset_list}
+use Rattle.prefix_scan.proofs.CutLemmas.{start_within}
+use Rattle.prefix_scan.proofs.SumLemmas.{length-offsets, offset_at}
 use Rattle.moment_sums.specs.Sum.{Sum, joined}
 use Rattle.moment_sums.specs.Kept.{Kept, both_kept, none_kept, size_of, values}
 use Rattle.moment_sums.specs.KeptLaws.{kept_laws}
@@ -16,15 +18,6 @@ use Rattle.moment_sums.proofs.Bounds.{values_both, values_nothing}
 use Rattle.seq_report.specs.Chunks.{AreChunkTotals, AreOffsets, parts_before, sum_before}
 use Rattle.seq_report.proofs.SumLemmas.{parts_few}
 use Rattle.seq_report.proofs.Totals.{take_past}
-
-pub length-offsets : {M : Type 0} (op : M → M → M) (a : M) (xs : List M) → length (scan op (λ s x. s) a xs) ≡ length xs
-length-offsets op a [] = refl
-length-offsets op a (x ∷ xs) = ap suc (length-offsets op (op a x) xs)
-
-pub offset_at : {M : Type 0} (op : M → M → M) (a : M) (xs : List M) (i : ℕ) (d : M) → i < length xs → get_or (scan op (λ s x. s) a xs) i d ≡ fold op a (take i xs)
-offset_at op a [] i d h = absurd (omega arith)
-offset_at op a (x ∷ xs) zero d h = refl
-offset_at op a (x ∷ xs) (suc i) d h = offset_at op (op a x) xs i d (omega arith)
 
 -- what holds of each place holds of it with one more behind them
 pub pushed : {X : Type 0} (P : ℕ → X → Type 0) (xs : List X) (x : X) (n : ℕ) → length xs ≡ n → ((j : ℕ) (d : X) → j < n → P j (get_or xs j d)) → P n x
@@ -34,14 +27,6 @@ pushed P xs x n count each last j d =
     (λ i low. subst (P i) (sym (get_or_append_left xs (x ∷ []) d i (omega (arith, count)))) (each i d low))
     (subst (λ m. P m (get_or (xs ++ x ∷ []) m d)) count
     (subst (P (length xs)) (sym (get_or-append_seam xs x [] d)) (subst (λ m. P m x) (sym count) last))) j
-
-rises_to : (ends : List ℕ) → IsRising ends → (j k : ℕ) → k + j ≡ length ends → start_of ends k ≤ start_of ends (length ends)
-rises_to ends up zero k e = let same : k ≡ length ends = omega arith in let h = ap (start_of ends) same in omega arith
-rises_to ends up (suc j) k e = let here = up k (omega arith) in let later = rises_to ends up j (suc k) (omega arith) in omega arith
-
--- where a chunk begins, the list hasn't ended
-pub start_within : (ends : List ℕ) (len k : ℕ) → Divides ends len → k ≤ length ends → start_of ends k ≤ len
-start_within ends len k d h = let w = d.whole in let n = rises_to ends d.rising (length ends - k) k (omega arith) in omega arith
 
 module _ (frames : List Frame) (arrival : List Mass) (steps : List Step) (ends : List ℕ) (len : ℕ) (totals : List Kept)
     (d : Divides ends len) (few : len ≤ 120001) (are : AreChunkTotals frames arrival steps ends totals) where

@@ -1,16 +1,14 @@
 -- Adding up a list of bodies, one after another.
-use Rattle.std.proofs.Common.{◌≡◌, ℕ, zero, suc, ◌+◌, ◌<◌, ◌≤◌, List, [], ◌∷◌, ◌++◌, length, take, get_or, slice_get, ℤ, ◌+ℤ◌, refl, sym, ◌∙◌, ap, arith}
+use Rattle.std.proofs.Common.{◌≡◌, ℕ, zero, suc, ◌+◌, ◌<◌, ◌≤◌, List, [], ◌∷◌, ◌++◌, length, take, get_or, slice_get, ℤ, pos, ◌+ℤ◌, refl, sym, ◌∙◌, ap, arith}
 use Rattle.std.specs.Option.{option_to_list}
 use Rattle.std.proofs.lemmas.Int.{ints}
 use Rattle.std.proofs.lemmas.List.{take_more}
 use Rattle.units_core.specs.Bodies.{Mass}
 use Rattle.ship_profile.specs.declared.frames.Frame.{Frame}
 use Rattle.lift_sequence.specs.Totals.{total}
+use Rattle.lift_sequence.proofs.Totals.{total-append}
+use Rattle.moment_sums.specs.KeptLaws.{plus_nothing}
 use Rattle.moment_sums.specs.Sum.{Sum, joined, of_body, sum_of, value}
-
-total-append : {X : Type 0} (f : X → ℤ) (xs : List X) (x : X) → total f (xs ++ x ∷ []) ≡ total f xs +ℤ f x
-total-append f [] x = omega (arith, ints)
-total-append f (y ∷ xs) x = omega (arith, ints, total-append f xs x)
 
 pub take_past : {X : Type 0} (xs : List X) (n : ℕ) → length xs ≤ n → take n xs ≡ xs
 take_past [] zero past = refl
@@ -21,7 +19,8 @@ take_past (x ∷ xs) (suc n) past = ap (λ l. x ∷ l) (take_past xs n (omega ar
 -- one more is added to a running sum
 one_more : {X : Type 0} (f : X → ℤ) (xs : List X) (i : ℕ) (x : X) → i < length xs → x ≡ get_or xs i x → total f (take i xs) +ℤ f x ≡ total f (take (i + 1) xs)
 one_more f xs i x inside is =
-    sym (ap (total f) (take_more xs i x inside) ∙ total-append f (take i xs) (get_or xs i x) ∙ ap (λ y. total f (take i xs) +ℤ f y) (sym is))
+    let last : f (get_or xs i x) +ℤ pos 0 ≡ f x = plus_nothing (f (get_or xs i x)) ∙ ap f (sym is) in
+    sym (ap (total f) (take_more xs i x inside) ∙ total-append f (take i xs) (get_or xs i x ∷ []) ∙ ap (λ y. total f (take i xs) +ℤ y) last)
 
 pub body_more : (frames : List Frame) (bodies : List Mass) (i : ℕ) (b : Mass) (s t r : Sum) → i < length bodies → b ≡ get_or bodies i b
     → s ≡ sum_of frames (take i bodies) → t ≡ of_body frames b → r ≡ joined s t → r ≡ sum_of frames (take (i + 1) bodies)

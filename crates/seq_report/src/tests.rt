@@ -77,6 +77,9 @@ impl<'a> Run<'a> {
     }
 }
 
+/// Chunks of 256 lines.
+const PLAN: CutPlan<'static> = CutPlan::Every(256);
+
 /// The report of a run, as text, and what it came to, made in the chunks of a plan.
 fn written_by(
     alloc: Global,
@@ -88,9 +91,35 @@ fn written_by(
     (outcome, taken)
 }
 
-/// The same in chunks of 256 lines.
 fn written(alloc: Global, run: &Run<'_>) -> (Result<Summary, RunFault>, Vec<u8>) {
-    written_by(alloc, run, CutPlan::Every(256))
+    written_by(alloc, run, PLAN)
+}
+
+/// A run in the chunks of a plan is refused so, and nothing is written.
+fn check_refusal_by(
+    rt: &(impl Abort + AllocGlobal),
+    run: &Run<'_>,
+    plan: CutPlan<'_>,
+    refusal: &str,
+) -> Result<(), Fail> {
+    let (outcome, text) = written_by(rt.alloc(), run, plan);
+    assert!(rt; text.is_empty());
+    match outcome {
+        Ok(_) => assert!(rt; false, "not refused: {refusal}"),
+        Err(fault) => {
+            let shown = format!(in rt.alloc(); "{fault}")?;
+            assert_eq!(rt; shown.as_str(), refusal);
+        }
+    }
+    Ok(())
+}
+
+fn check_refusal(
+    rt: &(impl Abort + AllocGlobal),
+    run: &Run<'_>,
+    refusal: &str,
+) -> Result<(), Fail> {
+    check_refusal_by(rt, run, PLAN, refusal)
 }
 
 /// A run in which all steps pass has these lines behind the heading.

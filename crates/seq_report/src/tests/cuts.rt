@@ -1,14 +1,11 @@
-use super::{EMPTY, Run, SHIP, written_by};
+use super::refusals::EMPTY_CELL_OUT;
+use super::{EMPTY, Run, SHIP, check_refusal_by, written_by};
 use crate::{CutPlan, Summary};
 use std::test::Fail;
 
 /// The container of 20,500 kg to starboard, and then one of 20,500 kg on deck amidships.
 const TWO_LOADS: &[u8] =
     b"UNB+UNOA:2+PLAN+SHIP+250101:1200+8'UNH+1+MOVINS:D:95B:UN'HAN+LOA'LOC+147+0030782::5'MEA+WT++KGM:20500'EQD+CN+ABCU1234560'HAN+LOA'LOC+147+0050082::5'MEA+WT++KGM:20500'EQD+CN+ABCU7654321'UNT+10+1'UNZ+1+8'";
-
-/// A container is discharged from an empty cell.
-const NONE_THERE: &[u8] =
-    b"UNB+UNOA:2+PLAN+SHIP+250101:1200+8'UNH+1+MOVINS:D:95B:UN'HAN+DIS'LOC+147+0050082'EQD+CN+ABCU1234560'UNT+5+1'UNZ+1+8'";
 
 /// Two steps, and so three lines.
 const TWICE: Run<'static> = Run {
@@ -60,15 +57,7 @@ static UNFIT: [(CutPlan<'static>, &str); 8] = [
 #[test]
 fn plans_that_do_not_fit(rt: HostRuntime) -> Result<(), Fail> {
     for (plan, refusal) in &UNFIT {
-        let (outcome, text) = written_by(rt.alloc(), &TWICE, *plan);
-        assert!(rt; text.is_empty());
-        match outcome {
-            Ok(_) => assert!(rt; false, "not refused: {refusal}"),
-            Err(fault) => {
-                let shown = format!(in rt.alloc(); "{fault}")?;
-                assert_eq!(rt; shown.as_str(), *refusal);
-            }
-        }
+        check_refusal_by(&rt, &TWICE, *plan, refusal)?;
     }
     Ok(())
 }
@@ -77,16 +66,8 @@ fn plans_that_do_not_fit(rt: HostRuntime) -> Result<(), Fail> {
 #[test]
 fn sequence_before_plan(rt: HostRuntime) -> Result<(), Fail> {
     let run = Run {
-        movins: NONE_THERE,
+        movins: EMPTY_CELL_OUT,
         ..TWICE
     };
-    let (outcome, _) = written_by(rt.alloc(), &run, CutPlan::Every(0));
-    match outcome {
-        Ok(_) => assert!(rt; false),
-        Err(fault) => {
-            let shown = format!(in rt.alloc(); "{fault}")?;
-            assert_eq!(rt; shown.as_str(), "F5 S4 step 1");
-        }
-    }
-    Ok(())
+    check_refusal_by(&rt, &run, CutPlan::Every(0), "F5 S4 step 1")
 }

@@ -1,29 +1,10 @@
-use super::{IDLE, Run, SHIP, TO_STARBOARD, written};
+use super::{IDLE, Run, SHIP, TO_STARBOARD, check_refusal};
 use crate::RunFault;
 use lift_sequence::{SeqCode, SeqFault};
 use ship_profile::{File, ProfileFault};
-use std::process::Abort;
 use std::test::Fail;
 use stow_messages::{StepsCode, StepsFault, StowCode, StowFault};
 use units_core::Cell;
-
-/// A run is refused so, and nothing is written.
-fn check_refusal(
-    rt: &(impl Abort + AllocGlobal),
-    run: &Run<'_>,
-    refusal: &str,
-) -> Result<(), Fail> {
-    let (outcome, text) = written(rt.alloc(), run);
-    assert!(rt; text.is_empty());
-    match outcome {
-        Ok(_) => assert!(rt; false, "not refused: {refusal}"),
-        Err(fault) => {
-            let shown = format!(in rt.alloc(); "{fault}")?;
-            assert_eq!(rt; shown.as_str(), refusal);
-        }
-    }
-    Ok(())
-}
 
 const TAKEN_TWICE: &[u8] =
     b"UNB+UNOA:2+SHIP+PLAN+250101:1200+7'UNH+1+BAPLIE:D:95B:UN'LOC+147+0030782'MEA+WT++KGM:1'LOC+147+030782'MEA+WT++KGM:1'UNT+6+1'UNZ+1+7'";
@@ -43,7 +24,8 @@ const OVER_IT: &[u8] =
 const ANOTHER_OUT: &[u8] =
     b"UNB+UNOA:2+PLAN+SHIP+250101:1200+8'UNH+1+MOVINS:D:95B:UN'HAN+DIS'LOC+147+0010082'EQD+CN+XYZU7654320'UNT+5+1'UNZ+1+8'";
 
-const EMPTY_CELL_OUT: &[u8] =
+/// A container is discharged from an empty cell.
+pub const EMPTY_CELL_OUT: &[u8] =
     b"UNB+UNOA:2+PLAN+SHIP+250101:1200+8'UNH+1+MOVINS:D:95B:UN'HAN+DIS'LOC+147+0050082'EQD+CN+ABCU1234560'UNT+5+1'UNZ+1+8'";
 
 const NO_HANDLING: &[u8] =

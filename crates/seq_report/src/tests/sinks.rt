@@ -1,10 +1,7 @@
-use super::IDLE;
-use crate::{CutPlan, RunFault, Sink, SinkFailed, Summary, Through, report};
+use super::{IDLE, PLAN};
+use crate::{RunFault, Sink, SinkFailed, Summary, Through, report};
 use std::io;
 use std::io::{ErrorKind, Write};
-
-/// All lines in one chunk.
-const PLAN: CutPlan<'static> = CutPlan::Every(256);
 
 /// A writer that takes `left` bytes, `most` of them a call, and then fails.
 #[derive(Drop)]

@@ -4,7 +4,8 @@ use Rattle.moment_sums.specs.Kept.{size_of, values}
 use Rattle.moment_sums.specs.Sum.{joined}
 use Rattle.seq_report.specs.Cases.{before}
 use Rattle.seq_report.specs.Chunks.{parts_before}
-use Rattle.seq_report.proofs.OffsetLemmas.{pushed, start_within}
+use Rattle.prefix_scan.proofs.CutLemmas.{start_within}
+use Rattle.seq_report.proofs.OffsetLemmas.{pushed}
 use Rattle.seq_report.proofs.chunks.chunk_totals.Goals as goal
 
 pub chunk_total-requires-clause-there : goal.chunk_total-requires-clause-there

@@ -4,7 +4,7 @@ use Rattle.std.proofs.lemmas.List.FromFn.{map-range_with_len_more}
 use Rattle.moment_sums.specs.Kept.{values}
 use Rattle.seq_report.specs.Cases.{before, line_in}
 use Rattle.seq_report.specs.Chunks.{Part, chunk_of, part_of}
-use Rattle.seq_report.proofs.OffsetLemmas.{start_within}
+use Rattle.prefix_scan.proofs.CutLemmas.{start_within}
 use Rattle.seq_report.proofs.sections.sections.Goals as goal
 
 pub make_section-requires-clause-there : goal.make_section-requires-clause-there
