@@ -1,3 +1,4 @@
+pub mod Bounded
 pub mod Kept
 pub mod KeptLaws
 pub mod Shares

@@ -2,11 +2,13 @@
 //! after a step is the sum before it joined with what the step changes, [`Totals::of_step`].
 #![tactic(auto)]
 
+mod laws;
 mod limits;
 mod rows;
 mod shares;
 mod totals;
 
+pub use laws::{aboard_is_bounded, sequences_are_bounded};
 pub use shares::{moment_aft, weight_aft};
 pub use totals::Totals;
 

@@ -1,8 +1,9 @@
-ghost use Rattle.std.specs.Prelude.{◌≡◌, ℕ, ◌+◌, ◌*◌, ◌^◌, ◌<◌, ◌≤◌, ◌*ℤ◌, slice_get, unsigned_abs};
+ghost use Rattle.std.specs.Prelude.{◌≡◌, ℕ, ◌+◌, ◌*◌, ◌^◌, ◌<◌, ◌≤◌, ◌*ℤ◌, slice_get, true, unsigned_abs};
 ghost use Rattle.prefix_scan.specs.Laws.{most_parts};
 ghost use Rattle.units_core.specs.Interpolation.{at, IsWithin};
 ghost use Rattle.moment_sums.specs.Shares.{moment_aft, weight_aft};
 ghost use Rattle.moment_sums.specs.Sum.{Weight, MomentX, MomentY, MomentZ, Surface, WeightAft, MomentAft, at_frame, changed_by, in_option, negated, of_body};
+ghost use Rattle.moment_sums.specs.Bounded.{IsBounded};
 ghost use Rattle.moment_sums.specs.Kept.{is_bounded, size_of, values};
 
 use crate::limits::{are_centres, are_shares, both, is_share, times};
@@ -169,7 +170,8 @@ impl Totals {
     /// Whether the bodies of a ship can add up to this: no negative mass, no centre beyond a kilometre either way, aft of each frame no more
     /// mass than there is, no mass more than two kilometres aft of it, and free surface moments of at most 2 * 10^14 kg mm.
     pub fn is_bounded(&self) -> bool
-        ensures { result ≡ is_bounded self.now }
+        ensures tests { result ≡ is_bounded self.now }
+        ensures bounds { result ≡ true → IsBounded (values self.now) }
     {
         let centres = are_centres(times(1_000_000, self.kg), self.x, self.y, self.z);
         let surface = is_share(200_000_000_000_000, self.fsm);

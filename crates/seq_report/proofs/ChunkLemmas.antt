@@ -7,7 +7,7 @@ use Rattle.std.proofs.lemmas.List.{append-nil, map-append}
 use Rattle.std.proofs.lemmas.List.FromFn.{length-map-range_with_len}
 use Rattle.prefix_scan.specs.Cut.{start_of, IsRising, Divides}
 use Rattle.seq_report.specs.declared.cases.Case.{Case}
-use Rattle.seq_report.specs.declared.criteria.Criterion.{Criterion}
+use Rattle.criteria.specs.declared.criterion.Criterion.{Criterion}
 use Rattle.seq_report.specs.Cases.{line_in, outcome_in}
 use Rattle.seq_report.specs.Chunks.{Part, chunk_of, first_in, part_of, text_in}
 use Rattle.seq_report.specs.Report.{Line, failure_of, first_of, header_of, last_line, text_of}

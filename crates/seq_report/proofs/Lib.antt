@@ -4,3 +4,4 @@ pub mod OffsetLemmas
 pub mod PlanLemmas
 pub mod SumLemmas
 pub mod Totals
+pub mod Words

@@ -7,11 +7,12 @@ use Rattle.lift_sequence.specs.Arrival.{ArrivalRecord, on_arrival}
 use Rattle.lift_sequence.specs.Bodies.{bodies}
 use Rattle.lift_sequence.specs.Sequence.{IsOf}
 use Rattle.lift_sequence.specs.Totals.{change, total}
+use Rattle.moment_sums.specs.Bounded.{IsBounded}
 use Rattle.moment_sums.specs.Sum.{Sum}
 use Rattle.seq_report.specs.declared.cases.Case.{Case}
 use Rattle.seq_report.specs.Chunks.{sum_before}
 use Rattle.seq_report.specs.Refusal.{Outcome, outcome_on}
-use Rattle.seq_report.specs.Report.{Line, line_at, lines_of}
+use Rattle.seq_report.specs.Report.{Line, line_at, lines_of, sum_at}
 
 abbrev pub aboard_first : Case → Aboard
 aboard_first case = on_arrival case.arrival.items case.arrival.fills
@@ -40,3 +41,4 @@ pub record IsReady (case : Case) : Type 0 where
   pub adds_up : (f : Mass → ℤ) (k : ℕ)
       → total f (bodies case.profile (after_all case.profile (aboard_first case) (take k case.sequence.ops)))
       ≡ total f case.arrival.bodies +ℤ total (change f) (take k case.sequence.steps)
+  pub bounded : (k : ℕ) → IsBounded (sum_at case.profile (aboard_first case) case.sequence.ops k)

@@ -8,7 +8,7 @@ use Rattle.lift_sequence.specs.declared.steps.Step.{Step}
 use Rattle.prefix_scan.specs.Cut.{start_of}
 use Rattle.moment_sums.specs.Sum.{Sum, changed_by, joined, nothing, sum_of}
 use Rattle.moment_sums.specs.Kept.{Kept, size_of, values}
-use Rattle.seq_report.specs.declared.criteria.Criterion.{Criterion}
+use Rattle.criteria.specs.declared.criterion.Criterion.{Criterion}
 use Rattle.seq_report.specs.Report.{Line, first_of, text_of}
 
 -- line 0 brings aboard what is aboard on arrival, and line k changes what step k does

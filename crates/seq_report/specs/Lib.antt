@@ -1,10 +1,8 @@
 pub mod Cases
 pub mod Chunks
-pub mod Criteria
-pub mod Floating
+pub mod Columns
 pub mod Lifts
 pub mod Plans
 pub mod Printed
 pub mod Refusal
 pub mod Report
-pub mod Sums

@@ -9,42 +9,17 @@ use Rattle.lift_sequence.specs.Aboard.{Aboard, after_all}
 use Rattle.lift_sequence.specs.Bodies.{bodies}
 use Rattle.moment_sums.specs.Sum as sums
 use Rattle.moment_sums.specs.Sum.{Weight, sum_of}
-use Rattle.seq_report.specs.declared.floating.Figures.{Figures}
-use Rattle.seq_report.specs.declared.criteria.Criterion.{Criterion}
-use Rattle.seq_report.specs.declared.criteria.Criterion.TheVariants.{C0, C1}
-use Rattle.seq_report.specs.declared.criteria.Outside as causes
-use Rattle.seq_report.specs.declared.criteria.Outside.TheVariants.{Hydro}
-use Rattle.seq_report.specs.declared.criteria.Verdict.{Verdict}
-use Rattle.seq_report.specs.declared.criteria.Verdict.TheVariants.{Outside, Fails, Passes}
-use Rattle.seq_report.specs.declared.lines.Column.{Column}
-use Rattle.seq_report.specs.declared.lines.Column.TheVariants as column
-use Rattle.seq_report.specs.declared.lines.StepLine.{StepLine}
-use Rattle.seq_report.specs.Criteria.{verdict_of, first_failed}
+use Rattle.hydrostat.specs.declared.outside.Outside as causes
+use Rattle.hydrostat.specs.declared.outside.Outside.TheVariants.{Hydro, Levers, Bonjean, Closing, GmLimit}
+use Rattle.criteria.specs.declared.criterion.Criterion.{Criterion}
+use Rattle.criteria.specs.declared.criterion.Criterion.TheVariants.{C0, C1, C2, C3, C4, C5, C6, C7, C8, C9, C10, C11}
+use Rattle.criteria.specs.Judgement.{Judgement, IsOutside, Fails, Passes, judgement_of, told}
+use Rattle.seq_report.specs.declared.step_lines.StepLine.{StepLine}
+use Rattle.seq_report.specs.Columns.{figures_text, headings_text}
 use Rattle.seq_report.specs.Lifts.{lift_text}
-use Rattle.seq_report.specs.Sums.{judged_by}
-
--- The columns of figures, in their order, with their headings, and the figure of each. Between the displacement and the verdict
--- a line has one number for each of them.
-abbrev pub columns : List Column
-columns = column.Gm ∷ column.Mean ∷ []
-
-abbrev pub heading_of : Column → List ℕ
-heading_of column.Gm = codes "GM"
-heading_of column.Mean = codes "MEAN"
-
-abbrev pub figure_of : Figures → Column → ℤ
-figure_of f column.Gm = f.gm
-figure_of f column.Mean = f.mean
-
--- words, each behind a space (code 32)
-abbrev pub spaced : List (List ℕ) → List ℕ
-spaced words = flat_map (λ word. 32 ∷ word) words
-
-abbrev pub headings_text : List ℕ
-headings_text = spaced (map heading_of columns)
 
 abbrev pub judged_headings : List ℕ
-judged_headings = headings_text ++ codes " VERDICT\n"
+judged_headings = headings_text ++ codes " FRAMES VERDICT\n"
 
 abbrev pub header_of : List ℕ
 header_of = codes "STEP LIFT KG" ++ judged_headings
@@ -53,34 +28,61 @@ header_of = codes "STEP LIFT KG" ++ judged_headings
 abbrev pub code_of : Criterion → List ℕ
 code_of C0 = codes "C0"
 code_of C1 = codes "C1"
+code_of C2 = codes "C2"
+code_of C3 = codes "C3"
+code_of C4 = codes "C4"
+code_of C5 = codes "C5"
+code_of C6 = codes "C6"
+code_of C7 = codes "C7"
+code_of C8 = codes "C8"
+code_of C9 = codes "C9"
+code_of C10 = codes "C10"
+code_of C11 = codes "C11"
 
 abbrev pub cause_of : causes.Outside → List ℕ
 cause_of Hydro = codes "HYDRO"
+cause_of Levers = codes "LEVERS"
+cause_of Bonjean = codes "BONJEAN"
+cause_of Closing = codes "CLOSING"
+cause_of GmLimit = codes "GMLIMIT"
+
+-- what is said of a step: its number, the displacement, of how many frames, and how it is judged
+pub record Said : Type 0 where
+  pub step : ℕ
+  pub kg : ℤ
+  pub frames : ℕ
+  pub judgement : Judgement
+
+abbrev pub said : StepLine → Said
+said l = record { step = l.step; kg = l.kg; frames = l.frames; judgement = told l.verdict }
 
 -- the figures of a line, and the verdict; or the word OUTSIDE and the cause
-abbrev pub figures_text : Figures → List ℕ
-figures_text f = spaced (map (λ c. signed_decimal (figure_of f c)) columns)
-
-abbrev pub verdict_text : Verdict → List ℕ
-verdict_text (Outside outside) = codes " OUTSIDE " ++ cause_of outside
-verdict_text (Fails criterion f) = figures_text f ++ (codes " FAIL " ++ code_of criterion)
-verdict_text (Passes f) = figures_text f ++ codes " PASS"
+abbrev pub verdict_text : ℕ → Judgement → List ℕ
+verdict_text frames (IsOutside outside) = codes " OUTSIDE " ++ cause_of outside
+verdict_text frames (Fails criterion f) = figures_text frames f ++ (codes " FAIL " ++ code_of criterion)
+verdict_text frames (Passes f) = figures_text frames f ++ codes " PASS"
 
 -- the number of the step, what leads to it, the displacement, and how it is judged
-abbrev pub judged_text : StepLine → List ℕ
-judged_text l = codes " " ++ (signed_decimal l.kg ++ (verdict_text l.verdict ++ codes "\n"))
+abbrev pub judged_text : Said → List ℕ
+judged_text l = codes " " ++ (signed_decimal l.kg ++ (verdict_text l.frames l.judgement ++ codes "\n"))
 
-abbrev pub line_of : Option Op → StepLine → List ℕ
+abbrev pub line_of : Option Op → Said → List ℕ
 line_of lift l = decimal l.step ++ (codes " " ++ (lift_text lift ++ judged_text l))
 
+-- the first criterion that a step fails, which is C0 outside of the tables
+abbrev pub first_failed : Judgement → Option Criterion
+first_failed (IsOutside outside) = Some C0
+first_failed (Fails criterion f) = Some criterion
+first_failed (Passes f) = None
+
 -- the step that a line fails, with the criterion
-abbrev pub failure_of : StepLine → Option (ℕ × Criterion)
-failure_of l = option_map (λ criterion. (l.step, criterion)) (first_failed l.verdict)
+abbrev pub failure_of : Said → Option (ℕ × Criterion)
+failure_of l = option_map (λ criterion. (l.step, criterion)) (first_failed l.judgement)
 
 -- a line of a report: what the step orders (nothing on arrival), and what is said of it
 pub record Line : Type 0 where
   pub lift : Option Op
-  pub step : StepLine
+  pub step : Said
 
 abbrev pub text_of : Line → List ℕ
 text_of line = line_of line.lift line.step
@@ -91,8 +93,8 @@ first_of [] = None
 first_of (line ∷ more) = option_or (failure_of line.step) (first_of more)
 
 -- what is said of a step at which everything aboard adds up to this
-abbrev pub step_line : ProfileRecord → ℕ → sums.Sum → StepLine
-step_line ship step s = record { step = step; kg = s Weight; verdict = verdict_of ship.tables.hydro (judged_by s) }
+abbrev pub step_line : ProfileRecord → ℕ → sums.Sum → Said
+step_line ship step s = record { step = step; kg = s Weight; frames = length ship.ship.frames; judgement = judgement_of ship s }
 
 -- everything that is aboard once the first k steps are done, added up afresh
 abbrev pub sum_at : ProfileRecord → Aboard → List Op → ℕ → sums.Sum

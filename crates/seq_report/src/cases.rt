@@ -1,4 +1,5 @@
-ghost use Rattle.std.specs.Prelude.{◌≡◌, ◌≢◌, ◌+◌, ◌≤◌, length, option_map, false, IfOk, IfErr, Ok, Err};
+ghost use Rattle.std.specs.List.{AllByRecursion};
+ghost use Rattle.std.specs.Prelude.{◌≡◌, ◌≢◌, ◌+◌, ◌^◌, ◌≤◌, length, option_map, false, IfOk, IfErr, Ok, Err};
 ghost use Rattle.lift_sequence.specs.Arrival.{on_arrival};
 ghost use Rattle.seq_report.specs.Cases.{HasArrived, IsReady, outcome_in};
 ghost use Rattle.seq_report.specs.Refusal.{TellsMemory, outcome_for, outcome_from, outcome_of, outcome_with, is_cut, is_write};
@@ -6,6 +7,7 @@ ghost use Rattle.seq_report.specs.Report.{lift_to};
 
 use crate::faults::RunFault;
 use crate::inputs::{Inputs, arrival, items, orders, sequence, ship};
+use crate::weights::{items_are_light, ops_are_light};
 use lift_sequence::{Arrival, Op, Sequence};
 use ship_profile::Profile;
 use std::alloc::Global;
@@ -46,7 +48,8 @@ fn case_on_ops(
     arrival: Arrival,
     ops: Vec<Op>,
 ) -> Result<Case, RunFault>
-    requires { HasArrived profile arrival }
+    requires arrived { HasArrived profile arrival }
+    requires light { AllByRecursion (λ item. item.kg ≤ 10 ^ 9) arrival.items }
     ensures ok { IfOk result (λ case. outcome_with profile (on_arrival arrival.items arrival.fills) ops.items ≡ Ok (outcome_in case)) }
     ensures ready { IfOk result IsReady }
     ensures refused { IfErr result (λ e. e ≢ RunFault.NoMemory → outcome_with profile (on_arrival arrival.items arrival.fills) ops.items ≡ Err e) }
@@ -54,6 +57,7 @@ fn case_on_ops(
     ensures silent { is_write result ≡ false }
     ensures uncut { is_cut result ≡ false }
 {
+    ops_are_light(&ops);
     let sequence = sequence(alloc, &profile, &arrival, ops)?;
     Ok(Case {
         profile,
@@ -69,7 +73,8 @@ fn case_from_arrival(
     arrival: Arrival,
     inputs: &Inputs<'_>,
 ) -> Result<Case, RunFault>
-    requires { HasArrived profile arrival }
+    requires arrived { HasArrived profile arrival }
+    requires light { AllByRecursion (λ item. item.kg ≤ 10 ^ 9) arrival.items }
     ensures ok { IfOk result (λ case. outcome_from profile (on_arrival arrival.items arrival.fills) inputs.now ≡ Ok (outcome_in case)) }
     ensures ready { IfOk result IsReady }
     ensures refused { IfErr result (λ e. e ≢ RunFault.NoMemory → outcome_from profile (on_arrival arrival.items arrival.fills) inputs.now ≡ Err e) }
@@ -91,6 +96,7 @@ fn case_on_ship(alloc: Global, profile: Profile, inputs: &Inputs<'_>) -> Result<
     ensures uncut { is_cut result ≡ false }
 {
     let items = items(alloc, inputs)?;
+    items_are_light(&items);
     let arrival = arrival(alloc, &profile, items)?;
     case_from_arrival(alloc, profile, arrival, inputs)
 }

@@ -2,9 +2,9 @@ ghost use Rattle.std.specs.Prelude.{◌≡◌, ◌++◌, IfOk};
 ghost use Rattle.seq_report.specs.Chunks.{first_in, text_in};
 ghost use Rattle.seq_report.specs.Report.{header_of, last_line};
 
-use crate::criteria::Criterion;
 use crate::lines::{write_header, write_last_line};
 use crate::sections::Section;
+use criteria::Criterion;
 use std::alloc::{AllocError, Global};
 use std::marker::Model;
 

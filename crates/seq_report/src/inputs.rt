@@ -59,6 +59,7 @@ pub fn items(alloc: Global, inputs: &Inputs<'_>) -> Result<Vec<Item>, RunFault>
 pub fn arrival(alloc: Global, profile: &Profile, items: Vec<Item>) -> Result<Arrival, RunFault>
     ensures ok { IfOk result (λ a. arrival_in profile.now items.items ≡ Ok (on_arrival a.items a.fills)) }
     ensures arrived { IfOk result (λ a. HasArrived profile.now a) }
+    ensures items { IfOk result (λ a. a.items ≡ items.items) }
     ensures refused { IfErr result (λ e. e ≢ RunFault.NoMemory → arrival_in profile.now items.items ≡ Err e) }
     ensures memory { IfErr result TellsMemory }
     ensures silent { is_write result ≡ false }
@@ -139,6 +140,7 @@ pub fn sequence(
 ) -> Result<Sequence, RunFault>
     requires { IsOf profile.now arrival.now }
     ensures ok { IfOk result (λ s. sequence_in profile.now (on_arrival arrival.now.items arrival.now.fills) ops.items ≡ Ok s.ops) }
+    ensures ops { IfOk result (λ s. s.ops ≡ ops.items) }
     ensures sums { IfOk result (λ s. StepsAddUp profile.now (on_arrival arrival.now.items arrival.now.fills) s.ops s.steps) }
     ensures few { IfOk result (λ s. length s.ops ≤ 120000) }
     ensures refused { IfErr result (λ e. e ≢ RunFault.NoMemory → sequence_in profile.now (on_arrival arrival.now.items arrival.now.fills) ops.items ≡ Err e) }

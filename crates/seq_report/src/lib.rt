@@ -4,10 +4,10 @@
 
 mod cases;
 mod chunks;
-mod criteria;
+mod codes;
+mod columns;
 mod faults;
 mod finished;
-mod floating;
 mod inputs;
 mod lifts;
 mod lines;
@@ -16,7 +16,8 @@ mod refusals;
 mod runs;
 mod sections;
 mod sink;
-mod sums;
+mod step_lines;
+mod weights;
 
 pub use criteria::Criterion;
 pub use faults::RunFault;

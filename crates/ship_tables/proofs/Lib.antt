@@ -1,3 +1,4 @@
+pub mod CurveLemmas
 pub mod Examples
 pub mod MeaningLemmas
 pub mod NameLemmas

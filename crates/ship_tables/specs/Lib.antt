@@ -1,3 +1,4 @@
+pub mod Curves
 pub mod Extents
 pub mod Gathering
 pub mod Outcome

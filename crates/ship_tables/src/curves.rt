@@ -1,4 +1,5 @@
 ghost use Rattle.std.specs.Prelude.{◌≡◌, ◌≢◌, ◌<◌, length, option_map, slice_get, Ok, Err, IfOk, IfErr};
+ghost use Rattle.ship_tables.specs.Curves.{curve};
 ghost use Rattle.ship_tables.specs.Tables.{form_of};
 ghost use Rattle.ship_tables.specs.Record.{numbers_of, curve_table, curves_in, bonjean_form, least_gm_in, text_of};
 
@@ -48,6 +49,16 @@ impl Curves {
         match self.columns.get(number) {
             Some(column) => Some(column.as_slice()),
             None => None,
+        }
+    }
+
+    /// The values of a curve, row by row; none where there is no curve of this number.
+    pub fn values(&self, number: usize) -> &[i128]
+        ensures { result.now ≡ curve self.now number }
+    {
+        match self.column(number) {
+            Some(column) => column,
+            None => &[],
         }
     }
 }

@@ -1,3 +1,4 @@
+pub mod Angles
 pub mod Bodies
 pub mod Cells
 pub mod Interpolation

@@ -1,5 +1,5 @@
 -- Fractions of whole numbers as a textbook writes them. Two are equal where their cross products are.
-use Rattle.std.specs.Prelude.{◌≡◌, ℤ, pos, ◌+ℤ◌, ◌-ℤ◌, ◌*ℤ◌, ◌≤ℤ◌, ◌<ℤ◌}
+use Rattle.std.specs.Prelude.{◌≡◌, ℤ, pos, ◌+ℤ◌, ◌-ℤ◌, ◌*ℤ◌, ◌≤ℤ◌, ◌<ℤ◌, int_le, Bool}
 use Rattle.std.specs.Int.{int_div_euclid}
 
 -- top / bottom
@@ -51,3 +51,13 @@ IsFloor q r = ((q *ℤ r.bottom) ≤ℤ r.top) × (r.top <ℤ ((q +ℤ pos 1) *�
 -- that number: a figure of the report is the ratio rounded so, toward minus infinity
 abbrev pub floor_of : Ratio → ℤ
 floor_of r = int_div_euclid r.top r.bottom
+
+-- the same comparisons as tests, and whether one ratio is at most another, each by cross products
+abbrev pub is_at_least : Ratio → ℤ → Bool
+is_at_least r k = int_le (k *ℤ r.bottom) r.top
+
+abbrev pub is_at_most : Ratio → ℤ → Bool
+is_at_most r k = int_le r.top (k *ℤ r.bottom)
+
+abbrev pub is_no_more : Ratio → Ratio → Bool
+is_no_more a b = int_le (a.top *ℤ b.bottom) (b.top *ℤ a.bottom)

@@ -1,18 +1,20 @@
-//! The base of every crate: masses and lengths within their limits, exact fractions, the numbers of
-//! cells, and bodies aboard.
+//! The base of every crate: masses and lengths within their limits, exact fractions, readings of
+//! tables, angles of heel, the numbers of cells, and bodies aboard.
 #![tactic(auto)]
 
+mod angles;
 mod bodies;
 mod cells;
 mod fractions;
 mod measures;
 mod tables;
 
+pub use angles::{Angle, cosine, sine};
 pub use bodies::{Body, Place};
 pub use cells::{Cell, conflicts, span};
 pub use fractions::{Frac, at_least, at_most, floor, interp, interp_floor};
 pub use measures::{Kg, Mm};
-pub use tables::enclosing;
+pub use tables::{enclosing, enclosing_near, gap, read};
 
 #[cfg(test)]
 mod tests;

@@ -1,6 +1,6 @@
 use crate::{
-    Body, Cell, Frac, Kg, Mm, Place, at_least, at_most, conflicts, enclosing, floor, interp,
-    interp_floor, span,
+    Angle, Body, Cell, Frac, Kg, Mm, Place, at_least, at_most, conflicts, cosine, enclosing,
+    enclosing_near, floor, gap, interp, interp_floor, read, sine, span,
 };
 
 /// Masses in kg, and whether each is one of a container.
@@ -225,5 +225,79 @@ fn overlapping_spans(rt: HostRuntime) {
             tier: *tier,
         };
         assert_eq!(rt; conflicts(one, other), *want, "{first} {bay} {row} {tier}");
+    }
+}
+
+/// Steps of 5 degrees, with the sine and the cosine in millionths.
+static ANGLES: [(u8, i128, i128); 13] = [
+    (0, 0, 1_000_000),
+    (1, 87_156, 996_195),
+    (2, 173_648, 984_808),
+    (3, 258_819, 965_926),
+    (4, 342_020, 939_693),
+    (5, 422_618, 906_308),
+    (6, 500_000, 866_025),
+    (7, 573_576, 819_152),
+    (8, 642_788, 766_044),
+    (9, 707_107, 707_107),
+    (10, 766_044, 642_788),
+    (11, 819_152, 573_576),
+    (12, 866_025, 500_000),
+];
+
+#[test]
+fn sines_and_cosines(rt: HostRuntime) {
+    for (step, sine_of, cosine_of) in &ANGLES {
+        match Angle::new(*step) {
+            Some(angle) => {
+                assert_eq!(rt; (sine(angle), cosine(angle)), (*sine_of, *cosine_of));
+                assert_eq!(rt;
+                    (angle.step(), angle.degrees()),
+                    (usize::from(*step), *step * 5)
+                );
+            }
+            None => assert!(rt; false, "{step} steps"),
+        }
+    }
+    assert!(rt; Angle::new(13).is_none());
+}
+
+/// Displacements of a table, and a column at them.
+static ARGUMENTS: [i128; 4] = [10, 20, 40, 80];
+
+static COLUMN: [i128; 4] = [3, 5, 1, 7];
+
+// At 25, a quarter of the way from 20 to 40, the column is 5 - 4 / 4 = 4 = 80 / 20.
+#[test]
+fn readings_over_one_gap(rt: HostRuntime) {
+    assert_eq!(rt; read(&ARGUMENTS, &COLUMN, 1, 25), 80);
+    assert_eq!(rt; gap(&ARGUMENTS, 1), 20);
+}
+
+/// Numbers, and their intervals: a row that two share belongs to the one below it.
+static ENCLOSED: [(i128, Option<usize>); 8] = [
+    (9, None),
+    (10, Some(0)),
+    (20, Some(0)),
+    (21, Some(1)),
+    (40, Some(1)),
+    (41, Some(2)),
+    (80, Some(2)),
+    (81, None),
+];
+
+// Wherever it begins, the search finds the same interval, and goes on from there.
+#[test]
+fn searches_from_anywhere(rt: HostRuntime) {
+    for start in 0..5usize {
+        for (x, found) in &ENCLOSED {
+            let mut near = start;
+            assert_eq!(rt;
+                enclosing_near(&ARGUMENTS, *x, &mut near),
+                *found,
+                "{x} from {start}"
+            );
+            assert_eq!(rt; near, found.unwrap_or(start), "{x} from {start}");
+        }
     }
 }

@@ -1,5 +1,5 @@
 use super::refusals::EMPTY_CELL_OUT;
-use super::{EMPTY, Run, SHIP, check_refusal_by, written_by};
+use super::{IDLE, Run, check_refusal_by, written_by};
 use crate::{CutPlan, Summary};
 use std::test::Fail;
 
@@ -9,15 +9,13 @@ const TWO_LOADS: &[u8] =
 
 /// Two steps, and so three lines.
 const TWICE: Run<'static> = Run {
-    ship: SHIP,
-    baplie: EMPTY,
     movins: TWO_LOADS,
-    steps: None,
+    ..IDLE
 };
 
 // 8,200,000 and twice 20,500 kg are 8,241,000 kg; the draught rises by 2,000 mm over 4,100,000 kg.
 const LINES: &[u8] =
-    b"STEP LIFT KG GM MEAN VERDICT\n0 - 8200000 4333 4000 PASS\n1 L0030782 8220500 4314 4010 PASS\n2 L0050082 8241000 4295 4020 PASS\nALL PASS\n";
+    b"STEP LIFT KG GM MEAN AFT FWD TRIM LIST A30 A40 A3040 GZ ANGLE CLOSE FRAMES VERDICT\n0 - 8200000 4333 4000 4000 4000 0 0 31509 50888 19379 1958 35 0 0/0;0/0;0/0;0/0;0/0 PASS\n1 L0030782 8220500 4314 4010 4010 4010 0 46 30861 50020 19158 1936 35 0 0/0;-5125/-64062500;0/-240726375;5125/-64062500;0/0 PASS\n2 L0050082 8241000 4295 4020 4035 4004 30 46 30786 49888 19102 1930 35 -769 0/0;-5637/-191611791;2819/-234320125;4869/-34166666;769/27760417 PASS\nALL PASS\n";
 
 static PLANS: [CutPlan<'static>; 5] = [
     CutPlan::Every(1),

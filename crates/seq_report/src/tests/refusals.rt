@@ -38,6 +38,7 @@ fn refused_profiles(rt: HostRuntime) -> Result<(), Fail> {
         baplie: b"",
         movins: b"",
         steps: Some(b""),
+        ..IDLE
     };
     check_refusal(&rt, &run, "F1 P3 lbp_mm")
 }

@@ -45,8 +45,9 @@ fn writer_fails_after_seven(rt: HostRuntime) {
 // Wherever a writer fails, it holds the front of the report of the length that is said.
 #[test]
 fn failing_writers(rt: HostRuntime) {
-    let whole = b"STEP LIFT KG GM MEAN VERDICT\n0 - 8200000 4333 4000 PASS\nALL PASS\n";
-    for (most, limit) in [(1, 66), (5, 66), (100, 66)] {
+    let whole =
+        b"STEP LIFT KG GM MEAN AFT FWD TRIM LIST A30 A40 A3040 GZ ANGLE CLOSE FRAMES VERDICT\n0 - 8200000 4333 4000 4000 4000 0 0 31509 50888 19379 1958 35 0 0/0;0/0;0/0;0/0;0/0 PASS\nALL PASS\n";
+    for (most, limit) in [(1, 182), (50, 182), (1000, 182)] {
         for left in 0..limit {
             let mut taken = Vec::new(rt.alloc());
             let outcome = {
@@ -57,7 +58,7 @@ fn failing_writers(rt: HostRuntime) {
                 };
                 report(rt.alloc(), &IDLE.inputs(), PLAN, &mut Through::new(writer))
             };
-            let expected = if left < 65 {
+            let expected = if left < 181 {
                 Err(RunFault::Write(left))
             } else {
                 Ok(Summary {
@@ -66,13 +67,13 @@ fn failing_writers(rt: HostRuntime) {
                 })
             };
             assert_eq!(rt; outcome, expected, "{left} bytes, {most} a call");
-            assert_eq!(rt; taken.as_slice(), &whole[..left.min(65)]);
+            assert_eq!(rt; taken.as_slice(), &whole[..left.min(181)]);
         }
     }
     let mut taken = Vec::new(rt.alloc());
     let writer = Failing {
         taken: &mut taken,
-        left: 100,
+        left: 1000,
         most: 0,
     };
     let outcome = report(rt.alloc(), &IDLE.inputs(), PLAN, &mut Through::new(writer));

@@ -1,4 +1,8 @@
-use super::{IDLE, LIMITS, Run, SHIP, TO_STARBOARD, check_passes, written};
+use super::{
+    EMPTY_LINE, HEADER, IDLE, LIMITS, Run, SHIP, STARBOARD_LINE, TO_STARBOARD, check_passes,
+    written,
+};
+use crate::codes::code;
 use crate::lifts::write_lift;
 use crate::{Criterion, Summary};
 use arrayvec::ArrayVec;
@@ -33,15 +37,20 @@ fn check_failing_block(
     criterion: Criterion,
 ) -> Result<(), Fail> {
     let ship = block(rt.alloc(), kg, z)?;
-    let run = Run {
-        ship: ship.as_str(),
-        ..IDLE
-    };
+    check_failing(rt, ship.as_str(), line, criterion)
+}
+
+/// On arrival a ship has this line, and fails this criterion.
+fn check_failing(
+    rt: &(impl Abort + AllocGlobal),
+    ship: &str,
+    line: &str,
+    criterion: Criterion,
+) -> Result<(), Fail> {
+    let run = Run { ship, ..IDLE };
     let (outcome, text) = written(rt.alloc(), &run);
-    let code = criterion.code();
-    let expected = format!(in rt.alloc();
-        "STEP LIFT KG GM MEAN VERDICT\n{line}\nFIRST FAIL 0 {code}\n"
-    )?;
+    let code = code(criterion);
+    let expected = format!(in rt.alloc(); "{HEADER}\n{line}\nFIRST FAIL 0 {code}\n")?;
     assert_eq!(rt; text.as_slice(), expected.as_bytes());
     let summary = Summary {
         lines: 1,
@@ -55,12 +64,13 @@ fn check_failing_block(
 // every contract, and are caught here (always_no_memory, always_write_fault).
 #[test]
 fn empty_plan(rt: HostRuntime) -> Result<(), Fail> {
-    check_passes(&rt, &IDLE, 0, "0 - 8200000 4333 4000 PASS")
+    check_passes(&rt, &IDLE, 0, EMPTY_LINE)
 }
 
 #[test]
 fn hydrostatic_edge(rt: HostRuntime) -> Result<(), Fail> {
-    let last = "0 - 12300000 2556 6000 PASS";
+    let last =
+        "0 - 12300000 2556 6000 6000 6000 0 0 31509 50888 19379 1958 35 0 0/0;0/0;0/0;0/0;0/0 PASS";
     let behind = "0 - 12300001 OUTSIDE HYDRO";
     check_block(&rt, 12_300_000, 6_000, last)?;
     check_failing_block(&rt, 12_300_001, 6_000, behind, Criterion::C0)
@@ -68,7 +78,8 @@ fn hydrostatic_edge(rt: HostRuntime) -> Result<(), Fail> {
 
 #[test]
 fn hydrostatic_front_edge(rt: HostRuntime) -> Result<(), Fail> {
-    let first = "0 - 4100000 11667 2000 PASS";
+    let first =
+        "0 - 4100000 11667 2000 2000 2000 0 0 31509 50888 19379 1958 35 0 0/0;0/0;0/0;0/0;0/0 PASS";
     let before = "0 - 4099999 OUTSIDE HYDRO";
     check_block(&rt, 4_100_000, 6_000, first)?;
     check_failing_block(&rt, 4_099_999, 6_000, before, Criterion::C0)
@@ -78,23 +89,30 @@ fn hydrostatic_front_edge(rt: HostRuntime) -> Result<(), Fail> {
 // are.
 #[test]
 fn gm_short(rt: HostRuntime) -> Result<(), Fail> {
-    let short = "0 - 8200000 149 4000 FAIL C1";
+    let short =
+        "0 - 8200000 149 4000 4000 4000 0 0 -608 -5197 -4589 -192 10 0 0/0;0/0;0/0;0/0;0/0 FAIL C1";
     check_failing_block(&rt, 8_200_000, 10_184, short, Criterion::C1)?;
-    let hardly = "0 - 8623000 149 4206 FAIL C1";
+    let hardly =
+        "0 - 8623000 149 4206 4206 4206 0 0 804 -2730 -3535 -100 15 -700 0/0;175/2187500;350/8750000;525/19687500;700/35000000 FAIL C1";
     check_failing_block(&rt, 8_623_000, 10_000, hardly, Criterion::C1)
 }
 
 #[test]
 fn area_short(rt: HostRuntime) -> Result<(), Fail> {
-    check_block(&rt, 8_200_000, 10_183, "0 - 8200000 150 4000 PASS")
+    let line =
+        "0 - 8200000 150 4000 4000 4000 0 0 -600 -5184 -4584 -192 10 0 0/0;0/0;0/0;0/0;0/0 FAIL C2";
+    check_failing_block(&rt, 8_200_000, 10_183, line, Criterion::C2)
 }
 
 // Below zero and between two rows of the table figures are rounded down too.
 #[test]
 fn figures_rounded_down(rt: HostRuntime) -> Result<(), Fail> {
-    let negative = "0 - 8200001 -1 4000 FAIL C1";
+    let negative =
+        "0 - 8200001 -1 4000 4000 4000 0 - -1752 -7194 -5443 -267 0 -1 0/0;0/3125;0/12500;0/28125;1/50000 FAIL C1";
     check_failing_block(&rt, 8_200_001, 10_333, negative, Criterion::C1)?;
-    check_block(&rt, 10_250_001, 6_000, "0 - 10250001 3444 5000 PASS")
+    let between =
+        "0 - 10250001 3444 5000 5000 5000 0 0 31509 50888 19379 1958 35 -1 0/0;0/3125;0/12500;0/28125;1/50000 PASS";
+    check_block(&rt, 10_250_001, 6_000, between)
 }
 
 #[test]
@@ -103,7 +121,9 @@ fn items_are_aboard(rt: HostRuntime) -> Result<(), Fail> {
         baplie: b"UNB+UNOA:2+SHIP+PLAN+250101:1200+7'UNH+1+BAPLIE:D:95B:UN'LOC+147+0030782'MEA+WT++KGM:20500'LOC+147+0050082'MEA+WT++KGM:20500'UNT+6+1'UNZ+1+7'",
         ..IDLE
     };
-    check_passes(&rt, &run, 0, "0 - 8241000 4295 4020 PASS")
+    let line =
+        "0 - 8241000 4295 4020 4035 4004 30 46 30786 49888 19102 1930 35 -769 0/0;-5637/-191611791;2819/-234320125;4869/-34166666;769/27760417 PASS";
+    check_passes(&rt, &run, 0, line)
 }
 
 #[test]
@@ -116,7 +136,7 @@ fn load_to_starboard(rt: HostRuntime) -> Result<(), Fail> {
         &rt,
         &run,
         1,
-        "0 - 8200000 4333 4000 PASS\n1 L0030782 8220500 4314 4010 PASS",
+        &format!(in rt.alloc(); "{EMPTY_LINE}\n{STARBOARD_LINE}")?,
     )
 }
 
@@ -130,7 +150,7 @@ fn load_and_discharge(rt: HostRuntime) -> Result<(), Fail> {
         &rt,
         &run,
         2,
-        "0 - 8200000 4333 4000 PASS\n1 L0030082 8220501 4314 4010 PASS\n2 D0030082 8200000 4333 4000 PASS",
+        "0 - 8200000 4333 4000 4000 4000 0 0 31509 50888 19379 1958 35 0 0/0;0/0;0/0;0/0;0/0 PASS\n1 L0030082 8220501 4314 4010 4010 4010 0 0 31433 50754 19321 1952 35 -1 0/0;-5125/-64062500;0/-240725618;5126/-64037500;1/50000 PASS\n2 D0030082 8200000 4333 4000 4000 4000 0 0 31509 50888 19379 1958 35 0 0/0;0/0;0/0;0/0;0/0 PASS",
     )
 }
 
@@ -146,7 +166,7 @@ fn cells_and_containers(rt: HostRuntime) -> Result<(), Fail> {
         &rt,
         &run,
         2,
-        "0 - 8220500 4314 4010 PASS\n1 D0030082 8200000 4333 4000 PASS\n2 L0030082 8220500 4314 4010 PASS",
+        "0 - 8220500 4314 4010 4010 4010 0 0 31433 50754 19321 1952 35 0 0/0;-5125/-64062500;0/-240726375;5125/-64062500;0/0 PASS\n1 D0030082 8200000 4333 4000 4000 4000 0 0 31509 50888 19379 1958 35 0 0/0;0/0;0/0;0/0;0/0 PASS\n2 L0030082 8220500 4314 4010 4010 4010 0 0 31433 50754 19321 1952 35 0 0/0;-5125/-64062500;0/-240726375;5125/-64062500;0/0 PASS",
     )
 }
 
@@ -161,33 +181,41 @@ fn restow_step(rt: HostRuntime) -> Result<(), Fail> {
         &rt,
         &run,
         2,
-        "0 - 8200000 4333 4000 PASS\n1 L0030782 8220500 4314 4010 PASS\n2 R0030782>0050082 8220500 4314 4010 PASS",
+        "0 - 8200000 4333 4000 4000 4000 0 0 31509 50888 19379 1958 35 0 0/0;0/0;0/0;0/0;0/0 PASS\n1 L0030782 8220500 4314 4010 4010 4010 0 46 30861 50020 19158 1936 35 0 0/0;-5125/-64062500;0/-240726375;5125/-64062500;0/0 PASS\n2 R0030782>0050082 8220500 4314 4010 4025 3994 30 0 31433 50754 19321 1952 35 -769 0/0;-512/-127549291;2819/6406250;-256/29895834;769/27760417 PASS",
     )
 }
 
+// What the tank holds stands on 10 m of the ship: a shear force of 126 t at 75,000 mm, over the 100 t that she may bear there.
 #[test]
 fn tank_steps(rt: HostRuntime) -> Result<(), Fail> {
     let run = Run {
         steps: Some(b"kind,a,b,c\ntank,DB1,500000,\ntank,DB1,0,\n"),
         ..IDLE
     };
-    check_passes(
-        &rt,
-        &run,
-        2,
-        "0 - 8200000 4333 4000 PASS\n1 TDB1 8700000 4168 4243 PASS\n2 TDB1 8200000 4333 4000 PASS",
-    )
+    let (outcome, text) = written(rt.alloc(), &run);
+    let filled =
+        "1 TDB1 8700000 4168 4243 4243 4243 0 0 31906 51582 19675 1988 35 -1850 0/0;-124537/-1556718750;925/-5601875000;126388/-1510468750;1850/92500000 FAIL C9";
+    let emptied =
+        "2 TDB1 8200000 4333 4000 4000 4000 0 0 31509 50888 19379 1958 35 0 0/0;0/0;0/0;0/0;0/0 PASS";
+    let expected = format!(in rt.alloc();
+        "{HEADER}\n{EMPTY_LINE}\n{filled}\n{emptied}\nFIRST FAIL 1 C9\n"
+    )?;
+    assert_eq!(rt; text.as_slice(), expected.as_bytes());
+    let summary = Summary {
+        lines: 3,
+        first: Some((1, Criterion::C9)),
+    };
+    assert_eq!(rt; outcome, Ok(summary));
+    Ok(())
 }
 
 // What a tank holds is aboard, and its free surface raises the centre of gravity.
 #[test]
 fn tank_fill(rt: HostRuntime) -> Result<(), Fail> {
     let ship = format!(in rt.alloc(); "{SHIP}[[fills]]\ntank = \"DB1\"\nkg = 500000\n")?;
-    let run = Run {
-        ship: ship.as_str(),
-        ..IDLE
-    };
-    check_passes(&rt, &run, 0, "0 - 8700000 4168 4243 PASS")
+    let line =
+        "0 - 8700000 4168 4243 4243 4243 0 0 31906 51582 19675 1988 35 -1850 0/0;-124537/-1556718750;925/-5601875000;126388/-1510468750;1850/92500000 FAIL C9";
+    check_failing(&rt, ship.as_str(), line, Criterion::C9)
 }
 
 // The first failing step is told, though a later one passes again.
@@ -201,7 +229,7 @@ fn first_failing_step(rt: HostRuntime) -> Result<(), Fail> {
     };
     let (outcome, text) = written(rt.alloc(), &run);
     let expected =
-        b"STEP LIFT KG GM MEAN VERDICT\n0 - 11900000 2729 5804 PASS\n1 TDB1 12300001 OUTSIDE HYDRO\n2 TDB1 11900000 2729 5804 PASS\nFIRST FAIL 1 C0\n";
+        b"STEP LIFT KG GM MEAN AFT FWD TRIM LIST A30 A40 A3040 GZ ANGLE CLOSE FRAMES VERDICT\n0 - 11900000 2729 5804 5804 5804 0 0 31509 50888 19379 1958 35 -1800 0/0;450/5625000;900/22500000;1350/50625000;1800/90000000 PASS\n1 TDB1 12300001 OUTSIDE HYDRO\n2 TDB1 11900000 2729 5804 5804 5804 0 0 31509 50888 19379 1958 35 -1800 0/0;450/5625000;900/22500000;1350/50625000;1800/90000000 PASS\nFIRST FAIL 1 C0\n";
     assert_eq!(rt; text.as_slice(), expected.as_slice());
     let summary = Summary {
         lines: 3,

@@ -1,20 +1,29 @@
-use Rattle.std.proofs.Common.{◌≡◌, ◌∙◌, ◌++◌, ◌+◌, ◌-◌, ◌≤◌, [], ◌∷◌, map, ap, sym, arith}
+use Rattle.std.proofs.Common.{◌≡◌, ◌∙◌, ◌++◌, ◌+◌, ◌-◌, ◌≤◌, [], ◌∷◌, map, ap, sym, subst, arith}
 use Rattle.std.specs.List.{range_with_len}
 use Rattle.std.specs.Option.{option_or}
 use Rattle.std.proofs.lemmas.List.FromFn.{map-range_with_len_more}
+use Rattle.moment_sums.specs.Bounded.{IsBounded}
 use Rattle.moment_sums.specs.Kept.{size_of, values}
-use Rattle.seq_report.specs.declared.lines.StepLine.{StepLine}
+use Rattle.seq_report.specs.Report.{Said}
 use Rattle.seq_report.specs.Cases.{line_in}
 use Rattle.seq_report.specs.Chunks.{Part, part_of, parts_before}
 use Rattle.seq_report.specs.Report.{Line, failure_of, lift_to, line_of, step_line, text_of}
 use Rattle.seq_report.proofs.ChunkLemmas.{part_more}
-use Rattle.seq_report.proofs.SumLemmas.{line_here, parts_few, size_more, sum_more}
+use Rattle.seq_report.proofs.SumLemmas.{line_here, parts_few, size_more, sum_here, sum_more}
 use Rattle.seq_report.proofs.sections.make_section.Goals as goal
 
 pub join-sum-requires : goal.join-sum-requires
 join-sum-requires c =
     let all = parts_few (c.loop-k.k + 1) (omega (arith, c.loop-k-test.true, c.requires.there, c.requires.ready.few)) in
     omega (arith, all, c.loop-k.invariant.size, c.change_at.ensures.size)
+
+pub judged-line-requires-clause-bounded : goal.judged-line-requires-clause-bounded
+judged-line-requires-clause-bounded c =
+    let case = c.args.case.now in
+    let ready = c.requires.ready in
+    let k = c.loop-k.k in
+    let sum = sum_more case k c.loop-k.sum c.change_at.result c.join-sum.result c.join-sum.ensures c.change_at.ensures.sum c.loop-k.invariant.sum in
+    subst IsBounded (sym (sum ∙ sum_here case ready k)) (ready.bounded k)
 
 pub loop-k-preserved : goal.loop-k-preserved
 loop-k-preserved c =
@@ -31,7 +40,7 @@ loop-k-preserved c =
     let lines = map (line_in case) (range_with_len start n) in
     let here : start + n ≡ k = omega arith in
     let more : n + 1 ≡ k + 1 - start = omega arith in
-    let s : StepLine = step_line case.profile k (values c.join-sum.result) in
+    let s : Said = step_line case.profile k (values c.join-sum.result) in
     let line : Line = record { lift = lift_to ops k; step = s } in
     let so_far : 0 + size_of c.loop-k.sum ≤ parts_before k = omega (arith, inv.size) in
     let size = size_more case k c.loop-k.sum c.change_at.result c.join-sum.result c.join-sum.ensures c.change_at.ensures.sum 0 (omega arith) so_far c.change_at.ensures.size in

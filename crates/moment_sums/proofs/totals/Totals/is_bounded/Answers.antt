@@ -1,12 +1,13 @@
-use Rattle.std.proofs.Common.{rules, ◌≡◌, ◌∙◌, ◌*◌, ◌^◌, ◌*ℤ◌, pos, ap, ◌&&◌, to_z, of_z, to_z-of_z, FitsSigned}
+use Rattle.std.proofs.Common.{rules, ◌≡◌, ◌∙◌, ◌*◌, ◌^◌, ◌*ℤ◌, pos, ap, sym, ◌&&◌, to_z, of_z, to_z-of_z, FitsSigned}
 use Rattle.std.specs.Int.{w128}
 use Rattle.std.specs.Prelude.{int_le}
 use Rattle.std.specs.List.{list_all}
 use Rattle.moment_sums.specs.Kept.{are_centres, is_bounded, is_share}
+use Rattle.moment_sums.proofs.Bounding.{bounded_by_test}
 use Rattle.moment_sums.proofs.totals.Totals.is_bounded.Goals as goal
 
-pub returns : goal.returns
-returns c =
+pub returns-clause-tests : goal.returns-clause-tests
+returns-clause-tests c =
     let a = c.self.inside in
     let kg : FitsSigned w128 a.kg = search rules in
     let x : FitsSigned w128 a.x = search rules in
@@ -24,3 +25,6 @@ returns c =
     let masses = c.both-2.ensures ∙ (λ i. int_le (pos 0) (to_z-of_z kg i) && (c.both.ensures ∙ (λ j. centres j && surface j)) i) in
     let shares = c.both-3.ensures ∙ (λ i. weights i && moments i) in
     c.both-4.ensures ∙ (λ i. masses i && shares i) ∙ ap is_bounded c.self.view_is
+
+pub returns-clause-bounds : goal.returns-clause-bounds
+returns-clause-bounds c = λ yes. bounded_by_test c.args.self.now (sym (returns-clause-tests c) ∙ yes)

@@ -1,0 +1,23 @@
+use Rattle.std.proofs.Common.{rules, ◌≡◌, ◌∙◌, ap, sym, Bool, true, FitsSigned, to_z-of_z}
+use Rattle.std.specs.Int.{w64, w128}
+use Rattle.units_core.specs.Interpolation.{at}
+use Rattle.hydrostat.specs.Floating.{water}
+use Rattle.moment_sums.specs.Kept.{values}
+use Rattle.moment_sums.specs.Sum.{Weight}
+use Rattle.criteria.specs.Least.{least_at}
+use Rattle.strength.specs.Strains.{closes, closing_of}
+use Rattle.criteria.specs.Judgement.{with_closing, with_least}
+use Rattle.criteria.proofs.verdicts.judge_immersed.Goals as goal
+
+pub returns-then-closes : goal.returns-then-closes
+returns-then-closes c =
+    let p = c.args.profile.now in
+    let s = values c.args.totals.now in
+    let a = c.args.a.now in
+    let e : FitsSigned w128 c.strains_of-strains.result.closing = search rules in
+    let m : FitsSigned w64 c.closing_max.result = search rules in
+    let test : true ≡ closes (closing_of s (at c.args.areas.now.area) p.ship.stations) p.ship.closing_max =
+    sym c.if-closes.true ∙ (c.closes.ensures ∙ (λ j. closes ((to_z-of_z e ∙ c.strains_of-strains.ensures.closing) j) ((to_z-of_z m ∙ c.closing_max.ensures.value) j))) in
+    λ y are. c.judge_loaded.ensures y are
+    ∙ ((λ j. with_least p.ship (water a) (c.requires.loaded j) y (c.strains_of-strains.ensures.closing j) (λ i. c.strains_of-strains.ensures.shear i j) (λ i. c.strains_of-strains.ensures.bending i j) (least_at p.tables.least_gm (s Weight)))
+    ∙ ap (λ (b : Bool). with_closing p s (water a) y (at c.args.areas.now.area) b) test)

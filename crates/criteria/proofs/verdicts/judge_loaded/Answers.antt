@@ -1,0 +1,41 @@
+use Rattle.std.proofs.Common.{◌≡◌, ◌∙◌, ap, pos}
+use Rattle.units_core.specs.Interpolation.{at}
+use Rattle.units_core.specs.Ratio.{floor_of}
+use Rattle.hydrostat.specs.Floating.{draught_at, load, water}
+use Rattle.criteria.specs.Judgement.{judged, printed_of, read, with_least}
+use Rattle.criteria.proofs.verdicts.judge_loaded.Goals as goal
+
+pub returns-in-Some : goal.returns-in-Some
+returns-in-Some c =
+    let a = c.args.a.now in
+    let l = c.args.strains.now.loads in
+    let ship = c.args.profile.now.ship in
+    let len = c.requires.length in
+    let f = c.figures_of.ensures.floating in
+    let s = c.figures_of.ensures.loads in
+    λ y are.
+    let r = c.figures_of.ensures.righting y are in
+    let figures : read c.figures_of.result ≡ printed_of (water a) (load a) ship.lbp y c.args.strains.now.closing (λ i. at l.shear i) (λ i. at l.bending i) = λ j. record {
+      gm = f.gm j;
+      mean = f.mean j;
+      aft = (f.aft ∙ (λ i. floor_of (draught_at (water a) (load a) (len i) (pos 0)))) j;
+      fwd = (f.fwd ∙ (λ i. floor_of (draught_at (water a) (load a) (len i) (len i)))) j;
+      trim = f.trim j;
+      list = f.list j;
+      area_30 = r.area_30 j;
+      area_40 = r.area_40 j;
+      area_30_40 = r.area_30_40 j;
+      lever = r.lever j;
+      angle = r.angle j;
+      closing = s.closing j;
+      shear = λ i. s.shear i j;
+      bending = λ i. s.bending i j;
+    } in
+    (c.judged.ensures ∙ (λ j. judged (c.first_not_met.ensures y are j) (figures j)))
+    ∙ ap (with_least ship (water a) (load a) y c.args.strains.now.closing (λ i. at l.shear i) (λ i. at l.bending i)) c.in-Some.ensures.value
+
+pub returns-in-None : goal.returns-in-None
+returns-in-None c =
+    let a = c.args.a.now in
+    let l = c.args.strains.now.loads in
+    λ y are. c.outside.ensures ∙ ap (with_least c.args.profile.now.ship (water a) (load a) y c.args.strains.now.closing (λ i. at l.shear i) (λ i. at l.bending i)) c.in-None.ensures.value

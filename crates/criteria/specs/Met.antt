@@ -1,0 +1,32 @@
+-- The condition that the code's numbers are.
+use Rattle.std.specs.Prelude.{◌≡◌, ℕ, Bool, Option, option_map}
+use Rattle.units_core.specs.declared.fractions.Frac.{Frac}
+use Rattle.units_core.specs.Interpolation.{at}
+use Rattle.units_core.specs.Ratio.{Ratio, ◌over◌}
+use Rattle.hydrostat.specs.declared.particulars.Afloat.{Afloat}
+use Rattle.hydrostat.specs.Floating.{load, water}
+use Rattle.righting.specs.declared.ordinates.Levers.{Levers}
+use Rattle.righting.specs.Levers.{AreOrdinates}
+use Rattle.ship_profile.specs.Ship.{ShipRecord}
+use Rattle.criteria.specs.declared.criterion.Criterion.{Criterion}
+use Rattle.strength.specs.declared.loads.Loads.{Loads}
+use Rattle.criteria.specs.Criteria.{Condition, holds, not_met}
+
+-- the condition of a ship afloat, with these levers, loads and least metacentric height
+abbrev pub condition_of : Afloat → (ℕ → Ratio) → Loads → Option Frac → Condition
+condition_of a y loads least = record {
+  water = water a;
+  load = load a;
+  levers = y;
+  shear = λ i. at loads.shear i;
+  bending = λ i. at loads.bending i;
+  least_gm = option_map (λ f. f.num over f.den) least;
+}
+
+-- the answer is the first criterion that isn't met, whatever ordinates the levers are
+abbrev pub IsFirstNotMet : Option Criterion → ShipRecord → Afloat → Levers → Loads → Option Frac → Type 0
+IsFirstNotMet answer ship a levers loads least = (y : ℕ → Ratio) → AreOrdinates levers.num levers.den y → answer ≡ not_met ship (condition_of a y loads least)
+
+-- and whether a criterion holds
+abbrev pub IsHeld : Bool → ShipRecord → Afloat → Levers → Loads → Option Frac → Criterion → Type 0
+IsHeld answer ship a levers loads least criterion = (y : ℕ → Ratio) → AreOrdinates levers.num levers.den y → answer ≡ holds ship (condition_of a y loads least) criterion

@@ -1,0 +1,60 @@
+-- The figures of a condition that lies within all tables: each the textbook's ratio, rounded toward minus infinity.
+use Rattle.std.specs.Prelude.{◌≡◌, ℕ, ◌*◌, ℤ, pos, Option, None, Some, option_map, int_lt, if◌then◌else◌}
+use Rattle.units_core.specs.Interpolation.{at}
+use Rattle.units_core.specs.Ratio.{Ratio, Is, floor_of}
+use Rattle.hydrostat.specs.declared.particulars.Afloat.{Afloat}
+use Rattle.hydrostat.specs.Floating.{Waterline, Load, draught_at, gm, list, load, trim, water}
+use Rattle.righting.specs.declared.ordinates.Levers.{Levers}
+use Rattle.righting.specs.Levers.{AreOrdinates, greatest_of, mm_degrees, simpson}
+use Rattle.strength.specs.declared.loads.Strains.{Strains}
+use Rattle.criteria.specs.declared.figures.Figures.{Figures}
+
+-- the list, where the metacentric height is positive
+abbrev pub list_down : Waterline → Load → Option ℤ
+list_down w l = if int_lt (pos 0) (gm w l).top then Some (floor_of (list w l)) else None
+
+-- how she floats
+pub record AreFloating (f : Figures) (w : Waterline) (l : Load) (lbp : ℤ) : Type 0 where
+  pub gm : f.gm ≡ floor_of (gm w l)
+  pub mean : f.mean ≡ floor_of w.draught
+  pub aft : f.aft ≡ floor_of (draught_at w l lbp (pos 0))
+  pub fwd : f.fwd ≡ floor_of (draught_at w l lbp lbp)
+  pub trim : f.trim ≡ floor_of (trim w l)
+  pub list : f.list ≡ list_down w l
+
+-- her levers: three areas in mm degrees, the greatest ordinate from 30 to 60 degrees, the least angle that carries the greatest of all
+pub record AreRighting (f : Figures) (y : ℕ → Ratio) : Type 0 where
+  pub area_30 : f.area_30 ≡ floor_of (mm_degrees (simpson y 0 3))
+  pub area_40 : f.area_40 ≡ floor_of (mm_degrees (simpson y 0 4))
+  pub area_30_40 : f.area_30_40 ≡ floor_of (mm_degrees (simpson y 6 1))
+  pub lever : Some f.lever ≡ option_map (λ k. floor_of (y k)) (greatest_of y 6 7)
+  pub angle : Some f.angle ≡ option_map (λ k. 5 * k) (greatest_of y 0 13)
+
+-- and the loads on her hull
+pub record AreLoads (f : Figures) (s : Strains) : Type 0 where
+  pub closing : f.closing ≡ s.closing
+  pub shear : (i : ℕ) → at f.shear i ≡ at s.loads.shear i
+  pub bending : (i : ℕ) → at f.bending i ≡ at s.loads.bending i
+
+pub record AreFigures (f : Figures) (a : Afloat) (levers : Levers) (s : Strains) : Type 0 where
+  pub floating : AreFloating f (water a) (load a) a.lbp
+  pub righting : (y : ℕ → Ratio) → AreOrdinates levers.num levers.den y → AreRighting f y
+  pub loads : AreLoads f s
+
+-- of any ordinates that the numbers are
+abbrev pub IsAreaDown : ℤ → Levers → ℕ → ℕ → Type 0
+IsAreaDown q levers k n = (y : ℕ → Ratio) → AreOrdinates levers.num levers.den y → q ≡ floor_of (mm_degrees (simpson y k n))
+
+abbrev pub IsLeverDown : ℤ → Levers → Type 0
+IsLeverDown q levers = (y : ℕ → Ratio) → AreOrdinates levers.num levers.den y → Some q ≡ option_map (λ k. floor_of (y k)) (greatest_of y 6 7)
+
+abbrev pub IsAngle : ℕ → Levers → Type 0
+IsAngle q levers = (y : ℕ → Ratio) → AreOrdinates levers.num levers.den y → Some q ≡ option_map (λ k. 5 * k) (greatest_of y 0 13)
+
+-- the figure of any ratio that n / d is
+abbrev pub IsFigure : ℤ → ℤ → ℤ → Type 0
+IsFigure q n d = (r : Ratio) → Is n d r → q ≡ floor_of r
+
+-- the area in mm degrees of any Simpson's sum that n / d is
+abbrev pub IsAreaFigure : ℤ → ℤ → ℤ → Type 0
+IsAreaFigure q n d = (sum : Ratio) → Is n d sum → q ≡ floor_of (mm_degrees sum)

@@ -1,0 +1,92 @@
+ghost use Rattle.std.specs.Prelude.{◌≡◌, ◌<◌, slice_get, Some};
+ghost use Rattle.criteria.specs.Criteria.{criteria};
+ghost use Rattle.criteria.specs.Least.{IsLeast};
+ghost use Rattle.criteria.specs.Met.{IsFirstNotMet, IsHeld};
+
+use crate::criterion::Criterion;
+use crate::decisions::{draughts_hold, is_stiff, least_holds, list_holds};
+use crate::frames::{bending_holds, shear_holds};
+use crate::levers::{area_reaches, lever_reaches, peaks_from};
+use hydrostat::Afloat;
+use righting::Levers;
+use ship_profile::Profile;
+use strength::Loads;
+use units_core::Frac;
+
+/// The criteria in their order.
+const CRITERIA: [Criterion; 12] = [
+    Criterion::C0,
+    Criterion::C1,
+    Criterion::C2,
+    Criterion::C3,
+    Criterion::C4,
+    Criterion::C5,
+    Criterion::C6,
+    Criterion::C7,
+    Criterion::C8,
+    Criterion::C9,
+    Criterion::C10,
+    Criterion::C11,
+];
+
+/// The criterion of a number, the first being 0.
+fn criterion_at(k: usize) -> Criterion
+    requires { k < 12 }
+    ensures { slice_get criteria k ≡ Some result }
+{
+    CRITERIA[k]
+}
+
+/// Whether a criterion holds of a condition within the ship's tables. Limits of areas are in millionths of a metre-degree, rounded up;
+/// lengths in mm; the angle is in steps of 5 degrees.
+fn holds(
+    profile: &Profile,
+    a: &Afloat,
+    levers: &Levers,
+    loads: &Loads,
+    least: Option<Frac>,
+    criterion: Criterion,
+) -> bool
+    requires length { a.now.lbp ≡ profile.now.ship.lbp }
+    requires least { IsLeast least }
+    ensures { IsHeld result profile.now.ship a.now levers.now loads.now least criterion }
+{
+    match criterion {
+        Criterion::C0 => true,
+        Criterion::C1 => is_stiff(a),
+        Criterion::C2 => area_reaches(levers, 0, 3, 3_151_268),
+        Criterion::C3 => area_reaches(levers, 0, 4, 5_156_621),
+        Criterion::C4 => area_reaches(levers, 6, 1, 1_718_874),
+        Criterion::C5 => lever_reaches(levers, 200),
+        Criterion::C6 => peaks_from(levers, 5),
+        Criterion::C7 => list_holds(a, i128::from(profile.list_max())),
+        Criterion::C8 => {
+            let most = i128::from(profile.draught_max().get());
+            draughts_hold(a, most, i128::from(profile.trim_max().get()))
+        }
+        Criterion::C9 => shear_holds(profile.frames().as_slice(), &loads.shear),
+        Criterion::C10 => bending_holds(profile.frames().as_slice(), &loads.bending),
+        Criterion::C11 => least_holds(a, least),
+    }
+}
+
+/// The first criterion that doesn't hold of a condition within the ship's tables.
+pub fn first_not_met(
+    profile: &Profile,
+    a: &Afloat,
+    levers: &Levers,
+    loads: &Loads,
+    least: Option<Frac>,
+) -> Option<Criterion>
+    requires length { a.now.lbp ≡ profile.now.ship.lbp }
+    requires least { IsLeast least }
+    ensures { IsFirstNotMet result profile.now.ship a.now levers.now loads.now least }
+{
+    for k in 0..12usize {
+        let criterion = criterion_at(k);
+        if !holds(profile, a, levers, loads, least, criterion) {
+            return Some(criterion);
+        }
+    }
+    None
+}

@@ -1,0 +1,191 @@
+ghost use Rattle.strength.specs.Hull.{IsHullOf};
+
+use crate::{Criterion, Nearby, Verdict, judge, judge_near};
+use hydrostat::Outside;
+use moment_sums::Totals;
+use prefix_scan::Monoid;
+use ship_profile::{Profile, ProfileBytes, ProfileFault};
+use std::alloc::Global;
+use std::process::Abort;
+use std::test::Fail;
+use strength::Hull;
+use units_core::{Body, Mm, Place};
+
+/// A box-shaped ship of 100 m, with one frame.
+static SHIP: &str = "lbp_mm = 100000
+downflooding_deg = 60
+draught_max_mm = 6100
+trim_max_mm = 500
+list_max = 500
+closing_max_kg = 5000
+stations_mm = [0, 25000, 50000, 75000, 100000]
+[[blocks]]
+kg = 8200000
+x_mm = 50000
+y_mm = 0
+z_mm = 6000
+half_mm = 50000
+[[frames]]
+x_mm = 50000
+shear_max_kg = 100000
+hog_max_kgmm = 1000000000
+sag_max_kgmm = 1000000000
+";
+
+static CELLS: &str = "cell,x,y,z,half
+0030082,50000,0,10000,3029
+";
+
+static HYDRO: &str = "kg,draught,kmt,lcb,lcf,mct
+4100000,2000,17667,50000,50000,17000000
+8200000,4000,10333,50000,50000,17000000
+12300000,6000,8556,50000,50000,17000000
+";
+
+static KN: &str = "kg,0,5,10,15,20,25,30,35,40,45,50,55,60
+4100000,0,900,1790,2650,3470,4230,4900,5400,5750,5980,6110,6150,6110
+12300000,0,900,1790,2650,3470,4230,4900,5400,5750,5980,6110,6150,6110
+";
+
+static BONJEAN: &str = "draught,0,25000,50000,75000,100000
+0,0,0,0,0,0
+8000,1600000,1600000,1600000,1600000,1600000
+";
+
+static TANKS: &str = "tank,kg,x,y,z,half,fsm
+DB1,0,50000,0,0,5000,0
+DB1,500000,50000,0,1000,5000,2050000000
+";
+
+/// The ship.
+fn box_ship(alloc: Global) -> Result<Profile, ProfileFault> {
+    Profile::read(
+        alloc,
+        &ProfileBytes {
+            ship: SHIP.as_bytes(),
+            cells: CELLS.as_bytes(),
+            hydro: HYDRO.as_bytes(),
+            kn: KN.as_bytes(),
+            bonjean: BONJEAN.as_bytes(),
+            tanks: TANKS.as_bytes(),
+            gm: None,
+        },
+    )
+}
+
+/// A mass in kg, where its centre is, x, y and z in mm, and half its length.
+type Mass = (u32, [i32; 4]);
+
+/// The length of so many millimetres.
+fn length(mm: i32) -> Result<Mm, Fail> {
+    Ok(Mm::new(mm).ok_or("a length")?)
+}
+
+/// A body of a mass.
+fn body(mass: Mass) -> Result<Body, Fail> {
+    let (kg, [x, y, z, half]) = mass;
+    let place = Place {
+        x: length(x)?,
+        y: length(y)?,
+        z: length(z)?,
+        half: length(half)?,
+    };
+    Ok(Body::new(kg, place, 0).ok_or("a body")?)
+}
+
+/// Masses added up.
+fn sum_of(masses: &[Mass], profile: &Profile) -> Result<Totals, Fail> {
+    let mut sum = Totals::unit();
+    for mass in masses {
+        let more = Totals::of(&body(*mass)?, profile.frames());
+        if sum.size() > 1_000 || more.size() > 1_000 {
+            return Err("few masses")?;
+        }
+        sum = sum.join(&more);
+    }
+    Ok(sum)
+}
+
+/// What a verdict says: the table outside of which the condition lies, or the metacentric height, the greatest lever from 30 to 60 degrees,
+/// the shear force at the frame and the first criterion that doesn't hold.
+#[derive(Clone, Copy, Debug, PartialEq, Eq)]
+enum Said {
+    Lies(Outside),
+    Figures([i128; 3], Option<Criterion>),
+}
+
+/// What a verdict says.
+fn told(verdict: &Verdict) -> Said {
+    match verdict {
+        Verdict::Outside(outside) => Said::Lies(*outside),
+        Verdict::Fails(criterion, figures) => Said::Figures(
+            [figures.gm, figures.lever, figures.shear[0]],
+            Some(*criterion),
+        ),
+        Verdict::Passes(figures) => {
+            Said::Figures([figures.gm, figures.lever, figures.shear[0]], None)
+        }
+    }
+}
+
+/// Masses aboard, and what is told of them.
+struct Row {
+    masses: &'static [Mass],
+    told: Said,
+}
+
+/// The verdict on a row alone, and on it behind the rows before it.
+fn judged(
+    profile: &Profile,
+    hull: &Hull,
+    row: &Row,
+    near: &mut Nearby,
+) -> Result<(Said, Said), Fail>
+    requires { IsHullOf hull.now profile.now.ship }
+{
+    let sum = sum_of(row.masses, profile)?;
+    if !sum.is_bounded() {
+        return Err("bounded")?;
+    }
+    let alone = told(&judge(profile, &sum));
+    Ok((alone, told(&judge_near(profile, hull, &sum, near))))
+}
+
+/// Compares the rows with the ship. This alone owns a profile, since each way of letting one go is long to prove.
+fn on_box_ship(rt: &(impl Abort + AllocGlobal), rows: &[Row]) -> Result<(), Fail> {
+    let profile = box_ship(rt.alloc())?;
+    let hull = Hull::new(&profile);
+    let mut near = Nearby::default();
+    for row in rows {
+        let both = judged(&profile, &hull, row, &mut near)?;
+        assert_eq!(rt; both, (row.told, row.told));
+    }
+    Ok(())
+}
+
+// The box floats at 4,000 mm, GM = 10,333 - 6,000 mm, and the greatest lever is that at 35 degrees: 5,400 - 6,000 * 0.573576 = 1,958.5 mm.
+// With its centre 4,184 mm higher GM is 149 mm; the levers fail too, and C1 comes first. The hydrostatic
+// table ends at 12,300,000 kg.
+static CONDITIONS: [Row; 4] = [
+    Row {
+        masses: &[(8_200_000, [50_000, 0, 6_000, 50_000])],
+        told: Said::Figures([4_333, 1_958, 0], None),
+    },
+    Row {
+        masses: &[(8_200_000, [50_000, 0, 10_184, 50_000])],
+        told: Said::Figures([149, -192, 0], Some(Criterion::C1)),
+    },
+    Row {
+        masses: &[(12_300_001, [50_000, 0, 6_000, 50_000])],
+        told: Said::Lies(Outside::Hydro),
+    },
+    Row {
+        masses: &[(12_300_000, [50_000, 0, 6_000, 50_000])],
+        told: Said::Figures([2_556, 1_958, 0], None),
+    },
+];
+
+#[test]
+fn conditions(rt: HostRuntime) -> Result<(), Fail> {
+    on_box_ship(&rt, &CONDITIONS)
+}

@@ -1,0 +1,171 @@
+ghost use Rattle.std.specs.Prelude.{◌≡◌, ◌*◌, ◌^◌, ◌≤◌, unsigned_abs};
+ghost use Rattle.units_core.specs.Interpolation.{at};
+ghost use Rattle.moment_sums.specs.Bounded.{IsBounded};
+ghost use Rattle.moment_sums.specs.Kept.{values};
+ghost use Rattle.moment_sums.specs.Sum.{MomentY, Weight};
+ghost use Rattle.hydrostat.specs.Floating.{draught_at, load, load_of, water};
+ghost use Rattle.righting.specs.Aboard.{levers_of};
+ghost use Rattle.strength.specs.Hull.{IsHullOf};
+ghost use Rattle.strength.specs.Immersed.{areas_of};
+ghost use Rattle.strength.specs.Strains.{closes, closing_of};
+ghost use Rattle.criteria.specs.Least.{least_at};
+ghost use Rattle.criteria.specs.Judgement.{IsOutside, IsWhatever, judged, judgement_of, read, told, with_areas, with_closing, with_least, with_levers};
+
+use crate::criterion::Criterion;
+use crate::figures::{Figures, figures_of};
+use crate::holding::first_not_met;
+use crate::limits::least_gm;
+use hydrostat::{Afloat, Outside, on_waterline};
+use moment_sums::Totals;
+use righting::{Levers, levers_aboard};
+use ship_profile::Profile;
+use strength::{Areas, Hull, Strains, areas_aboard, closes, strains_of};
+
+/// How a condition is judged.
+#[derive(Clone, Copy)]
+pub enum Verdict {
+    /// It lies outside of one of the ship's tables, and has no figures.
+    Outside(Outside),
+    /// This is the first criterion that doesn't hold.
+    Fails(Criterion, Figures),
+    /// All criteria hold.
+    Passes(Figures),
+}
+
+/// In which interval of each table a condition was found. The next condition, which differs by one step, is looked for there first; the
+/// answer doesn't depend on it.
+#[derive(Clone, Copy, Default)]
+pub struct Nearby {
+    hydro: usize,
+    levers: usize,
+    bonjean: usize,
+    least_gm: usize,
+}
+
+/// The verdict by the first criterion that isn't met, if there is one.
+fn judged(criterion: Option<Criterion>, figures: Figures) -> Verdict
+    ensures { told result ≡ judged criterion (read figures) }
+{
+    match criterion {
+        Some(criterion) => Verdict::Fails(criterion, figures),
+        None => Verdict::Passes(figures),
+    }
+}
+
+/// Outside of a table there are no figures.
+fn outside(cause: Outside) -> Verdict
+    ensures { told result ≡ IsOutside cause }
+{
+    Verdict::Outside(cause)
+}
+
+/// The verdict, once the loads are known.
+fn judge_loaded(
+    profile: &Profile,
+    totals: &Totals,
+    a: &Afloat,
+    levers: &Levers,
+    strains: &Strains,
+    near: &mut Nearby,
+) -> Verdict
+    requires length { a.now.lbp ≡ profile.now.ship.lbp }
+    ensures { IsWhatever (told result) levers.now.num levers.now.den (λ y. with_least profile.now.ship (water a.now) (load a.now) y strains.now.closing (λ i. at strains.now.loads.shear i) (λ i. at strains.now.loads.bending i) (least_at profile.now.tables.least_gm (values totals.now Weight))) }
+{
+    match least_gm(profile, totals, &mut near.least_gm) {
+        Some(least) => judged(
+            first_not_met(profile, a, levers, &strains.loads, least),
+            figures_of(a, levers, strains),
+        ),
+        None => outside(Outside::GmLimit),
+    }
+}
+
+/// The verdict, once the immersed areas are known.
+fn judge_immersed(
+    profile: &Profile,
+    totals: &Totals,
+    a: &Afloat,
+    levers: &Levers,
+    areas: &Areas,
+    hull: &Hull,
+    near: &mut Nearby,
+) -> Verdict
+    requires of { IsHullOf hull.now profile.now.ship }
+    requires bounded { IsBounded (values totals.now) }
+    requires kg { unsigned_abs (values totals.now Weight) ≤ 10 ^ 9 }
+    requires loaded { load a.now ≡ load_of (values totals.now) }
+    requires length { a.now.lbp ≡ profile.now.ship.lbp }
+    ensures { IsWhatever (told result) levers.now.num levers.now.den (λ y. with_closing profile.now (values totals.now) (water a.now) y (at areas.now.area) (closes (closing_of (values totals.now) (at areas.now.area) profile.now.ship.stations) profile.now.ship.closing_max)) }
+{
+    let strains = strains_of(profile, hull, totals, areas);
+    if closes(strains.closing, profile.closing_max()) {
+        judge_loaded(profile, totals, a, levers, &strains, near)
+    } else {
+        outside(Outside::Closing)
+    }
+}
+
+/// The verdict, once the levers are known.
+fn judge_righted(
+    profile: &Profile,
+    totals: &Totals,
+    a: &Afloat,
+    levers: &Levers,
+    hull: &Hull,
+    near: &mut Nearby,
+) -> Verdict
+    requires of { IsHullOf hull.now profile.now.ship }
+    requires bounded { IsBounded (values totals.now) }
+    requires kg { unsigned_abs (values totals.now Weight) ≤ 10 ^ 9 }
+    requires loaded { load a.now ≡ load_of (values totals.now) }
+    requires length { a.now.lbp ≡ profile.now.ship.lbp }
+    ensures { IsWhatever (told result) levers.now.num levers.now.den (λ y. with_areas profile.now (values totals.now) (water a.now) y (areas_of profile.now.tables.bonjean (draught_at (water a.now) (load_of (values totals.now)) profile.now.ship.lbp) profile.now.ship.stations)) }
+{
+    match areas_aboard(profile, a, &mut near.bonjean) {
+        Some(areas) => judge_immersed(profile, totals, a, levers, &areas, hull, near),
+        None => outside(Outside::Bonjean),
+    }
+}
+
+/// The verdict on a ship that floats.
+fn judge_afloat(
+    profile: &Profile,
+    totals: &Totals,
+    a: &Afloat,
+    hull: &Hull,
+    near: &mut Nearby,
+) -> Verdict
+    requires of { IsHullOf hull.now profile.now.ship }
+    requires bounded { IsBounded (values totals.now) }
+    requires kg { unsigned_abs (values totals.now Weight) ≤ 10 ^ 9 }
+    requires side { unsigned_abs (values totals.now MomentY) ≤ 10 ^ 15 }
+    requires loaded { load a.now ≡ load_of (values totals.now) }
+    requires length { a.now.lbp ≡ profile.now.ship.lbp }
+    ensures { told result ≡ with_levers profile.now (values totals.now) (water a.now) (levers_of profile.now.tables.levers (values totals.now)) }
+{
+    match levers_aboard(profile, totals, &mut near.levers) {
+        Some(levers) => judge_righted(profile, totals, a, &levers, hull, near),
+        None => outside(Outside::Levers),
+    }
+}
+
+/// How the ship is judged with this aboard, as [`judge`] says. What depends on her profile alone comes with `hull`; her tables are searched
+/// from where the last condition was.
+pub fn judge_near(profile: &Profile, hull: &Hull, totals: &Totals, near: &mut Nearby) -> Verdict
+    requires of { IsHullOf hull.now profile.now.ship }
+    requires bounded { IsBounded (values totals.now) }
+    ensures { told result ≡ judgement_of profile.now (values totals.now) }
+{
+    match on_waterline(profile, totals, &mut near.hydro) {
+        Some(a) => judge_afloat(profile, totals, &a, hull, near),
+        None => outside(Outside::Hydro),
+    }
+}
+
+/// How the ship is judged with this aboard.
+pub fn judge(profile: &Profile, totals: &Totals) -> Verdict
+    requires { IsBounded (values totals.now) }
+    ensures { told result ≡ judgement_of profile.now (values totals.now) }
+{
+    judge_near(profile, &Hull::new(profile), totals, &mut Nearby::default())
+}

@@ -1,0 +1,192 @@
+use crate::{Outside, floating_of};
+use moment_sums::Totals;
+use prefix_scan::Monoid;
+use ship_profile::{Profile, ProfileBytes, ProfileFault};
+use std::alloc::Global;
+use std::process::Abort;
+use std::test::Fail;
+use units_core::{Body, Frac, Mm, Place, floor};
+
+/// A box-shaped ship of 100 m, with one frame.
+static SHIP: &str = "lbp_mm = 100000
+downflooding_deg = 60
+draught_max_mm = 6100
+trim_max_mm = 500
+list_max = 500
+closing_max_kg = 5000
+stations_mm = [0, 25000, 50000, 75000, 100000]
+[[blocks]]
+kg = 8200000
+x_mm = 50000
+y_mm = 0
+z_mm = 6000
+half_mm = 50000
+[[frames]]
+x_mm = 50000
+shear_max_kg = 100000
+hog_max_kgmm = 1000000000
+sag_max_kgmm = 1000000000
+";
+
+static CELLS: &str = "cell,x,y,z,half
+0030082,50000,0,10000,3029
+";
+
+static HYDRO: &str = "kg,draught,kmt,lcb,lcf,mct
+4100000,2000,17667,50000,50000,17000000
+8200000,4000,10333,50000,50000,17000000
+12300000,6000,8556,50000,50000,17000000
+";
+
+static KN: &str = "kg,0,5,10,15,20,25,30,35,40,45,50,55,60
+4100000,0,900,1790,2650,3470,4230,4900,5400,5750,5980,6110,6150,6110
+12300000,0,900,1790,2650,3470,4230,4900,5400,5750,5980,6110,6150,6110
+";
+
+static BONJEAN: &str = "draught,0,25000,50000,75000,100000
+0,0,0,0,0,0
+8000,1600000,1600000,1600000,1600000,1600000
+";
+
+static TANKS: &str = "tank,kg,x,y,z,half,fsm
+DB1,0,50000,0,0,5000,0
+DB1,500000,50000,0,1000,5000,2050000000
+";
+
+/// The ship.
+fn box_ship(alloc: Global) -> Result<Profile, ProfileFault> {
+    Profile::read(
+        alloc,
+        &ProfileBytes {
+            ship: SHIP.as_bytes(),
+            cells: CELLS.as_bytes(),
+            hydro: HYDRO.as_bytes(),
+            kn: KN.as_bytes(),
+            bonjean: BONJEAN.as_bytes(),
+            tanks: TANKS.as_bytes(),
+            gm: None,
+        },
+    )
+}
+
+/// A mass in kg and where its centre is: x, y and z in mm.
+type Mass = (u32, [i32; 3]);
+
+/// The length of so many millimetres.
+fn length(mm: i32) -> Result<Mm, Fail> {
+    Ok(Mm::new(mm).ok_or("a length")?)
+}
+
+/// A body of a mass.
+fn body(mass: Mass) -> Result<Body, Fail> {
+    let (kg, [x, y, z]) = mass;
+    let place = Place {
+        x: length(x)?,
+        y: length(y)?,
+        z: length(z)?,
+        half: length(3_029)?,
+    };
+    Ok(Body::new(kg, place, 0).ok_or("a body")?)
+}
+
+/// Masses added up.
+fn sum_of(masses: &[Mass], profile: &Profile) -> Result<Totals, Fail> {
+    let mut sum = Totals::unit();
+    for mass in masses {
+        let more = Totals::of(&body(*mass)?, profile.frames());
+        if sum.size() > 1_000 || more.size() > 1_000 {
+            return Err("few masses")?;
+        }
+        sum = sum.join(&more);
+    }
+    Ok(sum)
+}
+
+/// The condition of a ship with some masses aboard: mean draught, draughts aft and forward and at 25,000, metacentric height, trim and
+/// list, each rounded down; or why she has none.
+type Condition = Result<([i128; 6], Option<i128>), Outside>;
+
+/// The figure of a fraction, and of one that may be missing.
+fn figure(fraction: Option<Frac>) -> Option<i128> {
+    match fraction {
+        Some(fraction) => Some(floor(fraction)),
+        None => None,
+    }
+}
+
+/// How the ship floats with these masses aboard.
+fn condition(profile: &Profile, masses: &[Mass]) -> Result<Condition, Fail> {
+    let sum = sum_of(masses, profile)?;
+    if !sum.is_bounded() {
+        return Err("bounded")?;
+    }
+    let quarter = length(25_000)?;
+    match floating_of(profile, &sum) {
+        Ok(floats) => {
+            let figures = [
+                floor(floats.mean),
+                floor(floats.aft),
+                floor(floats.fwd),
+                floor(floats.draught(quarter)),
+                floor(floats.gm),
+                floor(floats.trim),
+            ];
+            Ok(Ok((figures, figure(floats.list))))
+        }
+        Err(outside) => Ok(Err(outside)),
+    }
+}
+
+/// Masses aboard, and how the ship floats with them.
+struct Row {
+    masses: &'static [Mass],
+    condition: Condition,
+}
+
+/// Compares the rows with the ship. This alone owns a profile, since each way of letting one go is long to prove.
+fn on_box_ship(rt: &(impl Abort + AllocGlobal), rows: &[Row]) -> Result<(), Fail> {
+    let profile = box_ship(rt.alloc())?;
+    for row in rows {
+        let floats = condition(&profile, row.masses)?;
+        assert_eq!(rt; floats, row.condition);
+    }
+    Ok(())
+}
+
+const BLOCK: Mass = (8_200_000, [50_000, 0, 6_000]);
+
+// The block alone: draught 4,000 mm, and GM = 10,333 - 6,000 = 4,333 mm.
+//
+// With 20,500 kg at x = 50,000, y = 8,000, z = 10,000 and 20,500 kg at x = 25,000, z = 10,000 there are 8,241,000 kg aboard. The table
+// gives 4,000 + 2,000 * 41,000 / 4,100,000 = 4,020 mm and KMT = 10,333 - 1,777 * 41,000 / 4,100,000 = 10,315.23 mm. The centre of gravity
+// lies 6,000 + 4,000 * 41,000 / 8,241,000 = 6,019.90 mm above the keel: GM = 4,295.33 mm. The trim is 20,500 * 25,000 / 17,000,000 =
+// 30.147 mm by the stern, half of it aft: 4,035.07 mm aft, 4,004.93 mm forward, and 4,020 + 30.147 / 4 = 4,027.54 mm at 25,000. The
+// centre lies 20,500 * 8,000 / 8,241,000 = 19.9005 mm to starboard, and the list is 10,000 * 19.9005 / 4,295.33 = 46.33.
+static CONDITIONS: [Row; 4] = [
+    Row {
+        masses: &[BLOCK],
+        condition: Ok(([4_000, 4_000, 4_000, 4_000, 4_333, 0], Some(0))),
+    },
+    Row {
+        masses: &[
+            BLOCK,
+            (20_500, [50_000, 8_000, 10_000]),
+            (20_500, [25_000, 0, 10_000]),
+        ],
+        condition: Ok(([4_020, 4_035, 4_004, 4_027, 4_295, 30], Some(46))),
+    },
+    // At 10,333 mm the centre of gravity is the metacentre: without a metacentric height there is no list.
+    Row {
+        masses: &[(8_200_000, [50_000, 100, 10_333])],
+        condition: Ok(([4_000, 4_000, 4_000, 4_000, 0, 0], None)),
+    },
+    Row {
+        masses: &[(12_300_001, [50_000, 0, 6_000])],
+        condition: Err(Outside::Hydro),
+    },
+];
+
+#[test]
+fn conditions(rt: HostRuntime) -> Result<(), Fail> {
+    on_box_ship(&rt, &CONDITIONS)
+}

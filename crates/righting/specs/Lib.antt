@@ -1,0 +1,3 @@
+pub mod Aboard
+pub mod Levers
+pub mod Sums

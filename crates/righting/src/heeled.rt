@@ -1,0 +1,65 @@
+ghost use Rattle.std.specs.Prelude.{◌≡◌, ◌*◌, ◌^◌, ◌≤◌, pos, ◌-ℤ◌, ◌*ℤ◌, unsigned_abs};
+ghost use Rattle.righting.specs.Aboard.{lever_by};
+ghost use Rattle.righting.specs.Levers.{AreOrdinates};
+
+use crate::angles::angle_at;
+use crate::ordinates::{Crossing, Levers};
+use units_core::{cosine, sine};
+
+/// One righting lever, to be divided by the gap, the weight and a million.
+fn lever(
+    kn: i128,
+    weight: i128,
+    upright: i128,
+    aside: i128,
+    gap: i128,
+    sine: i128,
+    cosine: i128,
+) -> i128
+    requires kn { unsigned_abs kn ≤ 10 ^ 14 }
+    requires weight { unsigned_abs weight ≤ 10 ^ 9 }
+    requires upright { unsigned_abs upright ≤ 2 * 10 ^ 15 }
+    requires aside { unsigned_abs aside ≤ 10 ^ 15 }
+    requires gap { unsigned_abs gap ≤ 10 ^ 8 }
+    requires sine { unsigned_abs sine ≤ 10 ^ 6 }
+    requires cosine { unsigned_abs cosine ≤ 10 ^ 6 }
+    ensures value { result ≡ (((kn *ℤ weight) *ℤ pos (10 ^ 6)) -ℤ ((upright *ℤ gap) *ℤ sine)) -ℤ ((aside *ℤ gap) *ℤ cosine) }
+    ensures size { unsigned_abs result ≤ 10 ^ 30 }
+{
+    kn * weight * 1_000_000 - upright * gap * sine - aside * gap * cosine
+}
+
+/// A moment about the middle line without its side: the ship heels to the side where her centre of gravity is.
+fn to_either_side(side: i128) -> i128
+    requires { unsigned_abs side ≤ 10 ^ 15 }
+    ensures value { result ≡ pos (unsigned_abs side) }
+    ensures within { unsigned_abs result ≤ 10 ^ 15 }
+{
+    side.abs()
+}
+
+/// The righting levers of a ship, by the moments of what is aboard about the keel (with the free surfaces) and about the middle line.
+pub fn levers(crossing: &Crossing, upright: i128, side: i128) -> Levers
+    requires upright { unsigned_abs upright ≤ 2 * 10 ^ 15 }
+    requires side { unsigned_abs side ≤ 10 ^ 15 }
+    ensures { AreOrdinates result.num result.den (lever_by crossing.now upright side) }
+{
+    let aside = to_either_side(side);
+    let mut num = [0; 13];
+    for k in 0..13usize {
+        let angle = angle_at(k);
+        num[k] = lever(
+            crossing.lever[k],
+            crossing.kg,
+            upright,
+            aside,
+            crossing.gap,
+            sine(angle),
+            cosine(angle),
+        );
+    }
+    Levers {
+        num,
+        den: crossing.gap * crossing.kg * 1_000_000,
+    }
+}

@@ -1,0 +1,257 @@
+//! The righting levers of the box ship, and of one whose greatest lever stands at two angles.
+ghost use Rattle.std.specs.Prelude.{IfOk};
+ghost use Rattle.moment_sums.specs.Bounded.{IsBounded};
+ghost use Rattle.moment_sums.specs.Kept.{values};
+
+use crate::{
+    Levers, area_holds, area_over_pairs, area_sum, best_from_30, best_number_from_30, greatest,
+    greatest_number, levers_of,
+};
+use hydrostat::Outside;
+use moment_sums::Totals;
+use ship_profile::{Profile, ProfileBytes, ProfileFault};
+use std::alloc::Global;
+use std::test::Fail;
+use units_core::{Angle, Body, Frac, Mm, Place, floor};
+
+static SHIP: &str = "lbp_mm = 100000
+downflooding_deg = 60
+draught_max_mm = 6100
+trim_max_mm = 500
+list_max = 500
+closing_max_kg = 5000
+stations_mm = [0, 50000, 100000]
+[[blocks]]
+kg = 8200000
+x_mm = 50000
+y_mm = 0
+z_mm = 6000
+half_mm = 50000
+[[frames]]
+x_mm = 50000
+shear_max_kg = 100000
+hog_max_kgmm = 1000000000
+sag_max_kgmm = 1000000000
+";
+
+static CELLS: &str = "cell,x,y,z,half
+0030082,50000,0,10000,3029
+";
+
+static HYDRO: &str = "kg,draught,kmt,lcb,lcf,mct
+4100000,2000,17667,50000,50000,17000000
+12300000,6000,8556,50000,50000,17000000
+";
+
+/// The cross curves of the box ship.
+static KN: &str = "kg,0,5,10,15,20,25,30,35,40,45,50,55,60
+4100000,0,900,1790,2650,3470,4230,4900,5400,5750,5980,6110,6150,6110
+12300000,0,900,1790,2650,3470,4230,4900,5400,5750,5980,6110,6150,6110
+";
+
+/// The same lever at 20 and 25 degrees, and smaller ones elsewhere.
+static TIED: &str = "kg,0,5,10,15,20,25,30,35,40,45,50,55,60
+4100000,0,900,1790,2650,4230,4230,4000,3800,3600,3400,3200,3000,2800
+12300000,0,900,1790,2650,4230,4230,4000,3800,3600,3400,3200,3000,2800
+";
+
+static BONJEAN: &str = "draught,0,50000,100000
+0,0,0,0
+8000,1600000,1600000,1600000
+";
+
+/// The box ship with these cross curves.
+fn box_ship(alloc: Global, kn: &str) -> Result<Profile, ProfileFault> {
+    Profile::read(
+        alloc,
+        &ProfileBytes {
+            ship: SHIP.as_bytes(),
+            cells: CELLS.as_bytes(),
+            hydro: HYDRO.as_bytes(),
+            kn: kn.as_bytes(),
+            bonjean: BONJEAN.as_bytes(),
+            tanks: b"",
+            gm: None,
+        },
+    )
+}
+
+/// Refuses a sum that no ship has.
+fn bounded(totals: &Totals) -> Result<(), Fail>
+    ensures { IfOk result (λ u. IsBounded (values totals.now)) }
+{
+    if totals.is_bounded() {
+        Ok(())
+    } else {
+        Err("no sum of a ship")?
+    }
+}
+
+/// A length of so many mm.
+fn length(mm: i32) -> Result<Mm, Fail> {
+    Ok(Mm::new(mm).ok_or("a length")?)
+}
+
+/// The sum of one body amidships, at so many mm from the middle line and above the keel.
+fn sum_of(profile: &Profile, kg: u32, y: i32, z: i32) -> Result<Totals, Fail> {
+    let place = Place {
+        x: length(50_000)?,
+        y: length(y)?,
+        z: length(z)?,
+        half: length(50_000)?,
+    };
+    let body = Body::new(kg, place, 0).ok_or("a body")?;
+    Ok(Totals::of(&body, profile.frames()))
+}
+
+/// The levers with a sum aboard; none where the displacement lies outside of the cross curves.
+fn told(profile: &Profile, totals: &Totals) -> Result<Option<Levers>, Fail> {
+    bounded(totals)?;
+    match levers_of(profile, totals) {
+        Ok(levers) => Ok(Some(levers)),
+        Err(Outside::Levers) => Ok(None),
+        Err(_) => Err("another table")?,
+    }
+}
+
+/// The levers with 8,200,000 kg aboard.
+fn levers_with(alloc: Global, kn: &str, y: i32, z: i32) -> Result<Levers, Fail> {
+    let profile = box_ship(alloc, kn)?;
+    let totals = sum_of(&profile, 8_200_000, y, z)?;
+    Ok(told(&profile, &totals)?.ok_or("outside")?)
+}
+
+/// The levers at all angles, in mm, rounded down.
+fn figures(levers: &Levers) -> [i128; 13] {
+    let mut figures = [0; 13];
+    for k in 0..13usize {
+        figures[k] = floor(Frac {
+            num: levers.num[k],
+            den: levers.den,
+        });
+    }
+    figures
+}
+
+/// 6,000 mm above the keel: KN - 6,000 sin h, as 5,400 - 6,000 * 0.573576 = 1,958.544 at 35 degrees.
+static UPRIGHT: [i128; 13] = [
+    0, 377, 748, 1_097, 1_417, 1_694, 1_900, 1_958, 1_893, 1_737, 1_513, 1_235, 913,
+];
+
+#[test]
+fn levers_of_the_box_ship(rt: HostRuntime) -> Result<(), Fail> {
+    let levers = levers_with(rt.alloc(), KN, 0, 6_000)?;
+    assert_eq!(rt; figures(&levers), UPRIGHT);
+    Ok(())
+}
+
+/// The same 500 mm from the middle line: less 500 cos h, as 1,958.544 - 500 * 0.819152 = 1,548.968 at 35 degrees.
+static LISTING: [i128; 13] = [
+    -500, -122, 255, 614, 948, 1_241, 1_466, 1_548, 1_510, 1_383, 1_192, 948, 663,
+];
+
+#[test]
+fn list_to_either_side(rt: HostRuntime) -> Result<(), Fail> {
+    for side in [-500, 500] {
+        let levers = levers_with(rt.alloc(), KN, side, 6_000)?;
+        assert_eq!(rt; figures(&levers), LISTING, "{side}");
+    }
+    Ok(())
+}
+
+/// Whether the cross curves, from 4,100,000 to 12,300,000 kg, have a displacement.
+static DISPLACEMENTS: [(u32, bool); 4] = [
+    (4_099_999, false),
+    (4_100_000, true),
+    (12_300_000, true),
+    (12_300_001, false),
+];
+
+#[test]
+fn outside_of_the_cross_curves(rt: HostRuntime) -> Result<(), Fail> {
+    let profile = box_ship(rt.alloc(), KN)?;
+    for (kg, inside) in &DISPLACEMENTS {
+        let totals = sum_of(&profile, *kg, 0, 6_000)?;
+        let levers = told(&profile, &totals)?;
+        assert_eq!(rt; levers.is_some(), *inside, "{kg}");
+    }
+    Ok(())
+}
+
+/// The angle of so many degrees.
+fn angle(degrees: u8) -> Result<Angle, Fail> {
+    Ok(Angle::new(degrees / 5).ok_or("an angle")?)
+}
+
+/// From one angle to another, Simpson's sum under the levers of `UPRIGHT`, in mm, rounded down. With 377.064, 748.112, 1,097.086, 1,417.880,
+/// 1,694.292, 1,900, 1,958.544 and 1,893.272 mm at 5, 10, .., 40 degrees:
+static AREAS: [(u8, u8, i128); 3] = [
+    // 4 * (377.064 + 1,097.086 + 1,694.292) + 2 * (748.112 + 1,417.880) + 1,900 = 18,905.752, which is 31,509.6 mm degrees
+    (0, 30, 18_905),
+    // 18,905.752 + 11,627.448 = 30,533.200
+    (0, 40, 30_533),
+    // 1,900 + 4 * 1,958.544 + 1,893.272 = 11,627.448
+    (30, 40, 11_627),
+];
+
+/// The sum between two angles, rounded down.
+fn area(levers: &Levers, from: u8, to: u8) -> Result<i128, Fail> {
+    let from = angle(from)?;
+    let to = angle(to)?;
+    if to.step() <= from.step() {
+        return Err("no angles between")?;
+    }
+    if (to.step() - from.step()) % 2 != 0 {
+        return Err("an odd number of intervals")?;
+    }
+    Ok(floor(area_sum(levers, from, to)))
+}
+
+#[test]
+fn area_between_angles(rt: HostRuntime) -> Result<(), Fail> {
+    let levers = levers_with(rt.alloc(), KN, 0, 6_000)?;
+    for (from, to, sum) in &AREAS {
+        assert_eq!(rt; area(&levers, *from, *to)?, *sum, "{from} to {to}");
+    }
+    Ok(())
+}
+
+#[test]
+fn area_over_two_pairs(rt: HostRuntime) -> Result<(), Fail> {
+    let levers = levers_with(rt.alloc(), KN, 0, 6_000)?;
+    // from 10 to 30 degrees: 748.112 + 4 * (1,097.086 + 1,694.292) + 2 * 1,417.880 + 1,900 = 16,649.384
+    assert_eq!(rt; floor(area_over_pairs(&levers, 2, 2)), 16_649);
+    Ok(())
+}
+
+#[test]
+fn area_at_its_limit(rt: HostRuntime) {
+    // 5,000 * 2,363,451 / 1,250 = 9,453,804 = 3 * 3,151,268
+    let met = Frac {
+        num: 2_363_451,
+        den: 1_250,
+    };
+    let missed = Frac {
+        num: 2_363_450,
+        den: 1_250,
+    };
+    assert_eq!(rt; area_holds(met, 3_151_268), true);
+    assert_eq!(rt; area_holds(missed, 3_151_268), false);
+}
+
+#[test]
+fn greatest_of_tied_levers(rt: HostRuntime) -> Result<(), Fail> {
+    // on the keel and the middle line the levers are those of the curves: 4,230 mm at 20 and at 25 degrees, 4,000 mm at 30
+    let levers = levers_with(rt.alloc(), TIED, 0, 0)?;
+    assert_eq!(rt; greatest(&levers).degrees(), 20);
+    assert_eq!(rt; greatest_number(&levers), 4);
+    Ok(())
+}
+
+#[test]
+fn best_of_tied_levers(rt: HostRuntime) -> Result<(), Fail> {
+    let levers = levers_with(rt.alloc(), TIED, 0, 0)?;
+    assert_eq!(rt; floor(best_from_30(&levers)), 4_000);
+    assert_eq!(rt; best_number_from_30(&levers), 6);
+    Ok(())
+}

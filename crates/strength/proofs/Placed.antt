@@ -1,0 +1,93 @@
+-- Numbers written place by place; areas at all stations.
+use Rattle.std.proofs.Common.{◌≡◌, ◌∙◌, ℕ, zero, suc, ◌+◌, ◌^◌, ◌<◌, ◌≤◌, ◌⊎◌, inl, inr, List, [], ◌∷◌, length, get_or, set, get_or-set_same, get_or-set_other, below_more, ◌≢◌, replicate, Option, None, Some, unsigned_abs, FitsSigned, to_z, of_z, to_z-of_z, ℤ, pos, ◌+ℤ◌, ◌-ℤ◌, ◌*ℤ◌, ◌<ℤ◌, ◌≤ℤ◌, refl, sym, ap, arith}
+use Rattle.std.specs.Prelude.{is_some}
+use Rattle.std.proofs.lemmas.Option.{slice_get_past}
+use Rattle.std.specs.Int.{w128}
+use Rattle.units_core.proofs.Signed.{signed_arith, one_part}
+use Rattle.units_core.proofs.Order.{times_order}
+use Rattle.moment_sums.proofs.Sizes.{between}
+use Rattle.moment_sums.proofs.Bounds.{set_done}
+use Rattle.units_core.specs.Interpolation.{at, IsWithin}
+use Rattle.units_core.specs.Ratio.{Ratio}
+use Rattle.ship_tables.specs.Record.{CurveTable}
+use Rattle.units_core.proofs.Ranges.{range_all, range_not_all}
+use Rattle.strength.specs.Immersed.{area_at, area_there, areas_of, or_none}
+
+below_cases : (k n : ℕ) → (k < n) ⊎ (n ≤ k)
+below_cases zero zero = inr (omega arith)
+below_cases zero (suc n) = inl (omega arith)
+below_cases (suc k) zero = inr (omega arith)
+below_cases (suc k) (suc n) = elim (below_cases k n) [
+  | inl less ↦ inl (omega arith)
+  | inr past ↦ inr (omega arith)
+]
+
+-- all places, those behind the end being 0
+pub all_places : (ns : List ℤ) (g : ℕ → ℤ) (n : ℕ) → ((j : ℕ) → j < n → at ns j ≡ g j) → ((j : ℕ) → n ≤ j → at ns j ≡ pos 0) → ((j : ℕ) → n ≤ j → g j ≡ pos 0) → (j : ℕ) → at ns j ≡ g j
+all_places ns g n done rest none j = elim (below_cases j n) [
+  | inl less ↦ done j less
+  | inr past ↦ rest j past ∙ sym (none j past)
+]
+
+pub at_past : (xs : List ℤ) (k : ℕ) → length xs ≤ k → at xs k ≡ pos 0
+at_past [] zero h = refl
+at_past [] (suc k) h = refl
+at_past (x ∷ xs) zero h = absurd (omega arith)
+at_past (x ∷ xs) (suc k) h = at_past xs k (omega arith)
+
+pub set_areas : (ns : List ℤ) (g : ℕ → Option ℤ) (k : ℕ) (v : ℤ) → k < length ns → ((j : ℕ) → j < k → g j ≡ Some (at ns j)) → g k ≡ Some v → (j : ℕ) → j < k + 1 → g j ≡ Some (at (set ns k v) j)
+set_areas ns g k v inside done e = below_more _ _ (λ j less. let ne : j ≢ k = omega arith in rw get_or-set_other (done j less)) (rw get_or-set_same e)
+
+-- no areas where one is missing; else all of them
+pub areas_none : (t : CurveTable) (dr : ℤ → Ratio) (xs : List ℤ) (k : ℕ) → k < length xs → area_at t dr xs k ≡ None → None ≡ areas_of t dr xs
+areas_none t dr xs k less h =
+    let here : 0 + k ≡ k = omega arith in
+    let none = range_not_all (λ j. is_some (area_at t dr xs j)) 0 (length xs) k less (ap (λ m. is_some (area_at t dr xs m)) here ∙ ap (λ (o : Option ℤ). is_some o) h) in
+    rw none refl
+
+pub areas_some : (t : CurveTable) (dr : ℤ → Ratio) (xs ns : List ℤ) (n : ℕ) → length xs ≤ n → ((j : ℕ) → j < n → area_at t dr xs j ≡ Some (at ns j)) → ((j : ℕ) → n ≤ j → at ns j ≡ pos 0) → Some (at ns) ≡ areas_of t dr xs
+areas_some t dr xs ns n all done rest =
+    let every = range_all (λ j. is_some (area_at t dr xs j)) 0 (length xs) (λ i low high. let less : i < n = omega arith in ap (λ (o : Option ℤ). is_some o) (done i less)) in
+    let each = all_places ns (λ k. or_none (area_at t dr xs k)) n (λ j less. ap or_none (sym (done j less))) rest (λ j past. let out : length xs ≤ j = omega arith in ap (λ (o : Option ℤ). or_none (area_there t dr j o)) (slice_get_past xs j out)) in
+    rw every (λ i. Some (λ k. each k i))
+
+pub no_places : (n i : ℕ) → get_or (replicate n (pos 0)) i (pos 0) ≡ pos 0
+no_places zero zero = refl
+no_places zero (suc i) = refl
+no_places (suc n) zero = refl
+no_places (suc n) (suc i) = no_places n i
+
+pub none_within : (n m : ℕ) → IsWithin m (replicate n (pos 0))
+none_within n m = λ j. rw (no_places n j) (omega arith)
+
+-- inside a list it's the same which default is given
+pub inside_same : (xs : List ℤ) (k : ℕ) (d e : ℤ) → k < length xs → get_or xs k d ≡ get_or xs k e
+inside_same [] k d e h = absurd (omega arith)
+inside_same (x ∷ xs) zero d e h = refl
+inside_same (x ∷ xs) (suc k) d e h = inside_same xs k d e (omega arith)
+
+-- a difference, read back from its bits
+pub less_read : (x y r a b : ℤ) → FitsSigned w128 x → FitsSigned w128 y → FitsSigned w128 r → r ≡ to_z w128 (of_z w128 x) -ℤ to_z w128 (of_z w128 y) → x ≡ a → y ≡ b → to_z w128 (of_z w128 r) ≡ a -ℤ b
+less_read x y r a b f g h e p q = to_z-of_z h ∙ (e ∙ (λ i. (to_z-of_z f ∙ p) i -ℤ (to_z-of_z g ∙ q) i))
+
+-- a reading of areas, rounded down
+pub area_within : (y0 y1 p r d q : ℤ) → p +ℤ r ≡ d → pos 0 ≤ℤ p → pos 0 ≤ℤ r → pos 1 ≤ℤ d → pos 0 ≤ℤ y0 → pos 0 ≤ℤ y1 → unsigned_abs y0 ≤ 10 ^ 8 → unsigned_abs y1 ≤ 10 ^ 8
+    → (q *ℤ d) ≤ℤ ((y0 *ℤ p) +ℤ (y1 *ℤ r)) → ((y0 *ℤ p) +ℤ (y1 *ℤ r)) <ℤ ((q +ℤ pos 1) *ℤ d) → unsigned_abs q ≤ 10 ^ 8
+area_within y0 y1 p r d q e hp hr hd l0 l1 h0 h1 a b =
+    let u0 : y0 ≤ℤ pos (10 ^ 8) = omega (arith, signed_arith, one_part y0) in
+    let u1 : y1 ≤ℤ pos (10 ^ 8) = omega (arith, signed_arith, one_part y1) in
+    let low0 = times_order (pos 0) y0 p hp l0 in
+    let low1 = times_order (pos 0) y1 r hr l1 in
+    let up0 = times_order y0 (pos (10 ^ 8)) p hp u0 in
+    let up1 = times_order y1 (pos (10 ^ 8)) r hr u1 in
+    let least : pos 0 ≤ℤ ((y0 *ℤ p) +ℤ (y1 *ℤ r)) = omega (arith, signed_arith, low0, low1) in
+    let most : ((y0 *ℤ p) +ℤ (y1 *ℤ r)) ≤ℤ (pos (10 ^ 8) *ℤ d) = rw (sym e) (omega (arith, signed_arith, up0, up1)) in
+    let is = between ((y0 *ℤ p) +ℤ (y1 *ℤ r)) d (pos (10 ^ 8)) q hd least most a b in
+    omega (arith, signed_arith, is.0, is.1, one_part q)
+
+pub split : (a x b : ℤ) → (b -ℤ x) +ℤ (x -ℤ a) ≡ b -ℤ a
+split a x b = omega (arith, signed_arith)
+
+-- the next of running sums, written behind the first k
+pub set_next : (ns : List ℤ) (g : ℕ → ℤ) (k : ℕ) (v : ℤ) → k + 1 < length ns → ((n : ℕ) → n ≤ k → at ns n ≡ g n) → v ≡ g (k + 1) → (n : ℕ) → n ≤ k + 1 → at (set ns (k + 1) v) n ≡ g n
+set_next ns g k v inside done e n low = set_done ns g (k + 1) v inside (λ j less. done j (omega arith)) e n (omega arith)

@@ -1,0 +1,28 @@
+ghost use Rattle.std.specs.Prelude.{◌^◌};
+ghost use Rattle.units_core.specs.Interpolation.{IsWithin};
+
+/// The immersed areas at the stations.
+#[derive(Clone, Copy)]
+pub struct Areas {
+    /// The area in cm2 at each station, 0 at the places behind the last.
+    pub area: [i128; 64],
+    pub ghost within: { IsWithin (10 ^ 8) area },
+}
+
+/// The loads at the frames, and the closing error.
+#[derive(Clone, Copy)]
+pub struct Strains {
+    /// The shear forces and bending moments at the frames.
+    pub loads: Loads,
+    /// The buoyancy of all intervals between stations less the displacement, in kg.
+    pub closing: i128,
+}
+
+/// The loads at each frame, 0 at the places behind the last.
+#[derive(Clone, Copy)]
+pub struct Loads {
+    /// The weight aft of the frame less the buoyancy there, in kg.
+    pub shear: [i128; 16],
+    /// The moment of both about the frame, in kg mm, hogging positive.
+    pub bending: [i128; 16],
+}

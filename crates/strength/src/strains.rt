@@ -1,0 +1,85 @@
+ghost use Rattle.std.specs.Prelude.{◌≡◌, ℕ, ◌^◌, ◌≤◌, ◌-ℤ◌, unsigned_abs};
+ghost use Rattle.units_core.specs.Interpolation.{at};
+ghost use Rattle.moment_sums.specs.Bounded.{IsBounded};
+ghost use Rattle.moment_sums.specs.Kept.{values};
+ghost use Rattle.moment_sums.specs.Sum.{Weight};
+ghost use Rattle.hydrostat.specs.Floating.{load, water};
+ghost use Rattle.strength.specs.Hull.{IsHullOf};
+ghost use Rattle.strength.specs.Immersed.{areas_along};
+ghost use Rattle.strength.specs.Loads.{AreLoadsBy, AreLoadsOf, IsFloatingWith};
+ghost use Rattle.strength.specs.Strains.{bending_at, closing_of, shear_at};
+
+use crate::closing::closes;
+use crate::forces::{buoyancy, buoyancy_moment, running_arms, running_volumes};
+use crate::hulls::Hull;
+use crate::immersed::areas_aboard;
+use crate::loads::{Areas, Loads, Strains};
+use crate::stations::mm;
+use hydrostat::{Afloat, Floating, Outside};
+use moment_sums::Totals;
+use ship_profile::Profile;
+
+/// A difference.
+fn minus(one: i128, other: i128) -> i128
+    requires one { unsigned_abs one ≤ 10 ^ 30 }
+    requires other { unsigned_abs other ≤ 10 ^ 30 }
+    ensures { result ≡ one -ℤ other }
+{
+    one - other
+}
+
+/// The loads on the hull with this aboard, the areas of its sections as given.
+pub fn strains_of(profile: &Profile, hull: &Hull, totals: &Totals, areas: &Areas) -> Strains
+    requires of { IsHullOf hull.now profile.now.ship }
+    requires bounded { IsBounded (values totals.now) }
+    requires kg { unsigned_abs (values totals.now Weight) ≤ 10 ^ 9 }
+    ensures shear { (i : ℕ) → at result.loads.shear i ≡ shear_at (values totals.now) (at areas.now.area) profile.now.ship.stations profile.now.ship.frames i }
+    ensures bending { (i : ℕ) → at result.loads.bending i ≡ bending_at (values totals.now) (at areas.now.area) profile.now.ship.stations profile.now.ship.frames i }
+    ensures closing { result.closing ≡ closing_of (values totals.now) (at areas.now.area) profile.now.ship.stations }
+{
+    let intervals = profile.stations().len() - 1;
+    let frames = profile.frames().as_slice();
+    let volumes = running_volumes(hull.places(), &areas.area, intervals);
+    let arms = running_arms(hull.places(), &areas.area, intervals);
+    let mut shear = [0; 16];
+    let mut bending = [0; 16];
+    for i in 0..frames.len() {
+        let n = hull.intervals_aft(i);
+        let x = mm(frames[i].x);
+        let volume = volumes[n];
+        let arm = arms[n];
+        shear[i] = minus(totals.weight_aft(i), buoyancy(volume));
+        bending[i] = minus(totals.moment_aft(i), buoyancy_moment(x, volume, arm));
+    }
+    Strains {
+        loads: Loads { shear, bending },
+        closing: minus(buoyancy(volumes[intervals]), totals.kg()),
+    }
+}
+
+/// The loads on the hull of a ship afloat.
+fn loads_afloat(profile: &Profile, totals: &Totals, afloat: &Afloat) -> Result<Loads, Outside>
+    requires bounded { IsBounded (values totals.now) }
+    requires kg { unsigned_abs (values totals.now Weight) ≤ 10 ^ 9 }
+    ensures { AreLoadsBy result (values totals.now) (areas_along profile.now (water afloat.now) (load afloat.now) afloat.now.lbp) profile.now.ship }
+{
+    let Some(areas) = areas_aboard(profile, afloat, &mut 0) else {
+        return Err(Outside::Bonjean);
+    };
+    let strains = strains_of(profile, &Hull::new(profile), totals, &areas);
+    if closes(strains.closing, profile.closing_max()) {
+        Ok(strains.loads)
+    } else {
+        Err(Outside::Closing)
+    }
+}
+
+/// The loads on the hull with this aboard, and floating so; [`Outside::Bonjean`] where the draught at some station, rounded down, lies outside
+/// of the Bonjean table, [`Outside::Closing`] where buoyancy and displacement differ by more than the ship's limit.
+pub fn loads_of(profile: &Profile, totals: &Totals, floating: &Floating) -> Result<Loads, Outside>
+    requires bounded { IsBounded (values totals.now) }
+    requires floating { IsFloatingWith floating.now profile.now (values totals.now) }
+    ensures { AreLoadsOf result profile.now (values totals.now) }
+{
+    loads_afloat(profile, totals, &floating.afloat)
+}

@@ -1,0 +1,4 @@
+mod cargo;
+mod conditions;
+mod limits;
+mod ships;
