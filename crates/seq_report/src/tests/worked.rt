@@ -1,6 +1,6 @@
 //! Conditions of the box ship with some of her numbers changed, worked by hand or by a calculator of fractions that shares no code with
 //! this one.
-use super::{BONJEAN, EMPTY, HEADER, LEVERS, NO_MOVES, Run, TO_STARBOARD, written};
+use super::{BONJEAN, HEADER, IDLE, LEVERS, NO_MOVES, Run, TO_STARBOARD, written};
 use crate::codes::code;
 use crate::{Criterion, Summary};
 use std::alloc::Global;
@@ -77,18 +77,23 @@ fn ship(alloc: Global, row: &Row) -> Result<String, Fail> {
     )?)
 }
 
-/// The report on a row.
-fn check_row(rt: &(impl Abort + AllocGlobal), row: &Row) -> Result<(), Fail> {
-    let ship = ship(rt.alloc(), row)?;
-    let run = Run {
-        ship: ship.as_str(),
-        baplie: EMPTY,
+/// The texts of a row, with this `ship.toml`. A function of its own, since the borrow checker has no plan for one value that holds references of
+/// two lifetimes, those of a row and that of a local text.
+fn run_on<'a>(ship: &'a str, row: &Row) -> Run<'a> {
+    Run {
+        ship,
         movins: row.movins,
-        steps: None,
         kn: row.kn,
         bonjean: row.bonjean,
         gm: row.gm,
-    };
+        ..IDLE
+    }
+}
+
+/// The report on a row.
+fn check_row(rt: &(impl Abort + AllocGlobal), row: &Row) -> Result<(), Fail> {
+    let ship = ship(rt.alloc(), row)?;
+    let run = run_on(ship.as_str(), row);
     let lines = row.lines;
     let last = match row.first {
         Some((step, criterion)) => {
