@@ -1,15 +1,16 @@
--- A ratio against a fraction over another divisor; every frame in turn.
-use Rattle.std.proofs.Common.{◌≡◌, ◌∙◌, ℕ, suc, ◌+◌, ◌<◌, ℤ, pos, neg_ℤ, ◌*ℤ◌, ◌≤ℤ◌, ◌<ℤ◌, Bool, true, false, ◌&&◌, List, length, drop, get_or, sym, ap, arith}
+-- A ratio against a fraction over another divisor; an ordinate; every frame in turn.
+use Rattle.std.proofs.Common.{◌≡◌, ◌∙◌, ℕ, suc, ◌+◌, ◌<◌, ℤ, pos, neg_ℤ, ◌*ℤ◌, ◌≤ℤ◌, ◌<ℤ◌, Bool, true, false, ◌&&◌, List, length, drop, get_or, sym, ap, arith, Option, None, Some, IsSomeAnd, option_map}
 use Rattle.std.specs.Prelude.{int_le, int_lt}
 use borrow.Author.Differences.{true_is_lt, false_is_lt}
 use Rattle.std.proofs.lemmas.List.{drop_more}
 use Rattle.units_core.proofs.Signed.{signed_arith}
 use Rattle.units_core.proofs.Order.{cancel_order, times_order}
 use Rattle.units_core.proofs.Ring.{diff_of, diff_same, differences}
-use Rattle.units_core.specs.Ratio.{Ratio, ◌over◌, Is, is_no_more}
+use Rattle.units_core.specs.Ratio.{Ratio, ◌over◌, Is, floor_of, is_at_least, is_no_more}
 use Rattle.ship_profile.specs.declared.frames.Frame.{Frame}
 use Rattle.units_core.proofs.Decisions.{same_test, at_least_same, at_most_same}
-use Rattle.criteria.specs.Criteria.{every, is_within}
+use Rattle.criteria.specs.Criteria.{every, is_within, reaches_at}
+use Rattle.criteria.specs.Printed.{IsFigure}
 
 move : (t d g : ℤ) → (t *ℤ d) *ℤ g ≡ (t *ℤ g) *ℤ d
 move t d g = rw (diff_of t, diff_of d, diff_of g) (simp differences (diff_same _ _ _ _ (omega arith)))
@@ -39,3 +40,12 @@ every_stops p fs i d all inside so_far here =
 
 pub within_same : (n d : ℤ) (r : Ratio) (m : ℤ) → Is n d r → is_within (n over d) m ≡ is_within r m
 within_same n d r m p = λ i. at_least_same n d r (neg_ℤ m) p i && at_most_same n d r m p i
+
+-- what is told of a fraction that is an ordinate, told of the ordinate
+pub ordinate_reaches : (n e : ℤ) (y : ℕ → Ratio) (limit : ℤ) (o : Option ℕ) → IsSomeAnd o (λ k. Is n e (y k)) → is_at_least (n over e) limit ≡ reaches_at y limit o
+ordinate_reaches n e y limit None p = absurd p
+ordinate_reaches n e y limit (Some k) p = at_least_same n e (y k) limit p
+
+pub ordinate_down : (q n e : ℤ) (y : ℕ → Ratio) (o : Option ℕ) → IsFigure q n e → IsSomeAnd o (λ k. Is n e (y k)) → Some q ≡ option_map (λ k. floor_of (y k)) o
+ordinate_down q n e y None f p = absurd p
+ordinate_down q n e y (Some k) f p = ap (λ (z : ℤ). Some z) (f (y k) p)

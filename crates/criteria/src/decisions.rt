@@ -8,7 +8,7 @@ use hydrostat::{Afloat, draught, gm_of, list_of, trim_of};
 use units_core::Frac;
 
 /// Both hold.
-pub fn both(a: bool, b: bool) -> bool
+fn both(a: bool, b: bool) -> bool
     ensures { result ≡ (a && b) }
 {
     a && b
@@ -102,7 +102,8 @@ fn is_no_more(one: Frac, other: Frac) -> bool
 /// Whether the metacentric height is no less than the limit, where there is one.
 pub fn least_holds(a: &Afloat, least: Option<Frac>) -> bool
     requires { IsLeast least }
-    ensures { result ≡ least_holds (option_map (λ f. f.num over f.den) least) (gm (water a.now) (load a.now)) }
+    ensures { result
+        ≡ least_holds (option_map (λ f. f.num over f.den) least) (gm (water a.now) (load a.now)) }
 {
     match least {
         Some(least) => is_no_more(least, gm_of(a)),

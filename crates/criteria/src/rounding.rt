@@ -3,8 +3,8 @@ ghost use Rattle.units_core.specs.Ratio.{floor_of};
 ghost use Rattle.hydrostat.specs.Floating.{draught_at, gm, load, trim, water};
 ghost use Rattle.criteria.specs.Printed.{IsAngle, IsAreaDown, IsAreaFigure, IsFigure, IsLeverDown, list_down};
 
-use hydrostat::{Afloat, draught, gm_of, list_of, trim_of};
-use righting::{Levers, area_over_pairs, best_number_from_30, greatest_number};
+use hydrostat::{Afloat, draught, gm_of, list_of, mean_of, trim_of};
+use righting::{Levers, area_over_pairs, best_from_30, greatest_number};
 use units_core::{Frac, floor};
 
 /// A figure, rounded down.
@@ -37,10 +37,7 @@ pub fn gm_down(a: &Afloat) -> i128
 pub fn mean_down(a: &Afloat) -> i128
     ensures { result ≡ floor_of (water a.now).draught }
 {
-    floor(Frac {
-        num: a.draught,
-        den: a.gap,
-    })
+    figure(mean_of(a))
 }
 
 /// The draught at `x`.
@@ -80,11 +77,7 @@ pub fn area_down(levers: &Levers, from: usize, pairs: usize) -> i128
 pub fn lever_down(levers: &Levers) -> i128
     ensures { IsLeverDown result levers.now }
 {
-    let best = best_number_from_30(levers);
-    floor(Frac {
-        num: levers.num[best],
-        den: levers.den,
-    })
+    figure(best_from_30(levers))
 }
 
 /// The least angle that carries the greatest lever, in degrees.

@@ -11,7 +11,7 @@ mod loads;
 mod stations;
 mod strains;
 
-pub use closing::closes;
+pub use closing::{closes, is_between};
 pub use hulls::Hull;
 pub use immersed::areas_aboard;
 pub use loads::{Areas, Loads, Strains};

@@ -1,5 +1,5 @@
-//! The limit of the closing error.
-use crate::closes;
+//! The limits of a load, each at its end and one beyond.
+use crate::{closes, is_between};
 
 #[test]
 fn closes_either_way(rt: HostRuntime) {
@@ -10,5 +10,12 @@ fn closes_either_way(rt: HostRuntime) {
         (-5_001, false),
     ] {
         assert_eq!(rt; closes(error, 5_000), within, "at {error}");
+    }
+}
+
+#[test]
+fn between_limits(rt: HostRuntime) {
+    for (load, within) in [(700, true), (701, false), (-300, true), (-301, false)] {
+        assert_eq!(rt; is_between(load, 300, 700), within, "at {load}");
     }
 }

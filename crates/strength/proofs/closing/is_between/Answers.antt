@@ -1,7 +1,7 @@
 use Rattle.std.proofs.Common.{rules, ◌∙◌, ◌&&◌, FitsSigned, to_z-of_z}
 use Rattle.std.specs.Prelude.{int_le}
 use Rattle.std.specs.Int.{w128}
-use Rattle.criteria.proofs.frames.is_between.Goals as goal
+use Rattle.strength.proofs.closing.is_between.Goals as goal
 
 pub returns : goal.returns
 returns c =
