@@ -9,7 +9,8 @@ use Rattle.ship_profile.specs.declared.faults.Key.{Key}
 use Rattle.ship_profile.specs.declared.faults.ProfileFault.{ProfileFault}
 use Rattle.ship_profile.specs.declared.faults.ProfileFault.TheVariants.{OutOfLimits, TooFewRows}
 use Rattle.ship_profile.specs.Keys.{items_in, elements_of}
-use Rattle.ship_profile.specs.Outcome.{◌>>=◌, demand, one_by_one}
+use Rattle.units_core.specs.Outcome.{◌>>=◌, demand}
+use Rattle.ship_profile.specs.Outcome.{one_by_one}
 use Rattle.ship_profile.proofs.KeyLemmas.{items_length}
 
 module _ {A : Type 0} (key : Key) (least most : ℕ) (next : List A → Data → Result A ProfileFault) (d : Data) (vs : List Value) (array : Some (items_view vs) ≡ as_array d) where

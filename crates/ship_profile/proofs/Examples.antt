@@ -5,7 +5,7 @@ use Rattle.toml.specs.Parse.{parse_document}
 use Rattle.ship_profile.specs.declared.faults.File.TheVariants as file
 use Rattle.ship_profile.specs.declared.faults.Key.TheVariants as key
 use Rattle.ship_profile.specs.declared.faults.ProfileFault.TheVariants.{BadToml, MissingKey, NotRising, FrameNotStation, OutsideStations, Downflooding, TooFewRows}
-use Rattle.ship_profile.specs.Outcome.{◌>>=◌, or_fault}
+use Rattle.units_core.specs.Outcome.{◌>>=◌, or_fault}
 use Rattle.ship_profile.specs.Ship.{ship_of, stations_of, blocks_of, frames_of, named_fills_of}
 
 -- no document, and one without keys

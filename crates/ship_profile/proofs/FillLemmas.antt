@@ -7,11 +7,12 @@ use Rattle.ship_tables.specs.Record.{Tank, TablesRecord, tank_of}
 use Rattle.ship_profile.specs.declared.faults.Key.TheVariants as key
 use Rattle.ship_profile.specs.declared.faults.ProfileFault.TheVariants.{BadKey, UnknownTank}
 use Rattle.ship_profile.specs.declared.fills.TankFill.{TankFill}
-use Rattle.ship_profile.specs.Outcome.{or_fault}
+use Rattle.units_core.specs.Outcome.{or_fault}
 use Rattle.ship_profile.specs.Record.{is_filled, fill_in, fills_in, IsFill, AreFills}
 use Rattle.ship_profile.specs.Ship.{NamedFill, IsNamedFill, AreNamedFills}
 use Rattle.ship_profile.proofs.ListLemmas.{all-push, each_at, all_by, distinct-push}
-use Rattle.ship_profile.proofs.OutcomeLemmas.{went_on, was_there, passed, one_by_one-keeps, one_by_one-length}
+use Rattle.units_core.proofs.OutcomeLemmas.{went_on, was_there, passed}
+use Rattle.ship_profile.proofs.OutcomeLemmas.{one_by_one-keeps, one_by_one-length}
 
 no_tank : Tank
 no_tank = record { name = []; rows = record { kg = []; x = []; y = []; z = []; half = []; fsm = [] } }

@@ -18,10 +18,12 @@ use Rattle.ship_profile.specs.declared.faults.ProfileFault.{ProfileFault}
 use Rattle.ship_profile.specs.declared.faults.ProfileFault.TheVariants.{MissingKey, BadKey, OutOfLimits, NotRising, FrameNotStation, OutsideStations, TooFewRows}
 use Rattle.ship_profile.specs.declared.frames.Frame.{Frame}
 use Rattle.ship_profile.specs.Keys.{items_in, name_of, number_of, number_in_table, length_in_table, text_in_table, table_of, elements_of, elements_at, optional_of}
-use Rattle.ship_profile.specs.Outcome.{or_fault, demand, within, one_by_one}
+use Rattle.units_core.specs.Outcome.{or_fault, demand, within}
+use Rattle.ship_profile.specs.Outcome.{one_by_one}
 use Rattle.ship_profile.specs.Ship.{is_above, last_of, is_one_of, station_of, stations_of, block_in, block_of, blocks_of, frame_in, frame_of, frames_of, NamedFill, named_fill_of, AreStations, IsBlock, AreBlocks, IsFrame, AreFrames, IsNamedFill, AreNamedFills}
 use Rattle.ship_profile.proofs.ListLemmas.{all-push, each_at, all_of, rising-push, last-map, size, sizes_within, one_of}
-use Rattle.ship_profile.proofs.OutcomeLemmas.{went_on, same_ok, passed, within-limits, one_by_one-keeps, one_by_one-length}
+use Rattle.units_core.proofs.OutcomeLemmas.{went_on, same_ok, passed, within-limits}
+use Rattle.ship_profile.proofs.OutcomeLemmas.{one_by_one-keeps, one_by_one-length}
 
 number_of-limits : (key : Key) (low high : ℤ) (d : Data) (z : ℤ) → number_of key low high d ≡ Ok z → (low ≤ℤ z) × (z ≤ℤ high)
 number_of-limits key low high d z e =

@@ -1,40 +1,10 @@
--- Results that stop at the first fault: what follows from one that went on.
-use Rattle.std.proofs.Common.{◌≡◌, ◌+◌, Bool, true, false, ◌&&◌, ℤ, ◌≤ℤ◌, int_le, List, [], ◌∷◌, ◌++◌, length, length-append, Option, None, Some, Result, Ok, Err, IfOk, refl, arith}
-use Rattle.std.proofs.lemmas.Bool.{and_parts}
-use Rattle.std.proofs.lemmas.Int.{ints}
+-- What is made one by one, each after those before it.
+use Rattle.std.proofs.Common.{◌≡◌, ◌+◌, List, [], ◌∷◌, ◌++◌, length, length-append, Result, Ok, arith}
 use Rattle.std.specs.List.{AllByRecursion}
+use Rattle.units_core.proofs.OutcomeLemmas.{went_on, same_ok}
+use Rattle.units_core.specs.Outcome.{◌>>=◌}
 use Rattle.ship_profile.specs.declared.faults.ProfileFault.{ProfileFault}
-use Rattle.ship_profile.specs.Outcome.{◌>>=◌, or_fault, demand, within, one_by_one}
-
--- a result that went on
-pub went_on : {A B : Type 0} (r : Result A ProfileFault) (f : A → Result B ProfileFault) (b : B) → r >>= f ≡ Ok b → (a : A) × (r ≡ Ok a) × (f a ≡ Ok b)
-went_on (Ok a) f b e = (a, refl, e)
-went_on (Err x) f b e = cc
-
-pub same_ok : {A : Type 0} (a b : A) → ◌≡◌ {A = Result A ProfileFault} (Ok a) (Ok b) → a ≡ b
-same_ok a b e = cc
-
--- what was there
-pub was_there : {A : Type 0} (x : ProfileFault) (o : Option A) (a : A) → or_fault x o ≡ Ok a → o ≡ Some a
-was_there x None a e = cc
-was_there x (Some b) a e = cc
-
--- a test that was passed
-pub passed : {A : Type 0} (x : ProfileFault) (t : Bool) (a b : A) → demand x t a ≡ Ok b → (t ≡ true) × (a ≡ b)
-passed x true a b e = (refl, cc)
-passed x false a b e = cc
-
--- a number within its limits
-pub within-limits : (x : ProfileFault) (low high z y : ℤ) → within x low high z ≡ Ok y → (z ≡ y) × (low ≤ℤ y) × (y ≤ℤ high)
-within-limits x low high z y e =
-    let p = passed x (int_le low z && int_le z high) z y e in
-    let parts = and_parts (int_le low z) (int_le z high) p.0 in
-    (p.1, rw (← p.1) (grind (arith, ints, parts)), rw (← p.1) (grind (arith, ints, parts)))
-
--- what follows from what was read
-pub lift_ok : {T E : Type 0} {P Q : T → Type 0} (r : Result T E) → IfOk r P → ((v : T) → P v → Q v) → IfOk r Q
-lift_ok (Ok v) p f = f v p
-lift_ok (Err e) p f = tt
+use Rattle.ship_profile.specs.Outcome.{one_by_one}
 
 module _ {A B : Type 0} (next : List B → A → Result B ProfileFault) where
   -- what holds of those that are done, and is kept by each further one of which Q holds, holds of all

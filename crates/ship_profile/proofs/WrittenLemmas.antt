@@ -17,12 +17,13 @@ use Rattle.ship_profile.specs.declared.faults.ProfileFault.TheVariants.{BadToml,
 use Rattle.ship_profile.specs.declared.fills.TankFill.{TankFill}
 use Rattle.ship_profile.specs.declared.frames.Frame.{Frame}
 use Rattle.ship_profile.specs.Keys.{document_of, document_in, items_in, name_of, number_of, number_in_table, length_in_table, text_in_table, table_of, number_at, elements_of, elements_at, optional_of}
-use Rattle.ship_profile.specs.Outcome.{or_fault, demand, within, one_by_one}
+use Rattle.units_core.specs.Outcome.{or_fault, demand, within}
+use Rattle.ship_profile.specs.Outcome.{one_by_one}
 use Rattle.ship_profile.specs.Record.{Texts, ProfileRecord, from_tables, tables_in, is_filled, fill_in, fills_in}
 use Rattle.ship_profile.specs.Ship.{ShipRecord, extent_of, is_above, last_of, is_one_of, station_of, stations_of, block_in, block_of, blocks_of, frame_in, frame_of, frames_of, downflooding_of, ship_of, NamedFill, named_fill_of, named_fills_of}
 use Rattle.ship_profile.specs.Written.{HasNumber, Pairwise, HasArray, IsNumber, IsBlockTable, IsFrameTable, IsFillTable, IsShipOf, AreFillsAt, IsFillOf, IsWritten}
 use Rattle.ship_profile.proofs.MeaningLemmas.{number-limits}
-use Rattle.ship_profile.proofs.OutcomeLemmas.{went_on, same_ok, was_there, passed, within-limits}
+use Rattle.units_core.proofs.OutcomeLemmas.{went_on, same_ok, was_there, passed, within-limits}
 
 is_integer : (d : Data) (z : ℤ) → as_integer d ≡ Some z → d ≡ integer z
 is_integer (integer y) z e = cc

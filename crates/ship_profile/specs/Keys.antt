@@ -8,7 +8,8 @@ use Rattle.ship_profile.specs.declared.faults.Key.{Key}
 use Rattle.ship_profile.specs.declared.faults.Key.TheVariants as key
 use Rattle.ship_profile.specs.declared.faults.ProfileFault.{ProfileFault}
 use Rattle.ship_profile.specs.declared.faults.ProfileFault.TheVariants.{BadToml, MissingKey, BadKey, OutOfLimits, TooFewRows}
-use Rattle.ship_profile.specs.Outcome.{◌>>=◌, or_fault, demand, within, one_by_one}
+use Rattle.units_core.specs.Outcome.{◌>>=◌, or_fault, demand, within}
+use Rattle.ship_profile.specs.Outcome.{one_by_one}
 
 -- a key as it is written
 abbrev pub name_of : Key → List ℕ

@@ -14,7 +14,8 @@ use Rattle.ship_profile.specs.declared.faults.ProfileFault.TheVariants as fault
 use Rattle.ship_profile.specs.declared.fills.TankFill.{TankFill}
 use Rattle.ship_profile.specs.declared.profiles.ProfileBytes.{ProfileBytes}
 use Rattle.ship_profile.specs.Keys.{document_in}
-use Rattle.ship_profile.specs.Outcome.{◌>>=◌, or_fault, demand, one_by_one}
+use Rattle.units_core.specs.Outcome.{◌>>=◌, or_fault, demand}
+use Rattle.ship_profile.specs.Outcome.{one_by_one}
 use Rattle.ship_profile.specs.TableFaults.{as_profile_fault}
 use Rattle.ship_profile.specs.Ship.{ShipRecord, ship_of, IsSoundShip, extent_of, NamedFill, named_fills_of}
 

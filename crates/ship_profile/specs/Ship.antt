@@ -15,7 +15,7 @@ use Rattle.ship_profile.specs.declared.faults.ProfileFault.{ProfileFault}
 use Rattle.ship_profile.specs.declared.faults.ProfileFault.TheVariants.{NotRising, FrameNotStation, OutsideStations, Downflooding}
 use Rattle.ship_profile.specs.declared.frames.Frame.{Frame}
 use Rattle.ship_profile.specs.Keys.{number_of, number_in_table, length_in_table, text_in_table, table_of, number_at, elements_at, optional_of, name_of}
-use Rattle.ship_profile.specs.Outcome.{◌>>=◌, demand}
+use Rattle.units_core.specs.Outcome.{◌>>=◌, demand}
 
 -- from the first station to the last
 abbrev pub extent_of : List ℤ → Extent

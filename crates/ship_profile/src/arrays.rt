@@ -26,7 +26,8 @@ pub trait Element {
     ) -> Result<Self::Item, ProfileFault>
         requires { length before.now < 200 }
         ensures ok { IfOk result (λ x. next self.now before.now (view value.now) ≡ Ok x) }
-        ensures refused { IfErr result (λ e. e ≢ ProfileFault.NoMemory → next self.now before.now (view value.now) ≡ Err e) };
+        ensures refused { IfErr result
+            (λ e. e ≢ ProfileFault.NoMemory → next self.now before.now (view value.now) ≡ Err e) };
 }
 
 /// What each value stands for.
@@ -36,8 +37,10 @@ fn read_each<E: Element>(
     values: &[Value],
 ) -> Result<Vec<E::Item>, ProfileFault>
     requires { length values.now ≤ 200 }
-    ensures ok { IfOk result (λ v. one_by_one (E.next element.now) [] (items_in (items_view values.now)) ≡ Ok v.items) }
-    ensures refused { IfErr result (λ e. e ≢ ProfileFault.NoMemory → one_by_one (E.next element.now) [] (items_in (items_view values.now)) ≡ Err e) }
+    ensures ok { IfOk result
+        (λ v. one_by_one (E.next element.now) [] (items_in (items_view values.now)) ≡ Ok v.items) }
+    ensures refused { IfErr result (λ e. e ≢ ProfileFault.NoMemory
+        → one_by_one (E.next element.now) [] (items_in (items_view values.now)) ≡ Err e) }
 {
     let mut items = Vec::new(alloc);
     for value in values {
@@ -59,8 +62,10 @@ pub fn read_elements<E: Element>(
     value: &Value,
 ) -> Result<Vec<E::Item>, ProfileFault>
     requires { most ≤ 200 }
-    ensures ok { IfOk result (λ v. elements_of key least most (E.next element.now) (view value.now) ≡ Ok v.items) }
-    ensures refused { IfErr result (λ e. e ≢ ProfileFault.NoMemory → elements_of key least most (E.next element.now) (view value.now) ≡ Err e) }
+    ensures ok { IfOk result
+        (λ v. elements_of key least most (E.next element.now) (view value.now) ≡ Ok v.items) }
+    ensures refused { IfErr result (λ e. e ≢ ProfileFault.NoMemory
+        → elements_of key least most (E.next element.now) (view value.now) ≡ Err e) }
 {
     let array = match value.as_array() {
         Some(array) => array,
@@ -86,8 +91,10 @@ pub fn elements_at<E: Element>(
     table: &Table,
 ) -> Result<Vec<E::Item>, ProfileFault>
     requires { most ≤ 200 }
-    ensures ok { IfOk result (λ v. elements_at key least most (E.next element.now) (table_view table.now) ≡ Ok v.items) }
-    ensures refused { IfErr result (λ e. e ≢ ProfileFault.NoMemory → elements_at key least most (E.next element.now) (table_view table.now) ≡ Err e) }
+    ensures ok { IfOk result
+        (λ v. elements_at key least most (E.next element.now) (table_view table.now) ≡ Ok v.items) }
+    ensures refused { IfErr result (λ e. e ≢ ProfileFault.NoMemory
+        → elements_at key least most (E.next element.now) (table_view table.now) ≡ Err e) }
 {
     match value_at(table, key.name()) {
         Some(value) => read_elements(alloc, element, key, least, most, value),

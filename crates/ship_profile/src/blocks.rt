@@ -53,7 +53,8 @@ impl Element for BlockRule {
 /// The blocks of a document.
 pub fn read_blocks(alloc: Global, extent: Extent, table: &Table) -> Result<Vec<Body>, ProfileFault>
     ensures ok { IfOk result (λ v. blocks_of extent (table_view table.now) ≡ Ok v.items) }
-    ensures refused { IfErr result (λ e. e ≢ ProfileFault.NoMemory → blocks_of extent (table_view table.now) ≡ Err e) }
+    ensures refused { IfErr result
+        (λ e. e ≢ ProfileFault.NoMemory → blocks_of extent (table_view table.now) ≡ Err e) }
     ensures meaning { IfOk result (λ v. AreBlocks extent v.items) }
 {
     elements_at(alloc, &BlockRule { extent }, Key::Blocks, 1, 200, table)

@@ -73,7 +73,8 @@ impl Element for FillRule {
 /// The fills of a document.
 pub fn read_fills(alloc: Global, table: &Table) -> Result<Vec<NamedFill>, ProfileFault>
     ensures ok { IfOk result (λ v. named_fills_of (table_view table.now) ≡ Ok v.items) }
-    ensures refused { IfErr result (λ e. e ≢ ProfileFault.NoMemory → named_fills_of (table_view table.now) ≡ Err e) }
+    ensures refused { IfErr result
+        (λ e. e ≢ ProfileFault.NoMemory → named_fills_of (table_view table.now) ≡ Err e) }
     ensures meaning { IfOk result (λ v. AreNamedFills v.items) }
 {
     match value_at(table, Key::Fills.name()) {
@@ -126,7 +127,8 @@ pub fn fill_tanks(
 ) -> Result<Vec<TankFill>, ProfileFault>
     requires { AreNamedFills named.now }
     ensures ok { IfOk result (λ v. fills_in tables.now named.now ≡ Ok v.items) }
-    ensures refused { IfErr result (λ e. e ≢ ProfileFault.NoMemory → fills_in tables.now named.now ≡ Err e) }
+    ensures refused { IfErr result
+        (λ e. e ≢ ProfileFault.NoMemory → fills_in tables.now named.now ≡ Err e) }
     ensures meaning { IfOk result (λ v. AreFills tables.now v.items) }
 {
     let mut fills = Vec::new(alloc);

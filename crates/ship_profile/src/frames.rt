@@ -106,7 +106,8 @@ impl<'a> Element for FrameRule<'a> {
 /// The frames of a document.
 pub fn read_frames(alloc: Global, stations: &[Mm], table: &Table) -> Result<Frames, ProfileFault>
     ensures ok { IfOk result (λ f. frames_of stations.now (table_view table.now) ≡ Ok f) }
-    ensures refused { IfErr result (λ e. e ≢ ProfileFault.NoMemory → frames_of stations.now (table_view table.now) ≡ Err e) }
+    ensures refused { IfErr result
+        (λ e. e ≢ ProfileFault.NoMemory → frames_of stations.now (table_view table.now) ≡ Err e) }
     ensures meaning { IfOk result (λ f. AreFrames stations.now f) }
 {
     let frames = elements_at(alloc, &FrameRule { stations }, Key::Frames, 1, 16, table)?;

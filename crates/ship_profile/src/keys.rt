@@ -78,7 +78,8 @@ pub fn length_in_table(table: &Table, key: Key, name: &str) -> Result<Mm, Profil
 /// The text at a name; a fault names the key of the table's array.
 pub fn text_in_table<'a>(table: &'a Table, key: Key, name: &str) -> Result<&'a str, ProfileFault>
     ensures ok { IfOk result (λ s. text_in_table key name.now (table_view table.now) ≡ Ok s.now) }
-    ensures refused { IfErr result (λ e. text_in_table key name.now (table_view table.now) ≡ Err e) }
+    ensures refused { IfErr result
+        (λ e. text_in_table key name.now (table_view table.now) ≡ Err e) }
 {
     let value = match value_at(table, name) {
         Some(value) => value,

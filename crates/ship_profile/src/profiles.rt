@@ -55,8 +55,10 @@ impl Model for Profile {
 fn read_tables(alloc: Global, ship: &Ship, bytes: &ProfileBytes<'_>) -> Result<Tables, ProfileFault>
     requires { IsSoundShip ship.now }
     ensures ok { IfOk result (λ t. tables_in ship.now (texts_of bytes.now).tables ≡ Ok t) }
-    ensures refused { IfErr result (λ e. e ≢ ProfileFault.NoMemory → tables_in ship.now (texts_of bytes.now).tables ≡ Err e) }
-    ensures meaning { IfOk result (λ t. AreTables (extent_of ship.now.stations) (length ship.now.stations) t) }
+    ensures refused { IfErr result
+        (λ e. e ≢ ProfileFault.NoMemory → tables_in ship.now (texts_of bytes.now).tables ≡ Err e) }
+    ensures meaning { IfOk result
+        (λ t. AreTables (extent_of ship.now.stations) (length ship.now.stations) t) }
 {
     let stations = ship.stations.as_slice();
     let texts = TableTexts {
@@ -78,7 +80,8 @@ impl Profile {
     /// Only this takes memory; where it is refused the answer is [`ProfileFault::NoMemory`].
     pub fn read(alloc: Global, bytes: &ProfileBytes<'_>) -> Result<Profile, ProfileFault>
         ensures ok { IfOk result (λ p. record_of (texts_of bytes.now) ≡ Ok p) }
-        ensures refused { IfErr result (λ e. e ≢ ProfileFault.NoMemory → record_of (texts_of bytes.now) ≡ Err e) }
+        ensures refused { IfErr result
+            (λ e. e ≢ ProfileFault.NoMemory → record_of (texts_of bytes.now) ≡ Err e) }
         ensures meaning { IfOk result (λ p. IsSound p) }
         ensures written { IfOk result (λ p. IsWritten (texts_of bytes.now) p) }
     {

@@ -62,7 +62,8 @@ pub fn extent_of(stations: &[Mm]) -> Extent
 /// The ship of a document.
 pub fn read_ship(alloc: Global, table: &Table) -> Result<Ship, ProfileFault>
     ensures ok { IfOk result (λ s. ship_of (table_view table.now) ≡ Ok s) }
-    ensures refused { IfErr result (λ e. e ≢ ProfileFault.NoMemory → ship_of (table_view table.now) ≡ Err e) }
+    ensures refused { IfErr result
+        (λ e. e ≢ ProfileFault.NoMemory → ship_of (table_view table.now) ≡ Err e) }
     ensures meaning { IfOk result (λ s. IsSoundShip s) }
 {
     let lbp = length_at(table, Key::Lbp, 1, MAX_MM)?;

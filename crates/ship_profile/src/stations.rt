@@ -44,7 +44,8 @@ impl Element for StationRule {
 /// The stations of a document.
 pub fn read_stations(alloc: Global, table: &Table) -> Result<Vec<Mm>, ProfileFault>
     ensures ok { IfOk result (λ v. stations_of (table_view table.now) ≡ Ok v.items) }
-    ensures refused { IfErr result (λ e. e ≢ ProfileFault.NoMemory → stations_of (table_view table.now) ≡ Err e) }
+    ensures refused { IfErr result
+        (λ e. e ≢ ProfileFault.NoMemory → stations_of (table_view table.now) ≡ Err e) }
     ensures meaning { IfOk result (λ v. AreStations v.items) }
 {
     elements_at(

@@ -1,5 +1,6 @@
 pub mod CurveLemmas
 pub mod Examples
+pub mod FileLemmas
 pub mod MeaningLemmas
 pub mod NameLemmas
 pub mod OutcomeLemmas

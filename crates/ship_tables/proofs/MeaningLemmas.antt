@@ -1,5 +1,5 @@
 -- What the tables of a ship keep, by what the rows of their files keep.
-use Rattle.std.proofs.Common.{◌≡◌, ◌∙◌, ℕ, zero, suc, ◌+◌, ◌<◌, ◌≤◌, nat_lt, true, ℤ, pos, neg_ℤ, ◌≤ℤ◌, List, [], ◌∷◌, length, map, zip, slice_get, replicate, All, Option, None, Some, Result, Ok, Err, IfSome, refl, ap, sym, arith, inl, inr, unsigned_abs}
+use Rattle.std.proofs.Common.{◌≡◌, ◌∙◌, ℕ, zero, suc, ◌+◌, ◌<◌, ◌≤◌, nat_lt, true, ℤ, pos, neg_ℤ, ◌≤ℤ◌, List, [], ◌∷◌, length, map, zip, slice_get, replicate, All, Option, None, Some, Ok, Err, IfSome, refl, ap, sym, arith, inl, inr, unsigned_abs}
 use Rattle.std.proofs.lemmas.Bool.{cases_Bool}
 use Rattle.std.proofs.lemmas.Bool.Decides.{nat_tests}
 use Rattle.std.proofs.lemmas.Int.{ints}
@@ -22,13 +22,11 @@ use Rattle.ship_tables.specs.declared.layouts.Stands.{Stands}
 use Rattle.ship_tables.specs.Extents.{encloses, holds}
 use Rattle.ship_tables.specs.Tables.{Form, Read, Row, number_at, cells_in, table_name, tables_read, file_in}
 use Rattle.ship_tables.specs.Record.{length_column, size_column, cells_form, hydro_form, levers_form, bonjean_form, tanks_form, least_gm_form, place_at, places_in, numbers_of, hydro_table, hydro_in, columns_from, curve_table, curves_in, tank_table, tank_at, tanks_in, least_gm_in, HydroTable, CurveTable, Tank, TablesRecord, Texts, IsAtLeast, IsHydroTable, IsCurve, AreCurves, IsLeverTable, IsBonjeanTable, IsLeastGmTable, IsTankTable, IsTank, IsPlace, StandsWithin, IsSound, tables_of}
-use Rattle.ship_tables.proofs.SoundLemmas.{IsField, IsRow, IsRows, IsFile, StandsIn, went_on, file_in-sound, several-sound}
-
-pub same_ok : {A : Type 0} (a b : A) → ◌≡◌ {A = Result A TableFault} (Ok a) (Ok b) → a ≡ b
-same_ok a b e = cc
+use Rattle.units_core.proofs.OutcomeLemmas.{went_on, same_ok}
+use Rattle.ship_tables.proofs.SoundLemmas.{InColumn, IsRow, IsRows, IsFile, StandsIn, file_in-sound, several-sound}
 
 -- a number of a column's limits
-field-within : (c : Column) (f : Field) (low high : ℤ) → IsField c f → c ≡ column.Number low high → (low ≤ℤ number_at (f ∷ []) 0) × (number_at (f ∷ []) 0 ≤ℤ high)
+field-within : (c : Column) (f : Field) (low high : ℤ) → InColumn c f → c ≡ column.Number low high → (low ≤ℤ number_at (f ∷ []) 0) × (number_at (f ∷ []) 0 ≤ℤ high)
 field-within column.Cell f low high h e = cc
 field-within column.Name f low high h e = cc
 field-within (column.Number l u) (field.Cell c) low high h e = absurd h
@@ -277,7 +275,7 @@ pub places-sound : (extent : Extent) (r : Read) → IsFile (cells_form extent) r
 places-sound extent r t = each_at (λ row. IsPlace (place_at row)) r.rows (rows_placed extent r.rows t.kept.rows.each)
 
 -- each row of `cells.csv` has a cell
-cells-length : (cs : List Column) (rows : List Row) → AllByRecursion (IsRow (column.Cell ∷ cs)) rows → length (cells_in rows) ≡ length rows
+pub cells-length : (cs : List Column) (rows : List Row) → AllByRecursion (IsRow (column.Cell ∷ cs)) rows → length (cells_in rows) ≡ length rows
 cells-length cs [] h = refl
 cells-length cs ([] ∷ rows) h = absurd h.0
 cells-length cs ((field.Number z ∷ fs) ∷ rows) h = absurd h.0.0

@@ -1,9 +1,10 @@
 -- What each of some items gives, one item at a time.
-use Rattle.std.proofs.Common.{◌≡◌, ◌∙◌, ℕ, ◌+◌, ◌<◌, List, [], ◌∷◌, ◌++◌, zero, suc, length, drop, get_or, zip, option_map, IsSome, Bor, add-one, Option, Some, None, Result, Ok, Err, IfOk, IfErr, refl, ap, sym, append_assoc, arith}
+use Rattle.std.proofs.Common.{◌≡◌, ◌∙◌, ℕ, ◌+◌, ◌<◌, List, [], ◌∷◌, ◌++◌, zero, suc, length, drop, get_or, zip, option_map, IsSome, Bor, add-one, Option, Some, None, Result, Ok, Err, refl, ap, sym, append_assoc, arith}
 use Rattle.std.proofs.lemmas.List.{append-nil}
 use Rattle.csv.specs.Records.{field_at}
 use Rattle.ship_tables.specs.declared.faults.TableFault.{TableFault}
-use Rattle.ship_tables.specs.Outcome.{◌>>=◌, each, in_turn}
+use Rattle.units_core.specs.Outcome.{◌>>=◌}
+use Rattle.ship_tables.specs.Outcome.{each, in_turn}
 
 module _ {B : Type 0} where
   -- what comes after those that are done
@@ -65,11 +66,3 @@ field_there (y ∷ ys) (suc i) o h e = field_there ys i o (omega arith) e
 
 pub field_is : (f : Option (List ℕ)) (o : Option (Bor (List ℕ))) (b : Bor (List ℕ)) → option_map (λ s. s.now) o ≡ f → o ≡ Some b → f ≡ Some b.now
 field_is f o b e is = sym e ∙ ap (option_map (λ (s : Bor (List ℕ)). s.now)) is
-
-pub lift_ok : {T E : Type 0} {P Q : T → Type 0} (r : Result T E) → IfOk r P → ((v : T) → P v → Q v) → IfOk r Q
-lift_ok (Ok v) p f = f v p
-lift_ok (Err e) p f = tt
-
-pub lift_err : {T E : Type 0} {P Q : E → Type 0} (r : Result T E) → IfErr r P → ((e : E) → P e → Q e) → IfErr r Q
-lift_err (Ok v) p f = tt
-lift_err (Err e) p f = f e p

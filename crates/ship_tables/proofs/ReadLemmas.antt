@@ -14,7 +14,8 @@ use Rattle.ship_tables.specs.declared.faults.TableFault.{TableFault}
 use Rattle.ship_tables.specs.declared.faults.TableFault.TheVariants.{BadCsv}
 use Rattle.ship_tables.specs.declared.layouts.Rule.{Rule}
 use Rattle.ship_tables.specs.declared.layouts.Rule.TheVariants as rule
-use Rattle.ship_tables.specs.Outcome.{in_turn, first_fault}
+use Rattle.std.specs.Option.{option_or}
+use Rattle.ship_tables.specs.Outcome.{in_turn}
 use Rattle.ship_tables.specs.Gathering.{seen_by, remembered, names_by}
 use Rattle.ship_tables.specs.Tables.{Form, Read, heading_read, tables_after, tables_read, Row, first_cell, first_name, table_name, cells_in, belongs, double_fault, rule_fault, room_fault, begin_fault, most_tables, ended_rows, table_fault, place_fault, row_fault, added, enough, read_under, read_of}
 use Rattle.ship_tables.specs.Record.{numbers_of, columns_from}
@@ -79,7 +80,7 @@ other_name (rule.Together gap tables) [] row b = refl
 other_name (rule.Together gap tables) (first ∷ rows) row b = rw b refl
 
 -- what a row without a fault keeps
-no_first : (a b : Option TableFault) → first_fault a b ≡ None → (a ≡ None) × (b ≡ None)
+no_first : (a b : Option TableFault) → option_or a b ≡ None → (a ≡ None) × (b ≡ None)
 no_first None b e = (refl, e)
 no_first (Some x) b e = cc
 

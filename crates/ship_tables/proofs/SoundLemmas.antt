@@ -1,8 +1,8 @@
 -- What the rows of a file keep: each field is within its column's limits, no table has too few rows or too many, each row keeps the rule
 -- after those before it, and bodies stand where they can.
-use Rattle.std.proofs.Common.{◌≡◌, ◌∙◌, ℕ, zero, suc, ◌+◌, ◌-◌, ◌<◌, ◌≤◌, ◌==◌, ◌||◌, ◌&&◌, if◌then◌else◌, nat_le, nat_lt, Bool, true, false, ℤ, pos, ◌≤ℤ◌, ◌<ℤ◌, ◌-ℤ◌, int_lt, int_le, List, [], ◌∷◌, ◌++◌, length, map, zip, slice_get, length-append, Option, None, Some, Result, Ok, Err, refl, sym, arith, inl, inr}
+use Rattle.std.proofs.Common.{◌≡◌, ◌∙◌, ℕ, zero, suc, ◌+◌, ◌-◌, ◌<◌, ◌≤◌, ◌||◌, if◌then◌else◌, nat_lt, Bool, true, false, ℤ, pos, ◌≤ℤ◌, ◌<ℤ◌, ◌-ℤ◌, int_lt, List, [], ◌∷◌, ◌++◌, length, map, slice_get, length-append, Option, None, Some, Ok, refl, sym, arith, inl, inr}
 use Rattle.std.specs.Bool.{⊤}
-use Rattle.std.proofs.lemmas.Bool.{cases_Bool, and_parts}
+use Rattle.std.proofs.lemmas.Bool.{cases_Bool}
 use Rattle.std.proofs.lemmas.Bool.Decides.{nat_tests}
 use Rattle.std.proofs.lemmas.Cmp.{nat_list_eq_equiv}
 use Rattle.std.proofs.lemmas.Int.{ints}
@@ -11,14 +11,13 @@ use Rattle.std.proofs.Math.Seq.{get_or-append_seam}
 use Rattle.std.proofs.Math.ListN.{get_or-append}
 use Rattle.std.specs.List.{list_any, AllByRecursion, IsDistinct}
 use Rattle.std.specs.Str.{bytes_eq}
-use Rattle.csv_text.specs.Numbers.{number_in}
-use Rattle.csv_text.specs.Reading.{Fields, records_of}
+use Rattle.csv_text.specs.Reading.{Fields}
 use Rattle.units_core.specs.declared.cells.Cell.{Cell}
-use Rattle.units_core.specs.Cells.{cell_eq, cell_in}
+use Rattle.units_core.specs.Cells.{cell_eq}
 use Rattle.units_core.specs.Interpolation.{at}
 use Rattle.ship_tables.specs.declared.faults.File.{File}
 use Rattle.ship_tables.specs.declared.faults.TableFault.{TableFault}
-use Rattle.ship_tables.specs.declared.faults.TableFault.TheVariants.{BadCsv, BadNumber, OutOfLimits, NotRising, OutsideStations, TooFewRows}
+use Rattle.ship_tables.specs.declared.faults.TableFault.TheVariants.{OutOfLimits, NotRising, OutsideStations}
 use Rattle.ship_tables.specs.declared.layouts.Column.{Column}
 use Rattle.ship_tables.specs.declared.layouts.Column.TheVariants as column
 use Rattle.ship_tables.specs.declared.layouts.Field.{Field}
@@ -27,98 +26,41 @@ use Rattle.ship_tables.specs.declared.layouts.Rule.{Rule}
 use Rattle.ship_tables.specs.declared.layouts.Rule.TheVariants as rule
 use Rattle.ship_tables.specs.declared.layouts.Stands.{Stands}
 use Rattle.ship_tables.specs.Extents.{encloses}
-use Rattle.ship_tables.specs.Outcome.{◌>>=◌, or_fault, unless, each, in_turn}
-use Rattle.ship_tables.specs.Tables.{Form, Read, so_far, heading_read, Row, number_at, first_cell, first_name, table_name, cells_in, within, field_in, row_in, belongs, is_beyond, step_fault, rise_fault, double_fault, rule_fault, most_tables, place_fault, row_fault, tables_after, tables_read, with_row, added, is_short, enough, read_under, read_of, file_in}
+use Rattle.ship_tables.specs.Tables.{Form, Read, so_far, heading_read, Row, number_at, first_cell, first_name, table_name, cells_in, belongs, is_beyond, step_fault, rise_fault, double_fault, rule_fault, most_tables, place_fault, row_fault, tables_after, tables_read, with_row, is_short, file_in}
+use Rattle.ship_tables.proofs.FileLemmas.{IsField, AreFields, file-keeps}
 use Rattle.ship_tables.proofs.NameLemmas.{not_named}
 use Rattle.ship_tables.proofs.ReadLemmas.{cells_in-push, comes-room, comes-follows, comes-stands, comes-new, comes-table, names-belongs, other_name}
 
--- a result that went on
-pub went_on : {A B : Type 0} (r : Result A TableFault) (f : A → Result B TableFault) (b : B) → r >>= f ≡ Ok b → (a : A) × (r ≡ Ok a) × (f a ≡ Ok b)
-went_on (Ok a) f b e = (a, refl, e)
-went_on (Err x) f b e = cc
-
-pub no_fault : {A : Type 0} (o : Option TableFault) (a b : A) → unless o a ≡ Ok b → (o ≡ None) × (a ≡ b)
-no_fault None a b e = (refl, cc)
-no_fault (Some x) a b e = cc
-
--- a test that was passed
-pub passed : (b : Bool) (x : TableFault) → ◌≡◌ {A = Option TableFault} (if b then None else Some x) None → b ≡ true
-passed true x e = refl
-passed false x e = cc
-
--- a number within its limits
-pub within-limits : (x : TableFault) (low high z y : ℤ) → within x low high z ≡ Ok y → (y ≡ z) × (low ≤ℤ y) × (y ≤ℤ high)
-within-limits x low high z y e = go (int_le low z && int_le z high) refl e
-  where
-    go : (b : Bool) → (int_le low z && int_le z high) ≡ b → ◌≡◌ {A = Result ℤ TableFault} (if b then Ok z else Err x) (Ok y) → (y ≡ z) × (low ≤ℤ y) × (y ≤ℤ high)
-    go true t r =
-        let same : y ≡ z = cc in
-        let parts = and_parts (int_le low z) (int_le z high) t in
-        (same, rw same (grind (arith, ints, parts)), rw same (grind (arith, ints, parts)))
-    go false t r = cc
-
 -- the field is one of its column
-abbrev pub IsField : Column → Field → Type 0
-IsField column.Cell (field.Cell c) = ⊤
-IsField column.Name (field.Name n) = (1 ≤ length n.items) × (length n.items ≤ 16)
-IsField (column.Number low high) (field.Number z) = (low ≤ℤ z) × (z ≤ℤ high)
-IsField _ _ = ⊥
+abbrev pub InColumn : Column → Field → Type 0
+InColumn column.Cell (field.Cell c) = ⊤
+InColumn column.Name (field.Name n) = (1 ≤ length n.items) × (length n.items ≤ 16)
+InColumn (column.Number low high) (field.Number z) = (low ≤ℤ z) × (z ≤ℤ high)
+InColumn _ _ = ⊥
 
 -- the fields are those of their columns, one for each
 abbrev pub IsRow : List Column → Row → Type 0
 IsRow [] [] = ⊤
-IsRow (c ∷ cs) (f ∷ fs) = IsField c f × IsRow cs fs
+IsRow (c ∷ cs) (f ∷ fs) = InColumn c f × IsRow cs fs
 IsRow _ _ = ⊥
 
-cell-sound : (file : File) (line : ℕ) (text : List ℕ) (f : Field) → field_in file line column.Cell text ≡ Ok f → IsField column.Cell f
-cell-sound file line text f e =
-    let read = went_on (or_fault (BadNumber file line) (cell_in text)) (λ c. Ok (field.Cell c)) f e in
-    let same : field.Cell read.0 ≡ f = cc read.2 in
-    rw (← same) tt
+in_column : (c : Column) (text : List ℕ) (f : Field) → IsField c text f → InColumn c f
+in_column column.Cell text (field.Cell c) h = tt
+in_column column.Cell text (field.Name n) h = absurd h
+in_column column.Cell text (field.Number z) h = absurd h
+in_column column.Name text (field.Cell c) h = absurd h
+in_column column.Name text (field.Name n) h = (h.1, h.2)
+in_column column.Name text (field.Number z) h = absurd h
+in_column (column.Number low high) text (field.Cell c) h = absurd h
+in_column (column.Number low high) text (field.Name n) h = absurd h
+in_column (column.Number low high) text (field.Number z) h = (h.1, h.2)
 
-name-sound : (file : File) (line : ℕ) (text : List ℕ) (f : Field) → field_in file line column.Name text ≡ Ok f → IsField column.Name f
-name-sound file line text f e = go (nat_le 1 (length text) && nat_le (length text) 16) refl e
-  where
-    go : (b : Bool) → (nat_le 1 (length text) && nat_le (length text) 16) ≡ b
-        → ◌≡◌ {A = Result Field TableFault} (if b then Ok (field.Name (record { items = text })) else Err (OutOfLimits file line)) (Ok f) → IsField column.Name f
-    go true t r =
-        let same : field.Name (record { items = text }) ≡ f = cc r in
-        let parts = and_parts (nat_le 1 (length text)) (nat_le (length text) 16) t in
-        rw (← same) (grind (arith, nat_tests, parts), grind (arith, nat_tests, parts))
-    go false t r = cc
-
-number-sound : (file : File) (line : ℕ) (low high : ℤ) (text : List ℕ) (f : Field) → field_in file line (column.Number low high) text ≡ Ok f → IsField (column.Number low high) f
-number-sound file line low high text f e =
-    let read = went_on (or_fault (BadNumber file line) (number_in text)) (λ n. within (OutOfLimits file line) low high n >>= (λ z. Ok (field.Number z))) f e in
-    let limits = went_on (within (OutOfLimits file line) low high read.0) (λ z. Ok (field.Number z)) f read.2 in
-    let bounds = within-limits (OutOfLimits file line) low high read.0 limits.0 limits.1 in
-    let same : field.Number limits.0 ≡ f = cc limits.2 in
-    rw (← same) (bounds.1, bounds.2)
-
-field-sound : (file : File) (line : ℕ) (c : Column) (text : List ℕ) (f : Field) → field_in file line c text ≡ Ok f → IsField c f
-field-sound file line column.Cell text f e = cell-sound file line text f e
-field-sound file line column.Name text f e = name-sound file line text f e
-field-sound file line (column.Number low high) text f e = number-sound file line low high text f e
-
-fields-sound : (file : File) (line : ℕ) (cs : List Column) (ts : Fields) (fs : Row) → length ts ≡ length cs
-    → each (λ p. field_in file line p.0 p.1) (zip cs ts) ≡ Ok fs → IsRow cs fs
-fields-sound file line [] ts [] h e = tt
-fields-sound file line [] ts (f ∷ fs) h e = cc
-fields-sound file line (c ∷ cs) [] fs h e = absurd (omega arith)
-fields-sound file line (c ∷ cs) (t ∷ ts) fs h e =
-    let first = went_on (field_in file line c t) (λ y. each (λ p. field_in file line p.0 p.1) (zip cs ts) >>= (λ ys. Ok (y ∷ ys))) fs e in
-    let rest = went_on (each (λ p. field_in file line p.0 p.1) (zip cs ts)) (λ ys. Ok (first.0 ∷ ys)) fs first.2 in
-    let same : first.0 ∷ rest.0 ≡ fs = cc rest.2 in
-    rw (← same) (field-sound file line c t first.0 first.1, fields-sound file line cs ts rest.0 (omega arith) rest.1)
-
-row-sound : (form : Form) (line : ℕ) (texts : Fields) (row : Row) → row_in form line texts ≡ Ok row → IsRow form.columns row
-row-sound form line texts row e =
-    let count = if length texts == length form.columns then None else Some (BadCsv form.file line) in
-    let full = went_on (unless count texts) (λ ts. each (λ p. field_in form.file line p.0 p.1) (zip form.columns ts)) row e in
-    let none = no_fault count texts full.0 full.1 in
-    let same : (length texts == length form.columns) ≡ true = passed (length texts == length form.columns) (BadCsv form.file line) none.0 in
-    let read = rw (← none.1) at full.2 in
-    fields-sound form.file line form.columns texts row (grind (arith, nat_tests)) read
+pub row-sound : (cs : List Column) (ts : Fields) (fs : Row) → AreFields cs ts fs → IsRow cs fs
+row-sound [] ts [] h = tt
+row-sound [] ts (f ∷ fs) h = absurd h
+row-sound (c ∷ cs) [] fs h = absurd h
+row-sound (c ∷ cs) (t ∷ ts) [] h = absurd h
+row-sound (c ∷ cs) (t ∷ ts) (f ∷ fs) h = (in_column c t f h.0, row-sound cs ts fs h.1)
 
 -- a number is no further above another than the gap
 abbrev pub IsNear : Option ℤ → ℤ → ℤ → Type 0
@@ -234,9 +176,14 @@ abbrev pub StandsIn : Option Stands → Row → Type 0
 StandsIn None row = ⊤
 StandsIn (Some s) row = encloses s.extent (number_at row s.x) (number_at row s.half) ≡ true
 
+-- a test that was passed
+no_fault_passed : (b : Bool) (x : TableFault) → ◌≡◌ {A = Option TableFault} (if b then None else Some x) None → b ≡ true
+no_fault_passed true x e = refl
+no_fault_passed false x e = cc
+
 stands-in : (stands : Option Stands) (file : File) (line : ℕ) (row : Row) → place_fault stands file line row ≡ None → StandsIn stands row
 stands-in None file line row e = tt
-stands-in (Some s) file line row e = passed (encloses s.extent (number_at row s.x) (number_at row s.half)) (OutsideStations file line) e
+stands-in (Some s) file line row e = no_fault_passed (encloses s.extent (number_at row s.x) (number_at row s.half)) (OutsideStations file line) e
 
 -- what the rows of a table keep
 pub record IsRows (form : Form) (rows : List Row) : Type 0 where
@@ -331,18 +278,6 @@ module _ (form : Form) (some : 1 ≤ form.most) (r : Read) (row : Row) (k : IsKe
         | inr b ↦ rw b (kept-next b)
       ]
 
-added-kept : (form : Form) → 1 ≤ form.most → (before after : Read) (texts : Fields) → IsKept form before → added form before texts ≡ Ok after → IsKept form after
-added-kept form some before after texts k e =
-    let read = went_on (row_in form before.line texts) (λ row. unless (row_fault form before row) (with_row form.rule before row)) after e in
-    let comes = no_fault (row_fault form before read.0) (with_row form.rule before read.0) after read.2 in
-    rw (← comes.1) (kept-row form some before read.0 k (row-sound form before.line texts read.0 read.1) comes.0)
-
-in_turn-kept : (form : Form) → 1 ≤ form.most → (before after : Read) (records : List Fields) → IsKept form before → in_turn (added form) before records ≡ Ok after → IsKept form after
-in_turn-kept form some before after [] k e = let same : before ≡ after = cc e in rw (← same) k
-in_turn-kept form some before after (texts ∷ records) k e =
-    let one = went_on (added form before texts) (λ more. in_turn (added form) more records) after e in
-    in_turn-kept form some one.0 after records (added-kept form some before one.0 texts k one.1) one.2
-
 -- no table has too few rows
 abbrev pub KeepsLeast : Rule → ℕ → Read → Type 0
 KeepsLeast (rule.Together gap tables) least r = AllByRecursion (λ t. least ≤ length t) (tables_read r)
@@ -367,24 +302,12 @@ pub record IsFile (form : Form) (r : Read) : Type 0 where
   pub kept : IsKept form r
   pub least : KeepsLeast form.rule form.least r
 
-enough-sound : (form : Form) (r all : Read) → IsKept form r → enough form r ≡ Ok all → IsFile form all
-enough-sound form r all k e = go (is_short form.rule form.least r) refl e
-  where
-    go : (b : Bool) → is_short form.rule form.least r ≡ b → ◌≡◌ {A = Result Read TableFault} (if b then Err (TooFewRows form.file) else Ok r) (Ok all) → IsFile form all
-    go true t h = cc
-    go false t h = let same : r ≡ all = cc in rw (← same) (record { kept = k; least = least-kept form.rule form.least r t })
-
-read_of-sound : (form : Form) → 1 ≤ form.most → (records : List Fields) (r : Read) → read_of form records ≡ Ok r → IsFile form r
-read_of-sound form some [] r e = enough-sound form heading_read r (heading-kept form) e
-read_of-sound form some (heading ∷ records) r e =
-    let count = if length heading == length form.columns then None else Some (BadCsv form.file 1) in
-    let headed = went_on (unless count records) (read_under form) r e in
-    let all = went_on (in_turn (added form) heading_read headed.0) (enough form) r headed.2 in
-    enough-sound form all.0 r (in_turn-kept form some heading_read all.0 headed.0 (heading-kept form) all.1) all.2
-
 -- what a text writes is a file
 pub file_in-sound : (form : Form) → 1 ≤ form.most → (text : List ℕ) (r : Read) → file_in form text ≡ Ok r → IsFile form r
-file_in-sound form some text r e = read_of-sound form some (records_of text) r e
+file_in-sound form some text r e =
+    let all = file-keeps form (λ records read. IsKept form read) (heading-kept form)
+        (λ records before texts row k is comes. kept-row form some before row k (row-sound form.columns texts row is) comes) text r e in
+    record { kept = all.0; least = least-kept form.rule form.least r all.1 }
 
 -- the tables of a file of several
 pub several-sound : (form : Form) (r : Read) → IsFile form r → AllByRecursion (IsRows form) (tables_read r)

@@ -1,105 +1,39 @@
 -- The rows that were read of a text are its records, and so each column of the tables is the one that stands there.
-use Rattle.std.proofs.Common.{◌≡◌, ◌∙◌, ℕ, zero, suc, ◌+◌, ◌<◌, ◌==◌, nat_le, ◌&&◌, if◌then◌else◌, Bool, true, false, ℤ, pos, neg_ℤ, List, [], ◌∷◌, ◌++◌, length, map, zip, drop, slice_get, replicate, append_assoc, Option, None, Some, Result, Ok, Err, refl, ap, sym, arith, inl, inr}
+use Rattle.std.proofs.Common.{◌≡◌, ◌∙◌, ℕ, zero, suc, ◌+◌, ◌<◌, true, ℤ, pos, neg_ℤ, List, [], ◌∷◌, ◌++◌, length, map, zip, slice_get, replicate, append_assoc, Option, None, Some, Ok, refl, ap, sym, arith, inl, inr}
 use Rattle.std.specs.Bool.{⊤}
 use Rattle.std.proofs.lemmas.Bool.{cases_Bool}
-use Rattle.std.proofs.lemmas.Bool.Decides.{nat_tests}
 use Rattle.std.proofs.lemmas.Grind.{flat_map-append}
 use Rattle.std.proofs.lemmas.List.{append-nil, map-append, length-map}
 use Rattle.std.proofs.lemmas.Map.Made.{keys_of-zip}
 use Rattle.std.proofs.lemmas.Slice.Eq.{bytes_eq-Decides}
 use Rattle.std.specs.List.{flat_map, AllByRecursion}
 use Rattle.csv_text.specs.Numbers.{number_in}
-use Rattle.csv_text.specs.Reading.{Fields, records_of}
+use Rattle.csv_text.specs.Reading.{Fields}
 use Rattle.units_core.specs.declared.bodies.Place.{Place}
 use Rattle.units_core.specs.declared.cells.Cell.{Cell}
 use Rattle.units_core.specs.Cells.{cell_in}
 use Rattle.ship_tables.specs.declared.extents.Extent.{Extent}
-use Rattle.ship_tables.specs.declared.faults.File.{File}
-use Rattle.ship_tables.specs.declared.faults.TableFault.{TableFault}
-use Rattle.ship_tables.specs.declared.faults.TableFault.TheVariants.{BadCsv, BadNumber, OutOfLimits, TooFewRows}
 use Rattle.ship_tables.specs.declared.layouts.Column.{Column}
 use Rattle.ship_tables.specs.declared.layouts.Column.TheVariants as column
 use Rattle.ship_tables.specs.declared.layouts.Field.{Field}
 use Rattle.ship_tables.specs.declared.layouts.Field.TheVariants as field
 use Rattle.ship_tables.specs.declared.layouts.Rule.{Rule}
 use Rattle.ship_tables.specs.declared.layouts.Rule.TheVariants as rule
-use Rattle.ship_tables.specs.Outcome.{◌>>=◌, or_fault, unless, each, in_turn}
-use Rattle.ship_tables.specs.Tables.{Form, Read, heading_read, Row, number_at, first_name, table_name, cells_in, within, field_in, row_in, belongs, row_fault, tables_after, tables_read, with_row, added, is_short, enough, read_under, read_of, file_in}
+use Rattle.ship_tables.specs.Tables.{Form, Read, heading_read, Row, number_at, first_name, table_name, cells_in, belongs, tables_after, tables_read, with_row, file_in}
 use Rattle.ship_tables.specs.Record.{length_column, size_column, cells_form, hydro_form, levers_form, bonjean_form, tanks_form, least_gm_form, place_at, places_in, numbers_of, hydro_table, hydro_in, columns_from, curve_table, curves_in, tank_at, tanks_in, least_gm_in, HydroTable, CurveTable, Tank, TablesRecord, Texts, tables_of}
 use Rattle.ship_tables.specs.Written.{records_under, field_as, AreCellsWritten, IsHydroWritten, AreCurvesWritten, AreTanksWritten, IsLeastGmWritten, IsWritten}
-use Rattle.ship_tables.proofs.MeaningLemmas.{same_ok, slice_get-replicate}
-use Rattle.ship_tables.proofs.SoundLemmas.{went_on, no_fault, passed, within-limits, all-push}
-
--- the field is what its text is read as
-abbrev pub IsRead : Column → List ℕ → Field → Type 0
-IsRead column.Cell text (field.Cell c) = cell_in text ≡ Some c
-IsRead column.Name text (field.Name n) = n.items ≡ text
-IsRead (column.Number low high) text (field.Number z) = number_in text ≡ Some z
-IsRead _ _ _ = ⊥
-
--- the row is what the fields of its record are read as
-abbrev pub AreRead : List Column → Fields → Row → Type 0
-AreRead [] ts [] = ⊤
-AreRead (c ∷ cs) (t ∷ ts) (f ∷ fs) = IsRead c t f × AreRead cs ts fs
-AreRead _ _ _ = ⊥
+use Rattle.units_core.proofs.OutcomeLemmas.{went_on, same_ok}
+use Rattle.ship_tables.proofs.FileLemmas.{IsField, AreFields, file-keeps}
+use Rattle.ship_tables.proofs.MeaningLemmas.{cells-length, slice_get-replicate}
+use Rattle.ship_tables.proofs.SoundLemmas.{IsRow, row-sound, all-push}
 
 -- the rows are what the records are read as, one for each
 abbrev pub AreRows : List Column → List Fields → List Row → Type 0
 AreRows cs [] [] = ⊤
-AreRows cs (texts ∷ records) (row ∷ rows) = AreRead cs texts row × AreRows cs records rows
+AreRows cs (texts ∷ records) (row ∷ rows) = AreFields cs texts row × AreRows cs records rows
 AreRows cs _ _ = ⊥
 
-was_there : {A : Type 0} (e : TableFault) (o : Option A) (a : A) → or_fault e o ≡ Ok a → o ≡ Some a
-was_there e None a h = cc
-was_there e (Some b) a h = cc
-
-number-read : (file : File) (line : ℕ) (low high : ℤ) (text : List ℕ) (f : Field) → field_in file line (column.Number low high) text ≡ Ok f → IsRead (column.Number low high) text f
-number-read file line low high text f e =
-    let read = went_on (or_fault (BadNumber file line) (number_in text)) (λ n. within (OutOfLimits file line) low high n >>= (λ z. Ok (field.Number z))) f e in
-    let limits = went_on (within (OutOfLimits file line) low high read.0) (λ z. Ok (field.Number z)) f read.2 in
-    let bounds = within-limits (OutOfLimits file line) low high read.0 limits.0 limits.1 in
-    let same : field.Number limits.0 ≡ f = cc limits.2 in
-    rw (← same) (was_there (BadNumber file line) (number_in text) read.0 read.1 ∙ ap Some (sym bounds.0))
-
-cell-read : (file : File) (line : ℕ) (text : List ℕ) (f : Field) → field_in file line column.Cell text ≡ Ok f → IsRead column.Cell text f
-cell-read file line text f e =
-    let read = went_on (or_fault (BadNumber file line) (cell_in text)) (λ c. Ok (field.Cell c)) f e in
-    let same : field.Cell read.0 ≡ f = cc read.2 in
-    rw (← same) (was_there (BadNumber file line) (cell_in text) read.0 read.1)
-
-name-read : (file : File) (line : ℕ) (text : List ℕ) (f : Field) → field_in file line column.Name text ≡ Ok f → IsRead column.Name text f
-name-read file line text f e = go (nat_le 1 (length text) && nat_le (length text) 16) e
-  where
-    go : (b : Bool) → ◌≡◌ {A = Result Field TableFault} (if b then Ok (field.Name (record { items = text })) else Err (OutOfLimits file line)) (Ok f) → IsRead column.Name text f
-    go true r = let same : field.Name (record { items = text }) ≡ f = cc r in rw (← same) refl
-    go false r = cc
-
-field-read : (file : File) (line : ℕ) (c : Column) (text : List ℕ) (f : Field) → field_in file line c text ≡ Ok f → IsRead c text f
-field-read file line column.Cell text f e = cell-read file line text f e
-field-read file line column.Name text f e = name-read file line text f e
-field-read file line (column.Number low high) text f e = number-read file line low high text f e
-
-fields-read : (file : File) (line : ℕ) (cs : List Column) (ts : Fields) (fs : Row) → length ts ≡ length cs
-    → each (λ p. field_in file line p.0 p.1) (zip cs ts) ≡ Ok fs → AreRead cs ts fs
-fields-read file line [] ts [] h e = tt
-fields-read file line [] ts (f ∷ fs) h e = cc
-fields-read file line (c ∷ cs) [] fs h e = absurd (omega arith)
-fields-read file line (c ∷ cs) (t ∷ ts) fs h e =
-    let first = went_on (field_in file line c t) (λ y. each (λ p. field_in file line p.0 p.1) (zip cs ts) >>= (λ ys. Ok (y ∷ ys))) fs e in
-    let rest = went_on (each (λ p. field_in file line p.0 p.1) (zip cs ts)) (λ ys. Ok (first.0 ∷ ys)) fs first.2 in
-    let same : first.0 ∷ rest.0 ≡ fs = cc rest.2 in
-    rw (← same) (field-read file line c t first.0 first.1, fields-read file line cs ts rest.0 (omega arith) rest.1)
-
-row-read : (form : Form) (line : ℕ) (texts : Fields) (row : Row) → row_in form line texts ≡ Ok row → AreRead form.columns texts row
-row-read form line texts row e =
-    let count = if length texts == length form.columns then None else Some (BadCsv form.file line) in
-    let full = went_on (unless count texts) (λ ts. each (λ p. field_in form.file line p.0 p.1) (zip form.columns ts)) row e in
-    let none = no_fault count texts full.0 full.1 in
-    let same : (length texts == length form.columns) ≡ true = passed (length texts == length form.columns) (BadCsv form.file line) none.0 in
-    let read = rw (← none.1) at full.2 in
-    fields-read form.file line form.columns texts row (grind (arith, nat_tests)) read
-
-rows-push : (cs : List Column) (records : List Fields) (rows : List Row) (texts : Fields) (row : Row) → AreRows cs records rows → AreRead cs texts row
+rows-push : (cs : List Column) (records : List Fields) (rows : List Row) (texts : Fields) (row : Row) → AreRows cs records rows → AreFields cs texts row
     → AreRows cs (records ++ texts ∷ []) (rows ++ row ∷ [])
 rows-push cs [] [] texts row h k = (k, tt)
 rows-push cs [] (r ∷ rows) texts row h k = absurd h
@@ -170,55 +104,24 @@ pub record IsReading (form : Form) (records : List Fields) (r : Read) : Type 0 w
 heading-reading : (form : Form) → IsReading form [] heading_read
 heading-reading form = record { rows = rw (none-read form.rule) tt; names = none-named form.rule }
 
-added-reading : (form : Form) (records : List Fields) (before after : Read) (texts : Fields) → IsReading form records before → added form before texts ≡ Ok after
-    → IsReading form (records ++ texts ∷ []) after
-added-reading form records before after texts k e =
-    let read = went_on (row_in form before.line texts) (λ row. unless (row_fault form before row) (with_row form.rule before row)) after e in
-    let comes = no_fault (row_fault form before read.0) (with_row form.rule before read.0) after read.2 in
-    rw (← comes.1)
-    (record {
-      rows = rw (rows-more form.rule before read.0) (rows-push form.columns records (all_rows form.rule before) texts read.0 k.rows (row-read form before.line texts read.0 read.1));
-      names = names-more form.rule before read.0 k.names;
-    })
-
-in_turn-reading : (form : Form) (done : List Fields) (before after : Read) (records : List Fields) → IsReading form done before → in_turn (added form) before records ≡ Ok after
-    → IsReading form (done ++ records) after
-in_turn-reading form done before after [] k e = let same : before ≡ after = cc e in rw (← same, append-nil done) k
-in_turn-reading form done before after (texts ∷ records) k e =
-    let one = went_on (added form before texts) (λ more. in_turn (added form) more records) after e in
-    rw (← append_assoc done (texts ∷ []) records) (in_turn-reading form (done ++ texts ∷ []) one.0 after records (added-reading form done before one.0 texts k one.1) one.2)
-
-enough-same : (form : Form) (r all : Read) → enough form r ≡ Ok all → r ≡ all
-enough-same form r all e = go (is_short form.rule form.least r) e
-  where
-    go : (b : Bool) → ◌≡◌ {A = Result Read TableFault} (if b then Err (TooFewRows form.file) else Ok r) (Ok all) → r ≡ all
-    go true h = cc
-    go false h = cc
-
-same_reading : (form : Form) (given records : List Fields) (before after : Read) → records ≡ given → before ≡ after → IsReading form given before → IsReading form records after
-same_reading form given records before after same same_read k = rw (← same_read, same) k
-
-read_of-reading : (form : Form) (records : List Fields) (r : Read) → read_of form records ≡ Ok r → IsReading form (drop 1 records) r
-read_of-reading form [] r e = rw (← enough-same form heading_read r e) (heading-reading form)
-read_of-reading form (heading ∷ records) r e =
-    let count = if length heading == length form.columns then None else Some (BadCsv form.file 1) in
-    let headed = went_on (unless count records) (read_under form) r e in
-    let same = (no_fault count records headed.0 headed.1).1 in
-    let all = went_on (in_turn (added form) heading_read headed.0) (enough form) r headed.2 in
-    same_reading form headed.0 records all.0 r same (enough-same form all.0 r all.2) (in_turn-reading form [] heading_read all.0 headed.0 (heading-reading form) all.1)
-
 file_in-reading : (form : Form) (text : List ℕ) (r : Read) → file_in form text ≡ Ok r → IsReading form (records_under text) r
-file_in-reading form text r e = read_of-reading form (records_of text) r e
+file_in-reading form text r e =
+    (file-keeps form (IsReading form) (heading-reading form)
+        (λ records before texts row k is comes. record {
+          rows = rw (rows-more form.rule before row) (rows-push form.columns records (all_rows form.rule before) texts row k.rows is);
+          names = names-more form.rule before row k.names;
+        })
+        text r e).0
 
 -- the number of a column
-number-field : (c : Column) (text : List ℕ) (f : Field) (low high : ℤ) → IsRead c text f → c ≡ column.Number low high → number_in text ≡ Some (number_at (f ∷ []) 0)
+number-field : (c : Column) (text : List ℕ) (f : Field) (low high : ℤ) → IsField c text f → c ≡ column.Number low high → number_in text ≡ Some (number_at (f ∷ []) 0)
 number-field column.Cell text f low high h e = cc
 number-field column.Name text f low high h e = cc
 number-field (column.Number l u) text (field.Cell c) low high h e = absurd h
 number-field (column.Number l u) text (field.Name n) low high h e = absurd h
-number-field (column.Number l u) text (field.Number z) low high h e = h
+number-field (column.Number l u) text (field.Number z) low high h e = h.0 ∙ refl
 
-row-number : (cs : List Column) (ts : Fields) (fs : Row) (k : ℕ) (low high : ℤ) → AreRead cs ts fs → slice_get cs k ≡ Some (column.Number low high)
+row-number : (cs : List Column) (ts : Fields) (fs : Row) (k : ℕ) (low high : ℤ) → AreFields cs ts fs → slice_get cs k ≡ Some (column.Number low high)
     → field_as number_in k ts ≡ Some (number_at fs k)
 row-number [] ts fs k low high h e = cc
 row-number (c ∷ cs) [] fs k low high h e = absurd h
@@ -252,7 +155,7 @@ module _ (cs : List Column) where
   rows-names ((t ∷ ts) ∷ records) ([] ∷ rows) h = absurd h.0
   rows-names ((t ∷ ts) ∷ records) ((field.Number z ∷ fs) ∷ rows) h = absurd h.0.0
   rows-names ((t ∷ ts) ∷ records) ((field.Cell c ∷ fs) ∷ rows) h = absurd h.0.0
-  rows-names ((t ∷ ts) ∷ records) ((field.Name n ∷ fs) ∷ rows) h = rw (h.0.0, rows-names records rows h.1) refl
+  rows-names ((t ∷ ts) ∷ records) ((field.Name n ∷ fs) ∷ rows) h = rw (h.0.0.0, rows-names records rows h.1) refl
 
 -- `hydro.csv`
 hydro-written : (text : List ℕ) (h : HydroTable) → hydro_in text ≡ Ok h → IsHydroWritten text h
@@ -317,15 +220,11 @@ least_gm-written (Some text) c e =
     rw (← same_ok (Some some.0) c some.2) written
 
 -- `cells.csv`
-cells-length : (cs : List Column) (records : List Fields) (rows : List Row) → AreRows (column.Cell ∷ cs) records rows → length (cells_in rows) ≡ length rows
-cells-length cs [] [] h = refl
-cells-length cs [] (row ∷ rows) h = absurd h
-cells-length cs (ts ∷ records) [] h = absurd h
-cells-length cs ([] ∷ records) (row ∷ rows) h = absurd h.0
-cells-length cs ((t ∷ ts) ∷ records) ([] ∷ rows) h = absurd h.0
-cells-length cs ((t ∷ ts) ∷ records) ((field.Number z ∷ fs) ∷ rows) h = absurd h.0.0
-cells-length cs ((t ∷ ts) ∷ records) ((field.Name n ∷ fs) ∷ rows) h = absurd h.0.0
-cells-length cs ((t ∷ ts) ∷ records) ((field.Cell c ∷ fs) ∷ rows) h = ap suc (cells-length cs records rows h.1)
+rows-sound : (cs : List Column) (records : List Fields) (rows : List Row) → AreRows cs records rows → AllByRecursion (IsRow cs) rows
+rows-sound cs [] [] h = tt
+rows-sound cs [] (row ∷ rows) h = absurd h
+rows-sound cs (ts ∷ records) [] h = absurd h
+rows-sound cs (ts ∷ records) (row ∷ rows) h = (row-sound cs ts row h.0, rows-sound cs records rows h.1)
 
 placed-numbers : (f : Place → ℤ) (cells : List Cell) (rows : List Row) → length cells ≡ length rows
     → map (λ c. f c.1) (zip cells (map place_at rows)) ≡ map (λ row. f (place_at row)) rows
@@ -340,7 +239,7 @@ cells-written extent text cells e =
     let rows = (file_in-reading (cells_form extent) text read.0 read.1).rows in
     let cs = (cells_form extent).columns in
     let more = length_column ∷ length_column ∷ length_column ∷ size_column ∷ [] in
-    let count = cells-length more (records_under text) read.0.rows rows in
+    let count = cells-length more read.0.rows (rows-sound (column.Cell ∷ more) (records_under text) read.0.rows rows) in
     let places : length (map place_at read.0.rows) ≡ length (cells_in read.0.rows) = length-map read.0.rows place_at ∙ sym count in
     let column = λ (f : Place → ℤ). ap (map {B = Option ℤ} Some) (sym (placed-numbers f (cells_in read.0.rows) read.0.rows count)) in
     rw (← same_ok (zip (cells_in read.0.rows) (map place_at read.0.rows)) cells read.2)

@@ -19,7 +19,7 @@ use Rattle.ship_tables.specs.declared.layouts.Column.TheVariants as column
 use Rattle.ship_tables.specs.declared.layouts.Rule.TheVariants as rule
 use Rattle.ship_tables.specs.declared.texts.TableTexts.{TableTexts}
 use Rattle.ship_tables.specs.Extents.{holds}
-use Rattle.ship_tables.specs.Outcome.{◌>>=◌}
+use Rattle.units_core.specs.Outcome.{◌>>=◌}
 use Rattle.ship_tables.specs.Tables.{Form, Row, number_at, cells_in, table_name, tables_read, file_in}
 
 -- a length in mm of at most 10^6 either way, one that isn't below 0, a draught in mm, and a mass in kg (or a moment in kg mm that

@@ -1,7 +1,8 @@
 -- A CSV file of the profile as a table, or as several one after another: what is said of it in data, and the rows that its text writes, or
 -- its first fault.
-use Rattle.std.specs.Prelude.{ℕ, ◌+◌, ◌-◌, ℤ, pos, ◌-ℤ◌, Bool, true, false, int_lt, int_le, List, [], ◌∷◌, ◌++◌, ◌==◌, ◌&&◌, if◌then◌else◌, nat_le, nat_lt, length, zip, filter_map, slice_get, Option, Some, None, option_map, Result, Ok, Err}
+use Rattle.std.specs.Prelude.{ℕ, ◌+◌, ◌-◌, ℤ, pos, ◌-ℤ◌, Bool, true, false, int_lt, List, [], ◌∷◌, ◌++◌, ◌==◌, ◌&&◌, if◌then◌else◌, nat_le, nat_lt, length, zip, filter_map, slice_get, Option, Some, None, option_map, Result, Ok, Err}
 use Rattle.std.specs.List.{list_any, find}
+use Rattle.std.specs.Option.{option_or}
 use Rattle.std.specs.Str.{bytes_eq}
 use Rattle.csv_text.specs.Numbers.{number_in}
 use Rattle.csv_text.specs.Reading.{Fields, records_of}
@@ -19,7 +20,8 @@ use Rattle.ship_tables.specs.declared.layouts.Rule.TheVariants as rule
 use Rattle.ship_tables.specs.declared.layouts.Stands.{Stands}
 use Rattle.ship_tables.specs.declared.layouts.Layout.{Layout}
 use Rattle.ship_tables.specs.Extents.{encloses}
-use Rattle.ship_tables.specs.Outcome.{◌>>=◌, or_fault, unless, each, in_turn, first_fault}
+use Rattle.units_core.specs.Outcome.{◌>>=◌, or_fault, unless, demand, within}
+use Rattle.ship_tables.specs.Outcome.{each, in_turn}
 
 -- what is said of a file: how the fields of a row are read, the least and the greatest number of rows of a table, the rule that each row
 -- keeps after those before it, and where its rows say where a body stands
@@ -62,21 +64,18 @@ abbrev pub table_name : List Row → List ℕ
 table_name [] = []
 table_name (row ∷ rows) = first_name row
 
--- a number within its limits
-abbrev pub within : TableFault → ℤ → ℤ → ℤ → Result ℤ TableFault
-within e low high z = if int_le low z && int_le z high then Ok z else Err e
-
 -- the field that a text is in its column: unreadable, out of limits, in this order
 abbrev pub field_in : File → ℕ → Column → List ℕ → Result Field TableFault
 field_in file line column.Cell text = or_fault (BadNumber file line) (cell_in text) >>= (λ c. Ok (field.Cell c))
-field_in file line column.Name text = if nat_le 1 (length text) && nat_le (length text) 16 then Ok (field.Name (record { items = text })) else Err (OutOfLimits file line)
+field_in file line column.Name text =
+    demand (OutOfLimits file line) (nat_le 1 (length text) && nat_le (length text) 16) (field.Name (record { items = text }))
 field_in file line (column.Number low high) text =
     or_fault (BadNumber file line) (number_in text) >>= (λ n. within (OutOfLimits file line) low high n >>= (λ z. Ok (field.Number z)))
 
 -- the row that the fields of a record are: as many as there are columns, then each from left to right
 abbrev pub row_in : Form → ℕ → Fields → Result Row TableFault
 row_in form line texts =
-    unless (if length texts == length form.columns then None else Some (BadCsv form.file line)) texts >>= (λ ts.
+    demand (BadCsv form.file line) (length texts == length form.columns) texts >>= (λ ts.
     each (λ p. field_in form.file line p.0 p.1) (zip form.columns ts))
 
 -- what was read of a file: the number of the record that comes next, the heading being 1; the tables that have ended; and the rows of
@@ -159,12 +158,12 @@ place_fault (Some s) file line row = if encloses s.extent (number_at row s.x) (n
 abbrev pub table_fault : Form → Read → Row → Option TableFault
 table_fault form r row =
     if belongs form.rule r.rows row
-    then first_fault (room_fault form.file r.line form.most (length r.rows)) (rule_fault form.rule form.file r.line r.rows row)
+    then option_or (room_fault form.file r.line form.most (length r.rows)) (rule_fault form.rule form.file r.line r.rows row)
     else begin_fault form.file r.line form.most (most_tables form.rule) (length (tables_read r)) (ended_rows (first_name row) r.ended)
 
 -- why a row can't come after what was read, if it can't: its table, and then where its body stands
 abbrev pub row_fault : Form → Read → Row → Option TableFault
-row_fault form r row = first_fault (table_fault form r row) (place_fault form.stands form.file r.line row)
+row_fault form r row = option_or (table_fault form r row) (place_fault form.stands form.file r.line row)
 
 -- what was read, and one more row: of the table that is being read, or the first of the next
 abbrev pub with_row : Rule → Read → Row → Read
@@ -193,7 +192,7 @@ read_under form records = in_turn (added form) heading_read records >>= enough f
 abbrev pub read_of : Form → List Fields → Result Read TableFault
 read_of form [] = enough form heading_read
 read_of form (heading ∷ records) =
-    unless (if length heading == length form.columns then None else Some (BadCsv form.file 1)) records >>= read_under form
+    demand (BadCsv form.file 1) (length heading == length form.columns) records >>= read_under form
 
 -- what the text of a file writes
 abbrev pub file_in : Form → List ℕ → Result Read TableFault

@@ -101,7 +101,8 @@ pub fn read_curves(
     text: &[u8],
 ) -> Result<Curves, TableFault>
     ensures ok { IfOk result (λ c. curves_in (form_of layout.now) curves text.now ≡ Ok c) }
-    ensures refused { IfErr result (λ e. e ≢ TableFault.NoMemory → curves_in (form_of layout.now) curves text.now ≡ Err e) }
+    ensures refused { IfErr result
+        (λ e. e ≢ TableFault.NoMemory → curves_in (form_of layout.now) curves text.now ≡ Err e) }
 {
     let read = read_file(alloc, layout, text)?;
     gather(alloc, read.rows.as_slice(), curves)
@@ -127,7 +128,8 @@ fn bonjean_columns(alloc: Global, stations: usize) -> Result<Vec<Column>, TableF
 /// The Bonjean curves that the text of `bonjean.csv` writes for a ship of so many stations.
 pub fn read_bonjean(alloc: Global, stations: usize, text: &[u8]) -> Result<Curves, TableFault>
     ensures ok { IfOk result (λ c. curves_in (bonjean_form stations) stations text.now ≡ Ok c) }
-    ensures refused { IfErr result (λ e. e ≢ TableFault.NoMemory → curves_in (bonjean_form stations) stations text.now ≡ Err e) }
+    ensures refused { IfErr result (λ e. e ≢ TableFault.NoMemory
+        → curves_in (bonjean_form stations) stations text.now ≡ Err e) }
 {
     let columns = bonjean_columns(alloc, stations)?;
     read_curves(alloc, &bonjean_layout(columns.as_slice()), stations, text)
@@ -136,7 +138,8 @@ pub fn read_bonjean(alloc: Global, stations: usize, text: &[u8]) -> Result<Curve
 /// The least metacentric heights that the text of `gm.csv` writes, where there is one.
 pub fn read_least_gm(alloc: Global, text: Option<&[u8]>) -> Result<Option<Curves>, TableFault>
     ensures ok { IfOk result (λ c. least_gm_in (text_of text.entry) ≡ Ok c) }
-    ensures refused { IfErr result (λ e. e ≢ TableFault.NoMemory → least_gm_in (text_of text.entry) ≡ Err e) }
+    ensures refused { IfErr result
+        (λ e. e ≢ TableFault.NoMemory → least_gm_in (text_of text.entry) ≡ Err e) }
 {
     match text {
         Some(text) => Ok(Some(read_curves(alloc, &least_gm_layout(), 1, text)?)),

@@ -82,7 +82,8 @@ fn places(alloc: Global, rows: &[Row]) -> Result<Vec<Place>, TableFault>
 /// The cells that the text of `cells.csv` writes, for a ship of this extent.
 pub fn read_places(alloc: Global, extent: &Extent, text: &[u8]) -> Result<CellPlaces, TableFault>
     ensures ok { IfOk result (λ c. places_in extent.now text.now ≡ Ok c) }
-    ensures refused { IfErr result (λ e. e ≢ TableFault.NoMemory → places_in extent.now text.now ≡ Err e) }
+    ensures refused { IfErr result
+        (λ e. e ≢ TableFault.NoMemory → places_in extent.now text.now ≡ Err e) }
 {
     let read = read_file(alloc, &cells_layout(*extent), text)?;
     let places = places(alloc, read.rows.as_slice())?;

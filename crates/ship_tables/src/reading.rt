@@ -94,7 +94,8 @@ fn rise_fault(
     row: &Row,
     before: &[Row],
 ) -> Option<TableFault>
-    ensures { result ≡ rise_fault file line gap column row.now (slice_get before.now (length before.now - 1)) }
+    ensures { result
+        ≡ rise_fault file line gap column row.now (slice_get before.now (length before.now - 1)) }
 {
     let last = before.last()?;
     step_fault(file, line, gap, last.number(column), row.number(column))
@@ -168,7 +169,8 @@ fn ended_rows(
     names: &IndexSet<Vec<u8>>,
     name: &[u8],
 ) -> Option<usize>
-    requires { map (λ v. v.items) names.now.keys ≡ map table_name (tables_after ended.now rows.now) }
+    requires { map (λ v. v.items) names.now.keys
+        ≡ map table_name (tables_after ended.now rows.now) }
     ensures { result ≡ ended_rows name.now ended.now }
 {
     let number = names.get_index_of(name)?;
@@ -266,7 +268,8 @@ fn remember_name(
     name: &[u8],
 ) -> Result<(), TableFault>
     requires { list_any (bytes_eq name.now) (map (λ v. v.items) names.old.keys) ≡ false }
-    ensures kept { OnOk result (map (λ v. v.items) names.new.keys ≡ map (λ v. v.items) names.old.keys ++ name.now ∷ []) }
+    ensures kept { OnOk result
+        (map (λ v. v.items) names.new.keys ≡ map (λ v. v.items) names.old.keys ++ name.now ∷ []) }
     ensures memory { IfErr result (λ e. e ≡ TableFault.NoMemory) }
 {
     let Ok(name) = Vec::from_slice(alloc, name) else {
@@ -305,7 +308,8 @@ fn keep_in_table(layout: &Layout<'_>, gathered: &mut Gathered, row: Row) -> Resu
     requires rows { layout.now.most < 2 ^ 16 }
     requires tables { most_tables layout.now.rule < 2 ^ 8 }
     requires belongs { belongs layout.now.rule gathered.old.rows.items row ≡ true }
-    ensures kept { OnOk result (read_by gathered.new ≡ so_far (gathered.old.line + 1) gathered.old.ended.items (gathered.old.rows.items ++ row ∷ [])) }
+    ensures kept { OnOk result (read_by gathered.new ≡ so_far
+        (gathered.old.line + 1) gathered.old.ended.items (gathered.old.rows.items ++ row ∷ [])) }
     ensures gathered { OnOk result (HasGathered (form_of layout.now) gathered.new) }
     ensures memory { IfErr result (λ e. e ≡ TableFault.NoMemory) }
 {
@@ -329,7 +333,8 @@ fn keep_in_next(
     requires rows { layout.now.most < 2 ^ 16 }
     requires tables { most_tables layout.now.rule < 2 ^ 8 }
     requires begins { belongs layout.now.rule gathered.old.rows.items row ≡ false }
-    ensures kept { OnOk result (read_by gathered.new ≡ so_far (gathered.old.line + 1) (tables_read (read_by gathered.old)) (row ∷ [])) }
+    ensures kept { OnOk result (read_by gathered.new
+        ≡ so_far (gathered.old.line + 1) (tables_read (read_by gathered.old)) (row ∷ [])) }
     ensures gathered { OnOk result (HasGathered (form_of layout.now) gathered.new) }
     ensures memory { IfErr result (λ e. e ≡ TableFault.NoMemory) }
 {
@@ -353,7 +358,8 @@ fn keep_row(
     requires comes { row_fault (form_of layout.now) (read_by gathered.old) row ≡ None }
     requires rows { layout.now.most < 2 ^ 16 }
     requires tables { most_tables layout.now.rule < 2 ^ 8 }
-    ensures kept { OnOk result (read_by gathered.new ≡ with_row layout.now.rule (read_by gathered.old) row) }
+    ensures kept { OnOk result
+        (read_by gathered.new ≡ with_row layout.now.rule (read_by gathered.old) row) }
     ensures gathered { OnOk result (HasGathered (form_of layout.now) gathered.new) }
     ensures memory { IfErr result (λ e. e ≡ TableFault.NoMemory) }
 {
@@ -372,8 +378,10 @@ fn add_row(
     fields: &ByteRecord,
 ) -> Result<(), TableFault>
     requires { HasGathered (form_of layout.now) gathered.old }
-    ensures ok { OnOk result (added (form_of layout.now) (read_by gathered.old) (fields_of fields.now) ≡ Ok (read_by gathered.new)) }
-    ensures refused { IfErr result (λ e. e ≢ TableFault.NoMemory → added (form_of layout.now) (read_by gathered.old) (fields_of fields.now) ≡ Err e) }
+    ensures ok { OnOk result (added (form_of layout.now) (read_by gathered.old)
+        (fields_of fields.now) ≡ Ok (read_by gathered.new)) }
+    ensures refused { IfErr result (λ e. e ≢ TableFault.NoMemory
+        → added (form_of layout.now) (read_by gathered.old) (fields_of fields.now) ≡ Err e) }
     ensures line { OnOk result (gathered.new.line ≡ gathered.old.line + 1) }
     ensures gathered { OnOk result (HasGathered (form_of layout.now) gathered.new) }
 {
@@ -407,7 +415,8 @@ fn is_short(layout: &Layout<'_>, gathered: &Gathered) -> bool
 /// What was gathered, where no table has too few rows.
 fn finish(layout: &Layout<'_>, gathered: Gathered) -> Result<Gathered, TableFault>
     ensures same { IfOk result (λ g. g ≡ gathered) }
-    ensures ok { IfOk result (λ g. enough (form_of layout.now) (read_by gathered) ≡ Ok (read_by g)) }
+    ensures ok { IfOk result
+        (λ g. enough (form_of layout.now) (read_by gathered) ≡ Ok (read_by g)) }
     ensures refused { IfErr result (λ e. enough (form_of layout.now) (read_by gathered) ≡ Err e) }
 {
     if is_short(layout, &gathered) {
@@ -423,9 +432,11 @@ fn read_rest(
     reader: &mut Reader<&[u8]>,
     fields: &mut ByteRecord,
 ) -> Result<Gathered, TableFault>
-    ensures ok { IfOk result (λ g. (rest : List Fields) → HasLeft reader.old rest → read_under (form_of layout.now) rest ≡ Ok (read_by g)) }
+    ensures ok { IfOk result (λ g. (rest : List Fields) → HasLeft reader.old rest
+        → read_under (form_of layout.now) rest ≡ Ok (read_by g)) }
     ensures gathered { IfOk result (λ g. HasGathered (form_of layout.now) g) }
-    ensures refused { IfErr result (λ e. e ≢ TableFault.NoMemory → (rest : List Fields) → HasLeft reader.old rest → read_under (form_of layout.now) rest ≡ Err e) }
+    ensures refused { IfErr result (λ e. e ≢ TableFault.NoMemory → (rest : List Fields)
+        → HasLeft reader.old rest → read_under (form_of layout.now) rest ≡ Err e) }
 {
     let mut gathered = nothing_gathered(alloc);
     while found_record(reader, fields)? {
@@ -451,7 +462,8 @@ fn nothing_gathered(alloc: Global) -> Gathered
 
 /// Reads the next record; false at the end of the text.
 fn found_record(reader: &mut Reader<&[u8]>, fields: &mut ByteRecord) -> Result<bool, TableFault>
-    ensures ok { IfOk result (λ found. (rest : List Fields) → HasLeft reader.old rest → Gave found (fields_of fields.new) rest reader.new) }
+    ensures ok { IfOk result (λ found. (rest : List Fields) → HasLeft reader.old rest
+        → Gave found (fields_of fields.new) rest reader.new) }
     ensures memory { IfErr result (λ e. e ≡ TableFault.NoMemory) }
 {
     match next_record(reader, fields) {
@@ -467,9 +479,11 @@ fn read_all(
     reader: &mut Reader<&[u8]>,
     fields: &mut ByteRecord,
 ) -> Result<Gathered, TableFault>
-    ensures ok { IfOk result (λ g. (rest : List Fields) → HasLeft reader.old rest → read_of (form_of layout.now) rest ≡ Ok (read_by g)) }
+    ensures ok { IfOk result (λ g. (rest : List Fields) → HasLeft reader.old rest
+        → read_of (form_of layout.now) rest ≡ Ok (read_by g)) }
     ensures gathered { IfOk result (λ g. HasGathered (form_of layout.now) g) }
-    ensures refused { IfErr result (λ e. e ≢ TableFault.NoMemory → (rest : List Fields) → HasLeft reader.old rest → read_of (form_of layout.now) rest ≡ Err e) }
+    ensures refused { IfErr result (λ e. e ≢ TableFault.NoMemory → (rest : List Fields)
+        → HasLeft reader.old rest → read_of (form_of layout.now) rest ≡ Err e) }
 {
     if !found_record(reader, fields)? {
         return finish(layout, nothing_gathered(alloc));
@@ -484,7 +498,8 @@ fn read_all(
 pub fn read_file(alloc: Global, layout: &Layout<'_>, text: &[u8]) -> Result<Gathered, TableFault>
     ensures ok { IfOk result (λ g. file_in (form_of layout.now) text.now ≡ Ok (read_by g)) }
     ensures gathered { IfOk result (λ g. HasGathered (form_of layout.now) g) }
-    ensures refused { IfErr result (λ e. e ≢ TableFault.NoMemory → file_in (form_of layout.now) text.now ≡ Err e) }
+    ensures refused { IfErr result
+        (λ e. e ≢ TableFault.NoMemory → file_in (form_of layout.now) text.now ≡ Err e) }
 {
     let mut reader = open_records(alloc, text);
     let mut fields = ByteRecord::new(alloc);

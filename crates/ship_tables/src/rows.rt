@@ -94,8 +94,10 @@ pub fn read_row(
     line: u32,
     fields: &ByteRecord,
 ) -> Result<Row, TableFault>
-    ensures ok { IfOk result (λ row. row_in (form_of layout.now) line (fields_of fields.now) ≡ Ok row) }
-    ensures refused { IfErr result (λ e. e ≢ TableFault.NoMemory → row_in (form_of layout.now) line (fields_of fields.now) ≡ Err e) }
+    ensures ok { IfOk result
+        (λ row. row_in (form_of layout.now) line (fields_of fields.now) ≡ Ok row) }
+    ensures refused { IfErr result (λ e. e ≢ TableFault.NoMemory
+        → row_in (form_of layout.now) line (fields_of fields.now) ≡ Err e) }
 {
     if fields.len() != layout.columns.len() {
         return Err(TableFault::BadCsv(layout.file, line));

@@ -47,7 +47,8 @@ impl Tables {
         texts: &TableTexts<'_>,
     ) -> Result<Tables, TableFault>
         ensures ok { IfOk result (λ t. tables_of extent stations (texts_of texts.now) ≡ Ok t) }
-        ensures refused { IfErr result (λ e. e ≢ TableFault.NoMemory → tables_of extent stations (texts_of texts.now) ≡ Err e) }
+        ensures refused { IfErr result (λ e. e ≢ TableFault.NoMemory
+            → tables_of extent stations (texts_of texts.now) ≡ Err e) }
         ensures meaning { IfOk result (λ t. IsSound extent stations t) }
         ensures written { IfOk result (λ t. IsWritten (texts_of texts.now) t) }
     {

@@ -171,7 +171,8 @@ impl Tanks {
 
     /// The filling of a tank by its number.
     pub fn item(&self, tank: u16, kg: u32) -> Option<Body>
-        ensures value { result ≡ filling_in kg (option_map (λ t. t.rows) (slice_get self.now tank)) }
+        ensures value { result
+            ≡ filling_in kg (option_map (λ t. t.rows) (slice_get self.now tank)) }
         ensures placed { IfSome result (λ b. IsPlace b.place) }
     {
         filling_of(self.tables.as_slice(), usize::from(tank), kg)
@@ -219,7 +220,8 @@ fn gather_all(alloc: Global, tables: &[Table]) -> Result<Vec<TankRows>, TableFau
 /// The tanks that the text of `tanks.csv` writes, for a ship of this extent.
 pub fn read_tanks(alloc: Global, extent: &Extent, text: &[u8]) -> Result<Tanks, TableFault>
     ensures ok { IfOk result (λ t. tanks_in extent.now text.now ≡ Ok t) }
-    ensures refused { IfErr result (λ e. e ≢ TableFault.NoMemory → tanks_in extent.now text.now ≡ Err e) }
+    ensures refused { IfErr result
+        (λ e. e ≢ TableFault.NoMemory → tanks_in extent.now text.now ≡ Err e) }
 {
     let read = read_file(alloc, &tanks_layout(*extent), text)?;
     let mut ended = read.ended;

@@ -1,6 +1,7 @@
 pub mod Decisions
 pub mod Intervals
 pub mod Order
+pub mod OutcomeLemmas
 pub mod Ranges
 pub mod Ratios
 pub mod Ring

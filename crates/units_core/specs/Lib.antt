@@ -2,4 +2,5 @@ pub mod Angles
 pub mod Bodies
 pub mod Cells
 pub mod Interpolation
+pub mod Outcome
 pub mod Ratio

@@ -46,7 +46,8 @@ impl Body {
     /// The body of `kg` kilograms at a place, with the free surface moment `fsm` in kg mm. `None` above
     /// [`Body::MAX_KG`], above [`Body::MAX_FSM`], and for a moment below 0.
     pub fn new(kg: u32, place: Place, fsm: i64) -> Option<Body>
-        ensures { SomeIff result (IsWithinLimits kg fsm) (record { kg = kg; place = place; fsm = fsm }) }
+        ensures { SomeIff result (IsWithinLimits kg fsm)
+            (record { kg = kg; place = place; fsm = fsm }) }
     {
         if kg <= Body::MAX_KG && 0 <= fsm && fsm <= Body::MAX_FSM {
             Some(Body { kg, place, fsm })

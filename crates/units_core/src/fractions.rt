@@ -49,7 +49,8 @@ pub fn interp(x: i128, x0: i128, y0: i128, x1: i128, y1: i128) -> Frac
     ensures line { IsOnLine (result.num over result.den) x x0 y0 x1 y1 }
     ensures num { result.num ≡ (y0 *ℤ (x1 -ℤ x)) +ℤ (y1 *ℤ (x -ℤ x0)) }
     ensures den { result.den ≡ x1 -ℤ x0 }
-    ensures size { (m : ℕ) → unsigned_abs y0 ≤ m → unsigned_abs y1 ≤ m → unsigned_abs result.num ≤ m * unsigned_abs (x1 -ℤ x0) }
+    ensures size { (m : ℕ) → unsigned_abs y0 ≤ m → unsigned_abs y1 ≤ m
+        → unsigned_abs result.num ≤ m * unsigned_abs (x1 -ℤ x0) }
 {
     Frac {
         num: y0 * (x1 - x) + y1 * (x - x0),

@@ -10,7 +10,8 @@ pub fn enclosing(arguments: &[i128], x: i128) -> Option<usize>
     requires rows { 2 ≤ length arguments.now }
     requires rises { IsRising arguments.now }
     ensures which { result ≡ interval arguments.now x }
-    ensures exact { MatchOption result (IsOutside arguments.now x) (λ i. Encloses arguments.now i x) }
+    ensures exact { MatchOption result (IsOutside arguments.now x)
+        (λ i. Encloses arguments.now i x) }
 {
     let last = arguments.len() - 1;
     if x < arguments[0] {
@@ -55,7 +56,8 @@ pub fn enclosing_near(arguments: &[i128], x: i128, near: &mut usize) -> Option<u
     requires rows { 2 ≤ length arguments.now }
     requires rises { IsRising arguments.now }
     ensures which { result ≡ interval arguments.now x }
-    ensures exact { MatchOption result (IsOutside arguments.now x) (λ i. Encloses arguments.now i x) }
+    ensures exact { MatchOption result (IsOutside arguments.now x)
+        (λ i. Encloses arguments.now i x) }
 {
     if is_in(arguments, x, *near) {
         return Some(*near);
@@ -76,7 +78,8 @@ pub fn read(arguments: &[i128], column: &[i128], i: usize, x: i128) -> i128
     requires arguments_within { IsWithin (10 ^ 9) arguments.now }
     requires column_within { IsWithin (10 ^ 9) column.now }
     ensures value { result ≡ (reading arguments.now column.now i x).top }
-    ensures size { (m : ℕ) → IsWithin m column.now → unsigned_abs result ≤ m * unsigned_abs (at arguments.now (i + 1) -ℤ at arguments.now i) }
+    ensures size { (m : ℕ) → IsWithin m column.now
+        → unsigned_abs result ≤ m * unsigned_abs (at arguments.now (i + 1) -ℤ at arguments.now i) }
     ensures low { IsPositive column.now → pos 1 ≤ℤ result }
 {
     interp(x, arguments[i], column[i], arguments[i + 1], column[i + 1]).num

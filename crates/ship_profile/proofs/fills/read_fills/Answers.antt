@@ -1,7 +1,7 @@
 use Rattle.std.proofs.Common.{Some}
 use Rattle.toml.specs.View.{view}
 use Rattle.ship_profile.proofs.MeaningLemmas.{optional-sound}
-use Rattle.ship_profile.proofs.OutcomeLemmas.{lift_ok}
+use Rattle.units_core.proofs.OutcomeLemmas.{lift_ok}
 use Rattle.ship_profile.proofs.fills.read_fills.Goals as goal
 
 pub returns-in-Some-clause-meaning : goal.returns-in-Some-clause-meaning

@@ -1,6 +1,6 @@
 use Rattle.toml.specs.View.{table_view}
 use Rattle.ship_profile.proofs.MeaningLemmas.{stations-sound}
-use Rattle.ship_profile.proofs.OutcomeLemmas.{lift_ok}
+use Rattle.units_core.proofs.OutcomeLemmas.{lift_ok}
 use Rattle.ship_profile.proofs.stations.read_stations.Goals as goal
 
 pub returns-clause-meaning : goal.returns-clause-meaning

@@ -1,6 +1,6 @@
 use Rattle.std.proofs.Common.{◌∙◌, sym}
 use Rattle.csv_text.proofs.ReadingLemmas.{gave_one, gave_none}
-use Rattle.ship_tables.proofs.OutcomeLemmas.{lift_ok, lift_err}
+use Rattle.units_core.proofs.OutcomeLemmas.{lift_ok, lift_err}
 use Rattle.ship_tables.proofs.ReadLemmas.{read_of-heading, read_of-other, read_of-none}
 use Rattle.ship_tables.specs.Tables.{form_of}
 use Rattle.ship_tables.proofs.reading.read_all.Goals as goal

@@ -1,7 +1,8 @@
 use Rattle.std.proofs.Common.{◌∙◌}
 use Rattle.std.proofs.lemmas.Result.{err_from_is_err_and}
 use Rattle.csv_text.proofs.ReadingLemmas.{gave_one, gave_none}
-use Rattle.ship_tables.proofs.OutcomeLemmas.{in_turn-more, in_turn-stop, lift_ok, lift_err}
+use Rattle.units_core.proofs.OutcomeLemmas.{lift_ok, lift_err}
+use Rattle.ship_tables.proofs.OutcomeLemmas.{in_turn-more, in_turn-stop}
 use Rattle.ship_tables.proofs.ReadLemmas.{under-stop, under-end}
 use Rattle.ship_tables.specs.Tables.{form_of, added}
 use Rattle.ship_tables.proofs.reading.read_rest.Goals as goal

@@ -1,7 +1,7 @@
 use Rattle.std.proofs.Common.{◌≡◌, ◌∙◌, length, map, arith, sym, ap, Ok, rules}
 use Rattle.std.proofs.lemmas.List.{length-map}
 use Rattle.ship_tables.specs.Gathering.{read_by, names_held}
-use Rattle.ship_tables.specs.Outcome.{◌>>=◌}
+use Rattle.units_core.specs.Outcome.{◌>>=◌}
 use Rattle.ship_tables.specs.Record.{tanks_form, tank_at, tank_table}
 use Rattle.ship_tables.specs.Tables.{tables_read, table_name}
 use Rattle.ship_tables.proofs.MeaningLemmas.{all_tanks}
