@@ -3,7 +3,7 @@ use Rattle.std.specs.Prelude.{ℕ, suc, ℤ, pos, neg_ℤ, int_le, int_lt, nat_l
 use Rattle.units_core.specs.Ratio.{Ratio, is_at_least, is_at_most, is_no_more}
 use Rattle.ship_profile.specs.declared.frames.Frame.{Frame}
 use Rattle.ship_profile.specs.Ship.{ShipRecord}
-use Rattle.hydrostat.specs.Floating.{Waterline, Load, gm, trim, list, draught_at}
+use Rattle.hydrostat.specs.Floating.{Hydrostatics, Load, gm, trim, list, draught_at}
 use Rattle.righting.specs.Levers.{area_of, greatest_of, simpson}
 use Rattle.criteria.specs.declared.criterion.Criterion.{Criterion}
 use Rattle.criteria.specs.declared.criterion.Criterion.TheVariants.{C0, C1, C2, C3, C4, C5, C6, C7, C8, C9, C10, C11}
@@ -11,7 +11,7 @@ use Rattle.criteria.specs.declared.criterion.Criterion.TheVariants.{C0, C1, C2, 
 -- a condition that lies within all tables: how the ship floats, her righting levers at 0, 5, .., 60 degrees, the loads at her frames by
 -- their numbers, and the least metacentric height, where she has such a limit
 pub record Condition : Type 0 where
-  pub water : Waterline
+  pub water : Hydrostatics
   pub load : Load
   pub levers : ℕ → Ratio
   pub shear : ℕ → ℤ
@@ -32,11 +32,11 @@ is_from least None = false
 is_from least (Some k) = nat_le least k
 
 -- the list is there, and within the limit
-abbrev pub list_holds : Waterline → Load → ℤ → Bool
+abbrev pub list_holds : Hydrostatics → Load → ℤ → Bool
 list_holds w l most = int_lt (pos 0) (gm w l).top && is_within (list w l) most
 
 -- the draughts aft and forward, and the trim
-abbrev pub draughts_hold : Waterline → Load → ℤ → ℤ → ℤ → Bool
+abbrev pub draughts_hold : Hydrostatics → Load → ℤ → ℤ → ℤ → Bool
 draughts_hold w l lbp most trim_most = (is_at_most (draught_at w l lbp (pos 0)) most && is_at_most (draught_at w l lbp lbp) most) && is_within (trim w l) trim_most
 
 -- at every frame, numbered from i

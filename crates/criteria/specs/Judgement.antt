@@ -5,7 +5,7 @@ use Rattle.units_core.specs.Ratio.{Ratio, floor_of}
 use Rattle.ship_profile.specs.Record.{ProfileRecord}
 use Rattle.ship_profile.specs.Ship.{ShipRecord}
 use Rattle.moment_sums.specs.Sum.{Sum, Weight}
-use Rattle.hydrostat.specs.Floating.{Waterline, Load, draught_at, gm, load_of, trim, waterline}
+use Rattle.hydrostat.specs.Floating.{Hydrostatics, Load, draught_at, gm, load_of, trim, hydrostatics_at}
 use Rattle.righting.specs.Levers.{AreOrdinates, greatest_of, mm_degrees, simpson}
 use Rattle.criteria.specs.Criteria.{not_met}
 use Rattle.hydrostat.specs.declared.outside.Outside.{Outside}
@@ -37,7 +37,7 @@ pub record Printed : Type 0 where
   pub shear : ℕ → ℤ
   pub bending : ℕ → ℤ
 
-abbrev pub printed_of : Waterline → Load → ℤ → (ℕ → Ratio) → ℤ → (ℕ → ℤ) → (ℕ → ℤ) → Printed
+abbrev pub printed_of : Hydrostatics → Load → ℤ → (ℕ → Ratio) → ℤ → (ℕ → ℤ) → (ℕ → ℤ) → Printed
 printed_of w l lbp y closing shear bending = record {
   gm = floor_of (gm w l);
   mean = floor_of w.draught;
@@ -91,30 +91,30 @@ told (verdict.Passes figures) = Passes (read figures)
 
 -- Outside of the first table, in their order, in which the ship isn't: the hydrostatic table, the cross curves, the Bonjean curves at
 -- each station, then the closing error, and last the least metacentric heights. Within all of them, by the first criterion that doesn't hold.
-abbrev pub with_least : ShipRecord → Waterline → Load → (ℕ → Ratio) → ℤ → (ℕ → ℤ) → (ℕ → ℤ) → Option (Option Ratio) → Judgement
+abbrev pub with_least : ShipRecord → Hydrostatics → Load → (ℕ → Ratio) → ℤ → (ℕ → ℤ) → (ℕ → ℤ) → Option (Option Ratio) → Judgement
 with_least ship w l y closing shear bending None = IsOutside cause.GmLimit
 with_least ship w l y closing shear bending (Some least) =
     judged (not_met ship (record { water = w; load = l; levers = y; shear = shear; bending = bending; least_gm = least })) (printed_of w l ship.lbp y closing shear bending)
 
-abbrev pub with_closing : ProfileRecord → Sum → Waterline → (ℕ → Ratio) → (ℕ → ℤ) → Bool → Judgement
+abbrev pub with_closing : ProfileRecord → Sum → Hydrostatics → (ℕ → Ratio) → (ℕ → ℤ) → Bool → Judgement
 with_closing p s w y areas false = IsOutside cause.Closing
 with_closing p s w y areas true =
     with_least p.ship w (load_of s) y (closing_of s areas p.ship.stations) (shear_at s areas p.ship.stations p.ship.frames) (bending_at s areas p.ship.stations p.ship.frames) (least_at p.tables.least_gm (s Weight))
 
-abbrev pub with_areas : ProfileRecord → Sum → Waterline → (ℕ → Ratio) → Option (ℕ → ℤ) → Judgement
+abbrev pub with_areas : ProfileRecord → Sum → Hydrostatics → (ℕ → Ratio) → Option (ℕ → ℤ) → Judgement
 with_areas p s w y None = IsOutside cause.Bonjean
 with_areas p s w y (Some areas) = with_closing p s w y areas (closes (closing_of s areas p.ship.stations) p.ship.closing_max)
 
-abbrev pub with_levers : ProfileRecord → Sum → Waterline → Option (ℕ → Ratio) → Judgement
+abbrev pub with_levers : ProfileRecord → Sum → Hydrostatics → Option (ℕ → Ratio) → Judgement
 with_levers p s w None = IsOutside cause.Levers
 with_levers p s w (Some y) = with_areas p s w y (areas_of p.tables.bonjean (draught_at w (load_of s) p.ship.lbp) p.ship.stations)
 
-abbrev pub with_water : ProfileRecord → Sum → Option Waterline → Judgement
+abbrev pub with_water : ProfileRecord → Sum → Option Hydrostatics → Judgement
 with_water p s None = IsOutside cause.Hydro
 with_water p s (Some w) = with_levers p s w (levers_of p.tables.levers s)
 
 abbrev pub judgement_of : ProfileRecord → Sum → Judgement
-judgement_of p s = with_water p s (waterline p.tables.hydro (s Weight))
+judgement_of p s = with_water p s (hydrostatics_at p.tables.hydro (s Weight))
 
 -- the answer is this of any ordinates that the numbers ns over d are
 abbrev pub IsWhatever : Judgement → List ℤ → ℤ → ((ℕ → Ratio) → Judgement) → Type 0

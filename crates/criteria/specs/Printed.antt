@@ -3,18 +3,18 @@ use Rattle.std.specs.Prelude.{◌≡◌, ℕ, ◌*◌, ℤ, pos, Option, None, S
 use Rattle.units_core.specs.Interpolation.{at}
 use Rattle.units_core.specs.Ratio.{Ratio, Is, floor_of}
 use Rattle.hydrostat.specs.declared.particulars.Afloat.{Afloat}
-use Rattle.hydrostat.specs.Floating.{Waterline, Load, draught_at, gm, list, load, trim, water}
+use Rattle.hydrostat.specs.Floating.{Hydrostatics, Load, draught_at, gm, list, load, trim, water}
 use Rattle.righting.specs.declared.ordinates.Levers.{Levers}
 use Rattle.righting.specs.Levers.{AreOrdinates, greatest_of, mm_degrees, simpson}
 use Rattle.strength.specs.declared.loads.Strains.{Strains}
 use Rattle.criteria.specs.declared.figures.Figures.{Figures}
 
 -- the list, where the metacentric height is positive
-abbrev pub list_down : Waterline → Load → Option ℤ
+abbrev pub list_down : Hydrostatics → Load → Option ℤ
 list_down w l = if int_lt (pos 0) (gm w l).top then Some (floor_of (list w l)) else None
 
 -- how she floats
-pub record AreFloating (f : Figures) (w : Waterline) (l : Load) (lbp : ℤ) : Type 0 where
+pub record AreFloating (f : Figures) (w : Hydrostatics) (l : Load) (lbp : ℤ) : Type 0 where
   pub gm : f.gm ≡ floor_of (gm w l)
   pub mean : f.mean ≡ floor_of w.draught
   pub aft : f.aft ≡ floor_of (draught_at w l lbp (pos 0))

@@ -29,7 +29,8 @@ fn least_in(curves: &Curves, kg: i128, i: usize) -> Frac
 /// The least metacentric height at a displacement; `None` where that lies outside of the table.
 fn least_of(curves: &Curves, kg: i128, near: &mut usize) -> Option<Option<Frac>>
     requires table { IsLeastGmTable curves.now }
-    ensures value { option_map (λ o. option_map (λ f. f.num over f.den) o) result ≡ least_at (Some curves.now) kg }
+    ensures value { option_map (λ o. option_map (λ f. f.num over f.den) o) result
+        ≡ least_at (Some curves.now) kg }
     ensures size { AreLeast result }
 {
     let i = enclosing_near(curves.arguments(), kg, near)?;
@@ -39,7 +40,8 @@ fn least_of(curves: &Curves, kg: i128, near: &mut usize) -> Option<Option<Frac>>
 /// The least metacentric height that the ship may have with this aboard, where she has such limits; `None` where the displacement lies
 /// outside of their table.
 pub fn least_gm(profile: &Profile, totals: &Totals, near: &mut usize) -> Option<Option<Frac>>
-    ensures value { option_map (λ o. option_map (λ f. f.num over f.den) o) result ≡ least_at profile.now.tables.least_gm (values totals.now Weight) }
+    ensures value { option_map (λ o. option_map (λ f. f.num over f.den) o) result
+        ≡ least_at profile.now.tables.least_gm (values totals.now Weight) }
     ensures size { AreLeast result }
 {
     match profile.least_gm() {

@@ -69,7 +69,10 @@ fn judge_loaded(
     near: &mut Nearby,
 ) -> Verdict
     requires length { a.now.lbp ≡ profile.now.ship.lbp }
-    ensures { IsWhatever (told result) levers.now.num levers.now.den (λ y. with_least profile.now.ship (water a.now) (load a.now) y strains.now.closing (λ i. at strains.now.loads.shear i) (λ i. at strains.now.loads.bending i) (least_at profile.now.tables.least_gm (values totals.now Weight))) }
+    ensures { IsWhatever (told result) levers.now.num levers.now.den
+        (λ y. with_least profile.now.ship (water a.now) (load a.now) y strains.now.closing
+        (λ i. at strains.now.loads.shear i) (λ i. at strains.now.loads.bending i)
+        (least_at profile.now.tables.least_gm (values totals.now Weight))) }
 {
     match least_gm(profile, totals, &mut near.least_gm) {
         Some(least) => judged(
@@ -95,7 +98,10 @@ fn judge_immersed(
     requires kg { unsigned_abs (values totals.now Weight) ≤ 10 ^ 9 }
     requires loaded { load a.now ≡ load_of (values totals.now) }
     requires length { a.now.lbp ≡ profile.now.ship.lbp }
-    ensures { IsWhatever (told result) levers.now.num levers.now.den (λ y. with_closing profile.now (values totals.now) (water a.now) y (at areas.now.area) (closes (closing_of (values totals.now) (at areas.now.area) profile.now.ship.stations) profile.now.ship.closing_max)) }
+    ensures { IsWhatever (told result) levers.now.num levers.now.den
+        (λ y. with_closing profile.now (values totals.now) (water a.now) y (at areas.now.area)
+        (closes (closing_of (values totals.now)
+        (at areas.now.area) profile.now.ship.stations) profile.now.ship.closing_max)) }
 {
     let strains = strains_of(profile, hull, totals, areas);
     if closes(strains.closing, profile.closing_max()) {
@@ -119,7 +125,10 @@ fn judge_righted(
     requires kg { unsigned_abs (values totals.now Weight) ≤ 10 ^ 9 }
     requires loaded { load a.now ≡ load_of (values totals.now) }
     requires length { a.now.lbp ≡ profile.now.ship.lbp }
-    ensures { IsWhatever (told result) levers.now.num levers.now.den (λ y. with_areas profile.now (values totals.now) (water a.now) y (areas_of profile.now.tables.bonjean (draught_at (water a.now) (load_of (values totals.now)) profile.now.ship.lbp) profile.now.ship.stations)) }
+    ensures { IsWhatever (told result) levers.now.num levers.now.den
+        (λ y. with_areas profile.now (values totals.now) (water a.now) y
+        (areas_of profile.now.tables.bonjean (draught_at (water a.now)
+        (load_of (values totals.now)) profile.now.ship.lbp) profile.now.ship.stations)) }
 {
     match areas_aboard(profile, a, &mut near.bonjean) {
         Some(areas) => judge_immersed(profile, totals, a, levers, &areas, hull, near),
@@ -141,7 +150,8 @@ fn judge_afloat(
     requires side { unsigned_abs (values totals.now MomentY) ≤ 10 ^ 15 }
     requires loaded { load a.now ≡ load_of (values totals.now) }
     requires length { a.now.lbp ≡ profile.now.ship.lbp }
-    ensures { told result ≡ with_levers profile.now (values totals.now) (water a.now) (levers_of profile.now.tables.levers (values totals.now)) }
+    ensures { told result ≡ with_levers profile.now (values totals.now) (water a.now)
+        (levers_of profile.now.tables.levers (values totals.now)) }
 {
     match levers_aboard(profile, totals, &mut near.levers) {
         Some(levers) => judge_righted(profile, totals, a, &levers, hull, near),

@@ -55,7 +55,8 @@ fn is_bad_service(service: Service) -> bool
 /// What UNA sets, from the bytes behind its three letters, and the bytes behind it.
 fn advised(len: usize, place: usize, bytes: &[u8]) -> Result<(Service, &[u8]), EdiFault>
     ensures less { IfOk result (λ p. length p.1.now ≤ length bytes.now) }
-    ensures value { Gives (λ p. record { service = p.0; bytes = p.1.now }) result (advised len place bytes.now) }
+    ensures value { Gives (λ p. record { service = p.0; bytes = p.1.now }) result
+        (advised len place bytes.now) }
 {
     match bytes {
         [component, element, mark, release, _, terminator, rest @ ..] => {
@@ -85,7 +86,8 @@ fn advised(len: usize, place: usize, bytes: &[u8]) -> Result<(Service, &[u8]), E
 /// The service characters, by UNA where the bytes begin with it, and the bytes of the segments.
 pub(crate) fn start_of(len: usize, place: usize, bytes: &[u8]) -> Result<(Service, &[u8]), EdiFault>
     ensures less { IfOk result (λ p. length p.1.now ≤ length bytes.now) }
-    ensures value { Gives (λ p. record { service = p.0; bytes = p.1.now }) result (start_of len place bytes.now) }
+    ensures value { Gives (λ p. record { service = p.0; bytes = p.1.now }) result
+        (start_of len place bytes.now) }
 {
     match bytes {
         [a, b, c, rest @ ..] => {

@@ -25,7 +25,8 @@ impl<'a> Cursor<'a> {
         ensures first { MatchOption result.1 (ahead self.entry ≡ seen result.0 ∷ [])
             (λ rest. (ahead self.entry ≡ seen result.0 ∷ ahead rest) × (0 < length (ahead rest))) }
         ensures service { result.0.service ≡ self.entry.service }
-        ensures same { IfSome result.1 (λ rest. (rest.service ≡ self.entry.service) × (rest.len ≡ self.entry.len)
+        ensures same { IfSome result.1
+            (λ rest. (rest.service ≡ self.entry.service) × (rest.len ≡ self.entry.len)
             × (length rest.rest.now < length self.entry.rest.now)) }
     {
         let service = self.service;
@@ -54,7 +55,8 @@ impl<'a> Cursor<'a> {
     pub(crate) fn split_first(self) -> Option<(SegmentText<'a>, Cursor<'a>)>
         ensures first { MatchOption result (ended_ones (ahead self.entry) ≡ [])
             (λ p. ended_ones (ahead self.entry) ≡ seen p.0 ∷ ended_ones (ahead p.1)) }
-        ensures same { IfSome result (λ p. (p.0.service ≡ self.entry.service) × (p.1.service ≡ self.entry.service)) }
+        ensures same { IfSome result
+            (λ p. (p.0.service ≡ self.entry.service) × (p.1.service ≡ self.entry.service)) }
     {
         let (text, behind) = self.take();
         Some((text, behind?))
@@ -65,7 +67,8 @@ impl<'a> Cursor<'a> {
         ensures next { MatchResult result
             (λ p. next_of self.entry.service self.entry.len (ahead self.entry) ≡ Ok (seen p.0, ahead p.1))
             (λ e. next_of self.entry.service self.entry.len (ahead self.entry) ≡ Err e) }
-        ensures same { IfOk result (λ p. (p.0.service ≡ self.entry.service) × (p.1.service ≡ self.entry.service)
+        ensures same { IfOk result
+            (λ p. (p.0.service ≡ self.entry.service) × (p.1.service ≡ self.entry.service)
             × (p.1.len ≡ self.entry.len) × (length p.1.rest.now < length self.entry.rest.now)) }
     {
         let (text, behind) = self.take();

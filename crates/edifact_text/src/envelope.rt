@@ -23,9 +23,11 @@ struct Headers<'a> {
 /// Both headers.
 #[tactic(auto, unfolding(crate::specs::Stages::headers_of))]
 fn read_headers<'a>(kind: Kind, cursor: Cursor<'a>) -> Result<Headers<'a>, EdiFault>
-    ensures value { Gives (λ h. record { unb = seen h.unb; unh = seen h.unh; behind = ahead h.behind }) result
+    ensures value { Gives
+        (λ h. record { unb = seen h.unb; unh = seen h.unh; behind = ahead h.behind }) result
         (headers_of kind cursor.entry.service cursor.entry.len (ahead cursor.entry)) }
-    ensures same { IfOk result (λ h. (h.unb.service ≡ cursor.entry.service) × (h.unh.service ≡ cursor.entry.service)
+    ensures same { IfOk result
+        (λ h. (h.unb.service ≡ cursor.entry.service) × (h.unh.service ≡ cursor.entry.service)
         × (h.behind.service ≡ cursor.entry.service) × (h.behind.len ≡ cursor.entry.len)) }
 {
     let (unb, behind) = cursor.next()?;
@@ -50,7 +52,8 @@ fn end_rows(cursor: Cursor<'_>) -> Result<(), EdiFault>
 #[tactic(auto, unfolding(crate::specs::Stages::ends_of))]
 fn ends(unb: SegmentText<'_>, cursor: Cursor<'_>) -> Result<(), EdiFault>
     requires { unb.service ≡ cursor.service }
-    ensures { result ≡ ends_of cursor.entry.service cursor.entry.len (seen unb.entry) (ahead cursor.entry) }
+    ensures { result
+        ≡ ends_of cursor.entry.service cursor.entry.len (seen unb.entry) (ahead cursor.entry) }
 {
     let (unz, behind) = cursor.next()?;
     unz.unz_rows(unb)?;
@@ -67,9 +70,11 @@ struct Ended<'a> {
 
 /// The segments up to the message trailer, each checked.
 fn trailer<'a>(cursor: Cursor<'a>) -> Result<Ended<'a>, EdiFault>
-    ensures value { Gives (λ e. record { trailer = seen e.trailer; number = e.number; behind = ahead e.behind }) result
+    ensures value { Gives (λ e.
+        record { trailer = seen e.trailer; number = e.number; behind = ahead e.behind }) result
         (trailer_of cursor.entry.service cursor.entry.len 2 (ahead cursor.entry)) }
-    ensures same { IfOk result (λ e. (e.trailer.service ≡ cursor.entry.service) × (e.behind.service ≡ cursor.entry.service)
+    ensures same { IfOk result
+        (λ e. (e.trailer.service ≡ cursor.entry.service) × (e.behind.service ≡ cursor.entry.service)
         × (e.behind.len ≡ cursor.entry.len) × (2 ≤ e.number)) }
     ensures fits { IfOk result (λ e. e.number ≤ 2 + length cursor.entry.rest.now) }
 {
@@ -132,9 +137,11 @@ fn read_text(bytes: &[u8], kind: Kind) -> Result<Message<'_>, EdiFault>
 /// which goes before which, is the table of `specs/Rows.antt`.
 pub fn open(bytes: &[u8], kind: Kind) -> Result<Message<'_>, EdiFault>
     // What is answered, as a function of the text.
-    ensures exact { MatchResult result (λ m. opened kind bytes.now ≡ Ok (message_view m)) (λ e. opened kind bytes.now ≡ Err e) }
+    ensures exact { MatchResult result (λ m. opened kind bytes.now ≡ Ok (message_view m))
+        (λ e. opened kind bytes.now ≡ Err e) }
     // What that means: how a message is spelt, and which rows don't apply to it.
-    ensures message { IfOk result (λ m. IsMessage kind bytes.now (message_view m).mark (message_view m).segments) }
+    ensures message { IfOk result
+        (λ m. IsMessage kind bytes.now (message_view m).mark (message_view m).segments) }
     ensures fault { IfErr result (λ e. IsFault kind bytes.now e) }
 {
     read_text(bytes, kind)

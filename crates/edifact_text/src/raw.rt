@@ -26,7 +26,8 @@ impl<'a> Raw<'a> {
     /// The literal's first byte, and a component that means the rest of it.
     #[tactic(auto, unfolding(crate::specs::Views::meant))]
     pub(crate) fn split_first(self) -> Option<(u8, Raw<'a>)>
-        ensures first { MatchOption result (meant self.entry ≡ []) (λ p. meant self.entry ≡ p.0 ∷ meant p.1) }
+        ensures first { MatchOption result (meant self.entry ≡ [])
+            (λ p. meant self.entry ≡ p.0 ∷ meant p.1) }
         ensures less { IfSome result (λ p. length p.1.bytes.now < length self.entry.bytes.now) }
     {
         match self.bytes {

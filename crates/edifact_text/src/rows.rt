@@ -18,8 +18,10 @@ pub(crate) struct Trailers {
 impl SegmentText<'_> {
     /// Whether it is a trailer. The tag is looked for once.
     pub(crate) fn trailers(self) -> Trailers
-        ensures message { result.message ≡ is_text (part self.entry.service self.entry.bytes.now 0 0) (codes "UNT") }
-        ensures interchange { result.interchange ≡ is_text (part self.entry.service self.entry.bytes.now 0 0) (codes "UNZ") }
+        ensures message { result.message
+            ≡ is_text (part self.entry.service self.entry.bytes.now 0 0) (codes "UNT") }
+        ensures interchange { result.interchange
+            ≡ is_text (part self.entry.service self.entry.bytes.now 0 0) (codes "UNZ") }
     {
         let tag = self.component(0, 0);
         Trailers {

@@ -45,7 +45,8 @@ impl<'a> SegmentText<'a> {
     /// Component `j` of element `i` has the literal of the other's component `l` of element `k`.
     pub(crate) fn same(self, i: usize, j: usize, other: SegmentText<'_>, k: usize, l: usize) -> bool
         requires { self.service ≡ other.service }
-        ensures { result ≡ is_text (part self.entry.service self.entry.bytes.now i j) (part self.entry.service other.entry.bytes.now k l) }
+        ensures { result ≡ is_text (part self.entry.service self.entry.bytes.now i j)
+            (part self.entry.service other.entry.bytes.now k l) }
     {
         self.component(i, j).same(other.component(k, l))
     }
@@ -66,7 +67,8 @@ impl<'a> SegmentText<'a> {
 
     /// Component `j` of element `i` writes this number in 1 to 10 digits.
     pub(crate) fn has_count(self, i: usize, j: usize, number: u64) -> bool
-        ensures { result ≡ is_number (count_of (part self.entry.service self.entry.bytes.now i j)) number }
+        ensures { result
+            ≡ is_number (count_of (part self.entry.service self.entry.bytes.now i j)) number }
     {
         match count(self.component(i, j)) {
             Some(found) => found == number,

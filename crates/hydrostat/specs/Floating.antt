@@ -9,15 +9,15 @@ use Rattle.hydrostat.specs.declared.particulars.Afloat.{Afloat}
 
 -- what the hydrostatic table gives at a displacement: mean draught, height of the transverse metacentre above the keel,
 -- centre of buoyancy, centre of flotation, moment to change trim
-pub record Waterline : Type 0 where
+pub record Hydrostatics : Type 0 where
   pub draught : Ratio
   pub kmt : Ratio
   pub lcb : Ratio
   pub lcf : Ratio
   pub mct : Ratio
 
-abbrev pub waterline_in : HydroTable → ℤ → ℕ → Waterline
-waterline_in h w i = record {
+abbrev pub hydrostatics_in : HydroTable → ℤ → ℕ → Hydrostatics
+hydrostatics_in h w i = record {
   draught = reading h.kg h.draught i w;
   kmt = reading h.kg h.kmt i w;
   lcb = reading h.kg h.lcb i w;
@@ -26,8 +26,8 @@ waterline_in h w i = record {
 }
 
 -- none where the displacement is outside of the table
-abbrev pub waterline : HydroTable → ℤ → Option Waterline
-waterline h w = option_map (waterline_in h w) (interval h.kg w)
+abbrev pub hydrostatics_at : HydroTable → ℤ → Option Hydrostatics
+hydrostatics_at h w = option_map (hydrostatics_in h w) (interval h.kg w)
 
 -- what is aboard, as it bears on how the ship floats: its mass, its moments about the after perpendicular and about the middle line, and
 -- that about the keel with the free surfaces
@@ -47,32 +47,32 @@ lcg l = l.x over l.kg
 abbrev pub tcg : Load → Ratio
 tcg l = l.y over l.kg
 
-abbrev pub kg_height : Load → Ratio
-kg_height l = l.upright over l.kg
+abbrev pub height_of_gravity : Load → Ratio
+height_of_gravity l = l.upright over l.kg
 
 -- GM = KMT - KG
-abbrev pub gm : Waterline → Load → Ratio
-gm w l = w.kmt ⊖ kg_height l
+abbrev pub gm : Hydrostatics → Load → Ratio
+gm w l = w.kmt ⊖ height_of_gravity l
 
 -- trim = W (LCB - LCG) / MCT, by the stern positive
-abbrev pub trim : Waterline → Load → Ratio
+abbrev pub trim : Hydrostatics → Load → Ratio
 trim w l = (whole l.kg ⊗ (w.lcb ⊖ lcg l)) ⊘ w.mct
 
 -- draught(x) = mean + trim (LCF - x) / LBP
-abbrev pub draught_at : Waterline → Load → ℤ → ℤ → Ratio
+abbrev pub draught_at : Hydrostatics → Load → ℤ → ℤ → Ratio
 draught_at w l lbp x = w.draught ⊕ ((trim w l ⊗ (w.lcf ⊖ whole x)) ⊘ whole lbp)
 
 -- list = 10000 TCG / GM, in ten-thousandths of the tangent
-abbrev pub list : Waterline → Load → Ratio
+abbrev pub list : Hydrostatics → Load → Ratio
 list w l = (whole (pos 10000) ⊗ tcg l) ⊘ gm w l
 
 -- the list, which there is where the metacentric height is positive
-abbrev pub IsListOf : Option Frac → Waterline → Load → Type 0
+abbrev pub IsListOf : Option Frac → Hydrostatics → Load → Type 0
 IsListOf None w l = (gm w l).top ≤ℤ pos 0
 IsListOf (Some r) w l = (pos 0 <ℤ (gm w l).top) × Is r.num r.den (list w l) × (unsigned_abs r.den ≤ 3 * 10 ^ 23)
 
--- the waterline and the load of the numbers
-abbrev pub water : Afloat → Waterline
+-- the hydrostatics and the load of the numbers
+abbrev pub water : Afloat → Hydrostatics
 water a = record {
   draught = a.draught over a.gap;
   kmt = a.kmt over a.gap;
@@ -84,13 +84,13 @@ water a = record {
 abbrev pub load : Afloat → Load
 load a = record { kg = a.kg; x = a.x; y = a.y; upright = a.upright }
 
--- the numbers are those of a ship with the sum s aboard, on her waterline
+-- the numbers are those of a ship with the sum s aboard, with her hydrostatics
 pub record IsAfloatIn (a : Afloat) (h : HydroTable) (s : Sum) (lbp : ℤ) (i : ℕ) : Type 0 where
-  pub on : water a ≡ waterline_in h (s Weight) i
+  pub on : water a ≡ hydrostatics_in h (s Weight) i
   pub loaded : load a ≡ load_of s
   pub length : a.lbp ≡ lbp
 
 pub record IsAfloat (a : Afloat) (h : HydroTable) (s : Sum) (lbp : ℤ) : Type 0 where
-  pub on : waterline h (s Weight) ≡ Some (water a)
+  pub on : hydrostatics_at h (s Weight) ≡ Some (water a)
   pub loaded : load a ≡ load_of s
   pub length : a.lbp ≡ lbp

@@ -10,7 +10,8 @@ use units_core::Frac;
 fn draught_by(a: &Afloat, trim: i128, x: i128) -> Frac
     requires x { unsigned_abs x ≤ 10 ^ 6 }
     requires trim { unsigned_abs trim ≤ 2 * 10 ^ 23 }
-    ensures num { result.num ≡ ((a.now.draught *ℤ a.now.mct) *ℤ a.now.lbp) +ℤ (trim *ℤ (a.now.lcf -ℤ (x *ℤ a.now.gap))) }
+    ensures num { result.num
+        ≡ ((a.now.draught *ℤ a.now.mct) *ℤ a.now.lbp) +ℤ (trim *ℤ (a.now.lcf -ℤ (x *ℤ a.now.gap))) }
     ensures den { result.den ≡ (a.now.gap *ℤ a.now.mct) *ℤ a.now.lbp }
     ensures size { unsigned_abs result.den ≤ 10 ^ 31 }
 {

@@ -3,7 +3,7 @@ ghost use Rattle.moment_sums.specs.Bounded.{IsBounded};
 ghost use Rattle.moment_sums.specs.Kept.{values};
 ghost use Rattle.moment_sums.specs.Sum.{Weight};
 ghost use Rattle.units_core.specs.Ratio.{Is};
-ghost use Rattle.hydrostat.specs.Floating.{draught_at, load, load_of, water, waterline};
+ghost use Rattle.hydrostat.specs.Floating.{draught_at, load, load_of, water, hydrostatics_at};
 ghost use Rattle.hydrostat.specs.Figures.{IsFloating, IsFloatingOf};
 
 use crate::draughts::draught;
@@ -37,7 +37,8 @@ pub struct Floating {
 impl Floating {
     /// The draught in mm at `x`, which is measured forward from the after perpendicular.
     pub fn draught(&self, x: Mm) -> Frac
-        ensures { Is result.num result.den (draught_at (water self.now.afloat) (load self.now.afloat) self.now.afloat.lbp x) }
+        ensures { Is result.num result.den
+            (draught_at (water self.now.afloat) (load self.now.afloat) self.now.afloat.lbp x) }
     {
         draught(&self.afloat, i128::from(x.get()))
     }
@@ -61,7 +62,8 @@ fn figures(afloat: &Afloat) -> Floating
 /// How the ship floats with this aboard; [`Outside::Hydro`] where the displacement lies outside of her hydrostatic table.
 pub fn floating_of(profile: &Profile, totals: &Totals) -> Result<Floating, Outside>
     requires bounded { IsBounded (values totals.now) }
-    ensures { IsFloatingOf result (waterline profile.now.tables.hydro (values totals.now Weight)) (load_of (values totals.now)) profile.now.ship.lbp }
+    ensures { IsFloatingOf result (hydrostatics_at profile.now.tables.hydro (values totals.now Weight))
+        (load_of (values totals.now)) profile.now.ship.lbp }
 {
     match on_waterline(profile, totals, &mut 0) {
         Some(afloat) => Ok(figures(&afloat)),

@@ -3,7 +3,7 @@ ghost use Rattle.moment_sums.specs.Bounded.{IsBounded};
 ghost use Rattle.moment_sums.specs.Kept.{values};
 ghost use Rattle.moment_sums.specs.Sum.{Weight};
 ghost use Rattle.units_core.specs.Interpolation.{Encloses};
-ghost use Rattle.hydrostat.specs.Floating.{IsAfloat, IsAfloatIn, load_of, waterline};
+ghost use Rattle.hydrostat.specs.Floating.{IsAfloat, IsAfloatIn, load_of, hydrostatics_at};
 
 use crate::particulars::Afloat;
 use moment_sums::Totals;
@@ -49,7 +49,9 @@ fn afloat_at(hydro: &Hydro, lbp: i128, totals: &Totals, i: usize) -> Afloat
 /// first in the interval `near` of the table, which is then the one where it was found.
 pub fn on_waterline(profile: &Profile, totals: &Totals, near: &mut usize) -> Option<Afloat>
     requires bounded { IsBounded (values totals.now) }
-    ensures { MatchOption result (waterline profile.now.tables.hydro (values totals.now Weight) ≡ None) (λ a. IsAfloat a profile.now.tables.hydro (values totals.now) profile.now.ship.lbp) }
+    ensures { MatchOption result
+        (hydrostatics_at profile.now.tables.hydro (values totals.now Weight) ≡ None)
+        (λ a. IsAfloat a profile.now.tables.hydro (values totals.now) profile.now.ship.lbp) }
 {
     let hydro = profile.hydro();
     let i = enclosing_near(hydro.kg(), totals.kg(), near)?;

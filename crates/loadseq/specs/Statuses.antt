@@ -42,7 +42,7 @@ abbrev pub name_shown : List ℕ → List ℕ
 name_shown [] = codes "(empty name)"
 name_shown (byte ∷ more) = map shown (byte ∷ more)
 
--- wrong words, and a run without a report, as what stopped the program
+-- a usage error, and a run without a report, as what stopped the program
 abbrev pub stop_of_line : LineFault → Stop
 stop_of_line (line.Usage text) = Usage text
 stop_of_line line.NoMemory = NoMemory

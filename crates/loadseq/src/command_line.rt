@@ -131,10 +131,13 @@ fn check<'a>(alloc: Global) -> Result<Command<'a>, AllocError>
 
 /// What `clap` makes of the words behind `check`.
 fn check_matches<'a>(alloc: Global, words: &'a [&'a str]) -> Result<ArgMatches<'a>, clap::Error>
-    ensures rows { IfOk result (λ m. rows_of (found_of m) ≡ matches_of check_command (map (λ w. w.now) words.entry.now)) }
-    ensures taken { IfOk result (λ _. fault_of check_command (map (λ w. w.now) words.entry.now) ≡ []) }
+    ensures rows { IfOk result
+        (λ m. rows_of (found_of m) ≡ matches_of check_command (map (λ w. w.now) words.entry.now)) }
+    ensures taken { IfOk result
+        (λ _. fault_of check_command (map (λ w. w.now) words.entry.now) ≡ []) }
     ensures promised { IfOk result HasWords }
-    ensures refused { IfErr result (λ e. takes check_command (map (λ w. w.now) words.entry.now) ≡ true → kind_of e ≡ ErrorKind.OutOfMemory) }
+    ensures refused { IfErr result (λ e. takes check_command (map (λ w. w.now) words.entry.now)
+        ≡ true → kind_of e ≡ ErrorKind.OutOfMemory) }
 {
     let command = check(alloc)?;
     command.try_get_matches_from(words)
@@ -169,7 +172,8 @@ fn refused(alloc: Global, error: &clap::Error) -> LineFault
 /// The line of the words behind `check`.
 fn check_line<'a>(alloc: Global, words: &'a [&'a str]) -> Result<Line<'a>, LineFault>
     ensures ok { IfOk result (IsLineOf (map (λ w. w.now) words.entry.now)) }
-    ensures usage { IfErr result (λ e. IsUsage e → takes check_command (map (λ w. w.now) words.entry.now) ≡ false) }
+    ensures usage { IfErr result
+        (λ e. IsUsage e → takes check_command (map (λ w. w.now) words.entry.now) ≡ false) }
 {
     let matches = match check_matches(alloc, words) {
         Ok(matches) => matches,
@@ -193,8 +197,10 @@ fn check_line<'a>(alloc: Global, words: &'a [&'a str]) -> Result<Line<'a>, LineF
 /// behind it. [`LineFault::Usage`] comes only where there is no first word, it is another, or `clap` doesn't take
 /// the words behind it; help is such an answer too.
 pub fn read_line<'a>(alloc: Global, words: &'a [&'a str]) -> Result<Line<'a>, LineFault>
-    ensures ok { IfOk result (IsLineBehind (behind_name (codes "check") (map (λ w. w.now) words.entry.now))) }
-    ensures usage { IfErr result (λ e. IsUsage e → IsNotTaken (behind_name (codes "check") (map (λ w. w.now) words.entry.now))) }
+    ensures ok { IfOk result
+        (IsLineBehind (behind_name (codes "check") (map (λ w. w.now) words.entry.now))) }
+    ensures usage { IfErr result (λ e. IsUsage e
+        → IsNotTaken (behind_name (codes "check") (map (λ w. w.now) words.entry.now))) }
 {
     if let Some((first, behind)) = words.split_first() {
         if *first == "check" {

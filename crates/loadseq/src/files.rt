@@ -30,8 +30,10 @@ pub trait Readers {
 
     /// Opens a file. A file that is known to be there is never answered as missing.
     fn file(&mut self, name: &str) -> Result<Self::File, Unopened>
-        ensures opened { IfOk result (λ file. RemainsOf (known self.old name.now) (Self.File.remaining file)) }
-        ensures missing { IfErr result (λ e. e ≡ Unopened.Missing → known self.old name.now ≡ Nothing) }
+        ensures opened { IfOk result
+            (λ file. RemainsOf (known self.old name.now) (Self.File.remaining file)) }
+        ensures missing { IfErr result
+            (λ e. e ≡ Unopened.Missing → known self.old name.now ≡ Nothing) }
         ensures same { known self.new ≡ known self.old };
 }
 

@@ -15,7 +15,8 @@ use std::marker::Model;
 /// The bytes of the file of this name, or why it can't be read.
 fn read_file<R: Readers>(alloc: Global, files: &mut R, name: &str) -> Result<Vec<u8>, Unopened>
     ensures text { IfOk result (λ v. IsTextOf (R.known files.old name.now) v.items) }
-    ensures missing { IfErr result (λ e. e ≡ Unopened.Missing → R.known files.old name.now ≡ Nothing) }
+    ensures missing { IfErr result
+        (λ e. e ≡ Unopened.Missing → R.known files.old name.now ≡ Nothing) }
     ensures same { R.known files.new ≡ R.known files.old }
 {
     let file = files.file(name)?;
@@ -69,7 +70,8 @@ fn bytes_in<R: Readers>(
     folder: &str,
     name: &str,
 ) -> Result<Vec<u8>, Stop>
-    ensures text { IfOk result (λ v. IsTextOf (R.known files.old (path_in folder.now name.now)) v.items) }
+    ensures text { IfOk result
+        (λ v. IsTextOf (R.known files.old (path_in folder.now name.now)) v.items) }
     ensures unread { IfErr result IsUnread }
     ensures same { R.known files.new ≡ R.known files.old }
 {
@@ -84,7 +86,8 @@ fn bytes_if_there<R: Readers>(
     folder: &str,
     name: &str,
 ) -> Result<Option<Vec<u8>>, Stop>
-    ensures text { IfOk result (λ v. IsTextIfThere (R.known files.old (path_in folder.now name.now)) (option_map (λ t. t.items) v)) }
+    ensures text { IfOk result (λ v. IsTextIfThere (R.known files.old (path_in folder.now name.now))
+        (option_map (λ t. t.items) v)) }
     ensures unread { IfErr result IsUnread }
     ensures same { R.known files.new ≡ R.known files.old }
 {
@@ -174,7 +177,8 @@ fn bytes_if_given<R: Readers>(
     files: &mut R,
     name: Option<&str>,
 ) -> Result<Option<Vec<u8>>, Stop>
-    ensures text { IfOk result (λ v. IsTextIfNamed (R.known files.old) (option_map (λ n. n.now) name.entry) (option_map (λ t. t.items) v)) }
+    ensures text { IfOk result (λ v. IsTextIfNamed (R.known files.old)
+        (option_map (λ n. n.now) name.entry) (option_map (λ t. t.items) v)) }
     ensures unread { IfErr result IsUnread }
     ensures same { R.known files.new ≡ R.known files.old }
 {

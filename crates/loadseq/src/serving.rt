@@ -23,7 +23,8 @@ fn report_to<S: Sink>(
 ) -> Result<u8, Stop>
     requires chunk { 1 ≤ chunk }
     requires sound { S.has_failed sink.old ≡ false }
-    ensures written { IfOk result (λ status. (outcome : Outcome) × (outcome_of inputs.now ≡ Ok outcome) × (status ≡ status_on outcome.summary.first)
+    ensures written { IfOk result (λ status. (outcome : Outcome)
+        × (outcome_of inputs.now ≡ Ok outcome) × (status ≡ status_on outcome.summary.first)
         × Appends (S.contents sink.old) (S.contents sink.new) outcome.text) }
     ensures status { IfOk result (λ status. status ≤ 1) }
     ensures stopped { IfErr result (IsStopOn inputs.now) }
@@ -87,9 +88,11 @@ pub fn serve<R: Readers, O: Write, E: Write>(
     err: &mut E,
 ) -> u8
     ensures range { result ≤ 5 }
-    ensures told { result ≤ 1 → IsReportedBy (R.known files.old) (map (λ w. w.now) words.now) result }
+    ensures told { result ≤ 1
+        → IsReportedBy (R.known files.old) (map (λ w. w.now) words.now) result }
     ensures refused { result ≡ 2 → IsRefusedBy (R.known files.old) (map (λ w. w.now) words.now) }
-    ensures usage { result ≡ 3 → IsNotTaken (behind_name (codes "check") (map (λ w. w.now) words.now)) }
+    ensures usage { result ≡ 3
+        → IsNotTaken (behind_name (codes "check") (map (λ w. w.now) words.now)) }
 {
     match run_words(alloc, files, words, out) {
         Ok(status) => status,

@@ -129,7 +129,8 @@ impl Cuts {
     /// The numbers of chunk `i`, the first being 0.
     pub fn range(&self, i: usize) -> Range<u32>
         requires { i < length self.now }
-        ensures bounds { (result.start ≡ start_of self.now i) × (result.end ≡ slice_index self.now i) }
+        ensures bounds { (result.start ≡ start_of self.now i)
+            × (result.end ≡ slice_index self.now i) }
         ensures some { result.start < result.end }
     {
         let start = if i == 0 { 0 } else { self.ends[i - 1] };

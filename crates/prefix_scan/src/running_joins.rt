@@ -18,9 +18,11 @@ impl<'a, M: Monoid + Drop> Running<'a, M> {
     /// The joins from an offset on. The sizes of the offset and of all values add up to at most [`crate::MAX_PARTS`].
     pub fn new(offset: M, values: &'a [M]) -> Running<'a, M>
         requires { M.weight offset + sum_by M.weight values.now ≤ most_parts }
-        ensures count { length (sums_from M.op result.sum result.rest.now) ≡ length values.entry.now }
+        ensures count { length (sums_from M.op result.sum result.rest.now)
+            ≡ length values.entry.now }
         ensures items { (i : ℕ) (d : _) → i < length values.entry.now
-            → slice_index_or (sums_from M.op result.sum result.rest.now) i d ≡ M.op offset (prefix M.empty M.op values.entry.now (i + 1)) }
+            → slice_index_or (sums_from M.op result.sum result.rest.now) i d
+            ≡ M.op offset (prefix M.empty M.op values.entry.now (i + 1)) }
     {
         Running {
             sum: offset,

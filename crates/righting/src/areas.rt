@@ -38,7 +38,8 @@ pub fn area_over_pairs(levers: &Levers, from: usize, pairs: usize) -> Frac
 pub fn area_sum(levers: &Levers, from: Angle, to: Angle) -> Frac
     requires below { from < to }
     requires even { (to - from) % 2 ≡ 0 }
-    ensures value { IsSimpsonOf result.num result.den levers.now.num levers.now.den from ((to - from) / 2) }
+    ensures value { IsSimpsonOf result.num result.den levers.now.num levers.now.den from
+        ((to - from) / 2) }
     ensures size { unsigned_abs result.num ≤ 10 ^ 32 }
     ensures den { unsigned_abs result.den ≤ 10 ^ 23 }
 {

@@ -23,7 +23,8 @@ fn lever(
     requires gap { unsigned_abs gap ≤ 10 ^ 8 }
     requires sine { unsigned_abs sine ≤ 10 ^ 6 }
     requires cosine { unsigned_abs cosine ≤ 10 ^ 6 }
-    ensures value { result ≡ (((kn *ℤ weight) *ℤ pos (10 ^ 6)) -ℤ ((upright *ℤ gap) *ℤ sine)) -ℤ ((aside *ℤ gap) *ℤ cosine) }
+    ensures value { result ≡ (((kn *ℤ weight) *ℤ pos (10 ^ 6)) -ℤ ((upright *ℤ gap) *ℤ sine)) -ℤ
+        ((aside *ℤ gap) *ℤ cosine) }
     ensures size { unsigned_abs result ≤ 10 ^ 30 }
 {
     kn * weight * 1_000_000 - upright * gap * sine - aside * gap * cosine

@@ -188,7 +188,7 @@ enough form r = if is_short form.rule form.least r then Err (TooFewRows form.fil
 abbrev pub read_under : Form → List Fields → Result Read TableFault
 read_under form records = in_turn (added form) heading_read records >>= enough form
 
--- what the records of a file are; of the heading only the number of fields is looked at, and a text without records has no rows
+-- what the records of a file are; of the heading only the number of fields counts, and a text without records has no rows
 abbrev pub read_of : Form → List Fields → Result Read TableFault
 read_of form [] = enough form heading_read
 read_of form (heading ∷ records) =

@@ -6,7 +6,7 @@ use Rattle.units_core.specs.Ratio.{Ratio, floor_of}
 use Rattle.ship_tables.specs.Record.{CurveTable}
 use Rattle.ship_tables.specs.Curves.{curve_at}
 use Rattle.ship_profile.specs.Record.{ProfileRecord}
-use Rattle.hydrostat.specs.Floating.{Load, Waterline, draught_at}
+use Rattle.hydrostat.specs.Floating.{Load, Hydrostatics, draught_at}
 
 -- the area of the k-th curve at a draught, each rounded down; none where the draught, rounded down, lies outside of the table
 abbrev pub area_in : CurveTable → ℕ → ℤ → Option ℤ
@@ -30,6 +30,6 @@ areas_of t draught stations =
     if list_all (λ k. is_some (area_at t draught stations k)) (range_with_len 0 (length stations))
     then Some (λ k. or_none (area_at t draught stations k)) else None
 
--- those of a ship of this profile, by her waterline, what is aboard and her length
-abbrev pub areas_along : ProfileRecord → Waterline → Load → ℤ → Option (ℕ → ℤ)
+-- those of a ship of this profile, by her hydrostatics, what is aboard and her length
+abbrev pub areas_along : ProfileRecord → Hydrostatics → Load → ℤ → Option (ℕ → ℤ)
 areas_along p w l lbp = areas_of p.tables.bonjean (draught_at w l lbp) p.ship.stations

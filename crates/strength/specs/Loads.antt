@@ -4,7 +4,7 @@ use Rattle.units_core.specs.Interpolation.{at}
 use Rattle.ship_profile.specs.Ship.{ShipRecord}
 use Rattle.ship_profile.specs.Record.{ProfileRecord}
 use Rattle.moment_sums.specs.Sum.{Sum, Weight}
-use Rattle.hydrostat.specs.Floating.{Waterline, load_of, waterline}
+use Rattle.hydrostat.specs.Floating.{Hydrostatics, load_of, hydrostatics_at}
 use Rattle.hydrostat.specs.Figures.{IsFloatingOf}
 use Rattle.hydrostat.specs.declared.figures.Floating.{Floating}
 use Rattle.hydrostat.specs.declared.outside.Outside.{Outside}
@@ -31,14 +31,14 @@ AreLoadsBy result s (Some areas) ship = AreClosedLoads result s areas ship (clos
 AreLoadsBy (Ok l) s None ship = ⊥
 AreLoadsBy (Err outside) s None ship = outside ≡ Bonjean
 
--- with this aboard of a ship, by its waterline; there are none without
-abbrev pub AreLoadsOn : Result Loads Outside → ProfileRecord → Sum → Option Waterline → Type 0
+-- with this aboard of a ship, by its hydrostatics; without these there are no loads
+abbrev pub AreLoadsOn : Result Loads Outside → ProfileRecord → Sum → Option Hydrostatics → Type 0
 AreLoadsOn result p s (Some w) = AreLoadsBy result s (areas_along p w (load_of s) p.ship.lbp) p.ship
 AreLoadsOn result p s None = ⊥
 
 abbrev pub AreLoadsOf : Result Loads Outside → ProfileRecord → Sum → Type 0
-AreLoadsOf result p s = AreLoadsOn result p s (waterline p.tables.hydro (s Weight))
+AreLoadsOf result p s = AreLoadsOn result p s (hydrostatics_at p.tables.hydro (s Weight))
 
 -- the figures are those of the ship with this aboard
 abbrev pub IsFloatingWith : Floating → ProfileRecord → Sum → Type 0
-IsFloatingWith f p s = IsFloatingOf (Ok f) (waterline p.tables.hydro (s Weight)) (load_of s) p.ship.lbp
+IsFloatingWith f p s = IsFloatingOf (Ok f) (hydrostatics_at p.tables.hydro (s Weight)) (load_of s) p.ship.lbp

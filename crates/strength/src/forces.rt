@@ -45,7 +45,8 @@ pub fn running_volumes(xs: &[i128; 64], areas: &[i128; 64], intervals: usize) ->
     requires few { intervals ≤ 63 }
     requires xs_near { IsWithin (10 ^ 6) xs.now }
     requires small { IsWithin (10 ^ 8) areas.now }
-    ensures value { (n : ℕ) → n ≤ intervals → at result n ≡ tops (force_top (at xs.now) (at areas.now)) n }
+    ensures value { (n : ℕ) → n ≤ intervals
+        → at result n ≡ tops (force_top (at xs.now) (at areas.now)) n }
     ensures within { IsWithin (3 * 10 ^ 16) result }
 {
     let mut sums = [0; 64];
@@ -62,7 +63,8 @@ pub fn running_arms(xs: &[i128; 64], areas: &[i128; 64], intervals: usize) -> [i
     requires few { intervals ≤ 63 }
     requires xs_near { IsWithin (10 ^ 6) xs.now }
     requires small { IsWithin (10 ^ 8) areas.now }
-    ensures value { (n : ℕ) → n ≤ intervals → at result n ≡ tops (arm_top (at xs.now) (at areas.now)) n }
+    ensures value { (n : ℕ) → n ≤ intervals
+        → at result n ≡ tops (arm_top (at xs.now) (at areas.now)) n }
     ensures within { IsWithin (10 ^ 23) result }
 {
     let mut sums = [0; 64];

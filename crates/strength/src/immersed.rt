@@ -24,7 +24,8 @@ fn draught_down(a: &Afloat, x: Mm) -> i128
 fn area_there(curves: &Curves, a: &Afloat, number: usize, x: Mm, near: &mut usize) -> Option<i128>
     requires table { IsBonjeanTable curves.now }
     requires there { number < length curves.now.columns }
-    ensures value { result ≡ area_in curves.now number (floor_of (draught_at (water a.now) (load a.now) a.now.lbp x)) }
+    ensures value { result
+        ≡ area_in curves.now number (floor_of (draught_at (water a.now) (load a.now) a.now.lbp x)) }
     ensures within { IfSome result (λ a. unsigned_abs a ≤ 10 ^ 8) }
 {
     area_at(curves, number, draught_down(a, x), near)
@@ -32,7 +33,8 @@ fn area_there(curves: &Curves, a: &Afloat, number: usize, x: Mm, near: &mut usiz
 
 /// The immersed areas at all stations; `None` where the draught at one of them lies outside of the table.
 pub fn areas_aboard(profile: &Profile, a: &Afloat, near: &mut usize) -> Option<Areas>
-    ensures { option_map (λ r. at r.area) result ≡ areas_along profile.now (water a.now) (load a.now) a.now.lbp }
+    ensures { option_map (λ r. at r.area) result
+        ≡ areas_along profile.now (water a.now) (load a.now) a.now.lbp }
 {
     let stations = profile.stations();
     let curves = profile.bonjean();

@@ -33,9 +33,12 @@ pub fn strains_of(profile: &Profile, hull: &Hull, totals: &Totals, areas: &Areas
     requires of { IsHullOf hull.now profile.now.ship }
     requires bounded { IsBounded (values totals.now) }
     requires kg { unsigned_abs (values totals.now Weight) ≤ 10 ^ 9 }
-    ensures shear { (i : ℕ) → at result.loads.shear i ≡ shear_at (values totals.now) (at areas.now.area) profile.now.ship.stations profile.now.ship.frames i }
-    ensures bending { (i : ℕ) → at result.loads.bending i ≡ bending_at (values totals.now) (at areas.now.area) profile.now.ship.stations profile.now.ship.frames i }
-    ensures closing { result.closing ≡ closing_of (values totals.now) (at areas.now.area) profile.now.ship.stations }
+    ensures shear { (i : ℕ) → at result.loads.shear i ≡ shear_at (values totals.now)
+        (at areas.now.area) profile.now.ship.stations profile.now.ship.frames i }
+    ensures bending { (i : ℕ) → at result.loads.bending i ≡ bending_at (values totals.now)
+        (at areas.now.area) profile.now.ship.stations profile.now.ship.frames i }
+    ensures closing { result.closing
+        ≡ closing_of (values totals.now) (at areas.now.area) profile.now.ship.stations }
 {
     let intervals = profile.stations().len() - 1;
     let frames = profile.frames().as_slice();
@@ -61,7 +64,8 @@ pub fn strains_of(profile: &Profile, hull: &Hull, totals: &Totals, areas: &Areas
 fn loads_afloat(profile: &Profile, totals: &Totals, afloat: &Afloat) -> Result<Loads, Outside>
     requires bounded { IsBounded (values totals.now) }
     requires kg { unsigned_abs (values totals.now Weight) ≤ 10 ^ 9 }
-    ensures { AreLoadsBy result (values totals.now) (areas_along profile.now (water afloat.now) (load afloat.now) afloat.now.lbp) profile.now.ship }
+    ensures { AreLoadsBy result (values totals.now) (areas_along profile.now (water afloat.now)
+        (load afloat.now) afloat.now.lbp) profile.now.ship }
 {
     let Some(areas) = areas_aboard(profile, afloat, &mut 0) else {
         return Err(Outside::Bonjean);

@@ -578,7 +578,7 @@ fn write_elements(text: &mut String, before: &str, count: u32, after: &str) -> R
 }
 
 /// How many keys stand before an array, its head, an element as it stands before and behind its number, how many there are, and the words
-/// of the fault; for an array that is taken that of what comes next. One too many is found before the first element is looked at.
+/// of the fault; for an array that is taken that of what comes next. One too many is found before the first element is read.
 static ARRAYS: [(usize, &str, &str, u32, &str, &str); 10] = [
     (6, "stations_mm = [", "", 64, ", ", "P2 blocks"),
     (6, "stations_mm = [", "", 65, ", ", "P6 ship.toml 0"),
