@@ -1,5 +1,6 @@
 -- The outcome of a run: the report, or the first refusal in the order of the inputs. It is a function of the input bytes alone.
 use Rattle.std.specs.Prelude.{◌≢◌, ℕ, List, length, Option, None, Some, option_map, Result, Ok, Err, Bool, true, false}
+use Rattle.units_core.specs.Outcome.{◌>>=◌, unless}
 use Rattle.stow_messages.specs.Items.{bay_plan}
 use Rattle.stow_messages.specs.Lifts.{movement_instruction}
 use Rattle.stow_messages.specs.Steps as steps
@@ -27,13 +28,8 @@ use Rattle.prefix_scan.specs.declared.divisions.CutFault.TheVariants as cut
 use Rattle.seq_report.specs.declared.faults.RunFault.{RunFault}
 use Rattle.seq_report.specs.declared.faults.RunFault.TheVariants.{Profile, Baplie, Arrival, Movins, Steps, Sequence, Cuts, NoMemory, Write}
 use Rattle.seq_report.specs.declared.inputs.Inputs.{Inputs}
-use Rattle.seq_report.specs.declared.finished.Summary.{Summary}
+use Rattle.seq_report.specs.declared.complete.Summary.{Summary}
 use Rattle.seq_report.specs.Report.{Line, lines_of, report_of, first_of}
-
-infixl 10 ◌>>=◌
-abbrev pub ◌>>=◌ : {A B : Type 0} → Result A RunFault → (A → Result B RunFault) → Result B RunFault
-Ok a >>= f = f a
-Err e >>= f = Err e
 
 -- a refusal of an input, as one of the run
 abbrev pub refused_as : {A E : Type 0} → (E → RunFault) → Result A E → Result A RunFault
@@ -76,11 +72,6 @@ abbrev pub cuts_refusal : CutFault → RunFault
 cuts_refusal cut.NoMemory = NoMemory
 cuts_refusal fault = Cuts fault
 
--- this, unless there is a fault
-abbrev pub unless : {A : Type 0} → (SeqFault → RunFault) → Option SeqFault → A → Result A RunFault
-unless refusal None a = Ok a
-unless refusal (Some fault) a = Err (refusal fault)
-
 -- the profile, the bay plan, and what is aboard on arrival
 abbrev pub ship_in : Inputs → Result ProfileRecord RunFault
 ship_in inputs = refused_as Profile (record_of (texts_of inputs.profile))
@@ -89,7 +80,7 @@ abbrev pub items_in : Inputs → Result (List Item) RunFault
 items_in inputs = refused_as Baplie (bay_plan inputs.baplie.now)
 
 abbrev pub arrival_in : ProfileRecord → List Item → Result Aboard RunFault
-arrival_in ship items = unless Arrival (arrival_fault ship items ship.fills) (on_arrival items ship.fills)
+arrival_in ship items = refused_as Arrival (unless (arrival_fault ship items ship.fills) (on_arrival items ship.fills))
 
 -- the lifts of the movement instruction, and the rows of the steps file, where there is one
 abbrev pub lifts_in : Inputs → Result (List lift.Lift) RunFault
@@ -115,7 +106,7 @@ orders_in inputs = lifts_in inputs >>= (λ lifts. orders_on inputs lifts)
 
 -- these steps, where each can be done where it comes
 abbrev pub sequence_in : ProfileRecord → Aboard → List Op → Result (List Op) RunFault
-sequence_in ship arrival ops = unless Sequence (sequence_fault ship arrival ops) ops
+sequence_in ship arrival ops = refused_as Sequence (unless (sequence_fault ship arrival ops) ops)
 
 -- a report, and what it came to
 pub record Outcome : Type 0 where

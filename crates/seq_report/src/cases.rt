@@ -1,7 +1,6 @@
 ghost use Rattle.std.specs.List.{AllByRecursion};
 ghost use Rattle.std.specs.Prelude.{◌≡◌, ◌≢◌, ◌+◌, ◌^◌, ◌≤◌, length, option_map, false, IfOk, IfErr, Ok, Err};
-ghost use Rattle.lift_sequence.specs.Arrival.{on_arrival};
-ghost use Rattle.seq_report.specs.Cases.{HasArrived, IsReady, outcome_in};
+ghost use Rattle.seq_report.specs.Cases.{HasArrived, aboard_of, IsReady, outcome_in};
 ghost use Rattle.seq_report.specs.Refusal.{TellsMemory, outcome_for, outcome_from, outcome_of, outcome_with, is_cut, is_write};
 ghost use Rattle.seq_report.specs.Report.{lift_to};
 
@@ -50,9 +49,11 @@ fn case_on_ops(
 ) -> Result<Case, RunFault>
     requires arrived { HasArrived profile arrival }
     requires light { AllByRecursion (λ item. item.kg ≤ 10 ^ 9) arrival.items }
-    ensures ok { IfOk result (λ case. outcome_with profile (on_arrival arrival.items arrival.fills) ops.items ≡ Ok (outcome_in case)) }
+    ensures ok { IfOk result
+        (λ case. outcome_with profile (aboard_of arrival) ops.items ≡ Ok (outcome_in case)) }
     ensures ready { IfOk result IsReady }
-    ensures refused { IfErr result (λ e. e ≢ RunFault.NoMemory → outcome_with profile (on_arrival arrival.items arrival.fills) ops.items ≡ Err e) }
+    ensures refused { IfErr result
+        (λ e. e ≢ RunFault.NoMemory → outcome_with profile (aboard_of arrival) ops.items ≡ Err e) }
     ensures memory { IfErr result TellsMemory }
     ensures silent { is_write result ≡ false }
     ensures uncut { is_cut result ≡ false }
@@ -75,9 +76,11 @@ fn case_from_arrival(
 ) -> Result<Case, RunFault>
     requires arrived { HasArrived profile arrival }
     requires light { AllByRecursion (λ item. item.kg ≤ 10 ^ 9) arrival.items }
-    ensures ok { IfOk result (λ case. outcome_from profile (on_arrival arrival.items arrival.fills) inputs.now ≡ Ok (outcome_in case)) }
+    ensures ok { IfOk result
+        (λ case. outcome_from profile (aboard_of arrival) inputs.now ≡ Ok (outcome_in case)) }
     ensures ready { IfOk result IsReady }
-    ensures refused { IfErr result (λ e. e ≢ RunFault.NoMemory → outcome_from profile (on_arrival arrival.items arrival.fills) inputs.now ≡ Err e) }
+    ensures refused { IfErr result
+        (λ e. e ≢ RunFault.NoMemory → outcome_from profile (aboard_of arrival) inputs.now ≡ Err e) }
     ensures memory { IfErr result TellsMemory }
     ensures silent { is_write result ≡ false }
     ensures uncut { is_cut result ≡ false }
@@ -90,7 +93,8 @@ fn case_from_arrival(
 fn case_on_ship(alloc: Global, profile: Profile, inputs: &Inputs<'_>) -> Result<Case, RunFault>
     ensures ok { IfOk result (λ case. outcome_for profile inputs.now ≡ Ok (outcome_in case)) }
     ensures ready { IfOk result IsReady }
-    ensures refused { IfErr result (λ e. e ≢ RunFault.NoMemory → outcome_for profile inputs.now ≡ Err e) }
+    ensures refused { IfErr result
+        (λ e. e ≢ RunFault.NoMemory → outcome_for profile inputs.now ≡ Err e) }
     ensures memory { IfErr result TellsMemory }
     ensures silent { is_write result ≡ false }
     ensures uncut { is_cut result ≡ false }

@@ -29,7 +29,8 @@ fn arrival_total(case: &Case) -> Totals
 pub fn change_at(case: &Case, k: u32) -> Totals
     requires ready { IsReady case.now }
     requires there { k ≤ length case.now.sequence.ops }
-    ensures sum { values result ≡ change_at case.now.profile.ship.frames case.now.arrival.bodies case.now.sequence.steps k }
+    ensures sum { values result
+        ≡ change_at case.now.profile.ship.frames case.now.arrival.bodies case.now.sequence.steps k }
     ensures size { parts_before k + size_of result ≤ parts_before (k + 1) }
 {
     if k == 0 {
@@ -58,7 +59,9 @@ fn chunk_total(case: &Case, start: u32, end: u32) -> Totals
 fn chunk_totals(alloc: Global, case: &Case, cuts: &Cuts) -> Result<Vec<Totals>, AllocError>
     requires ready { IsReady case.now }
     requires cut { Divides cuts.now (length case.now.sequence.ops + 1) }
-    ensures { IfOk result (λ totals. AreChunkTotals case.now.profile.ship.frames case.now.arrival.bodies case.now.sequence.steps cuts.now totals.items) }
+    ensures { IfOk result
+        (λ totals.
+        AreChunkTotals case.now.profile.ship.frames case.now.arrival.bodies case.now.sequence.steps cuts.now totals.items) }
 {
     let mut totals = Vec::new(alloc);
     for chunk in 0..cuts.chunks() {
@@ -72,7 +75,8 @@ fn chunk_totals(alloc: Global, case: &Case, cuts: &Cuts) -> Result<Vec<Totals>, 
 pub fn sums_before(alloc: Global, case: &Case, cuts: &Cuts) -> Result<Vec<Totals>, AllocError>
     requires ready { IsReady case.now }
     requires cut { Divides cuts.now (length case.now.sequence.ops + 1) }
-    ensures { IfOk result (λ sums. AreOffsets case.now.profile.ship.frames case.now.arrival.bodies case.now.sequence.steps cuts.now sums.items) }
+    ensures { IfOk result
+        (λ sums. AreOffsets case.now.profile.ship.frames case.now.arrival.bodies case.now.sequence.steps cuts.now sums.items) }
 {
     let totals = chunk_totals(alloc, case, cuts)?;
     offsets(alloc, &totals)

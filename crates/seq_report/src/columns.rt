@@ -123,7 +123,8 @@ fn write_number(text: &mut String, number: Option<i128>) -> Result<(), AllocErro
 
 /// Writes the figure of a column, behind a space.
 fn write_figure(text: &mut String, figures: &Figures, column: Column) -> Result<(), AllocError>
-    ensures { OnOk result (string_bytes text.new ≡ string_bytes text.old ++ 32 ∷ number_text (figure_of (read figures.now) column)) }
+    ensures { OnOk result (string_bytes text.new
+        ≡ string_bytes text.old ++ 32 ∷ number_text (figure_of (read figures.now) column)) }
 {
     text.push_str(" ")?;
     write_number(text, column.figure(figures))
@@ -131,7 +132,8 @@ fn write_figure(text: &mut String, figures: &Figures, column: Column) -> Result<
 
 /// Writes the figures of the columns, each behind a space.
 fn write_numbers(text: &mut String, figures: &Figures) -> Result<(), AllocError>
-    ensures { OnOk result (string_bytes text.new ≡ string_bytes text.old ++ numbers_text (read figures.now)) }
+    ensures { OnOk result
+        (string_bytes text.new ≡ string_bytes text.old ++ numbers_text (read figures.now)) }
 {
     for i in 0..12usize {
         write_figure(text, figures, column_at(i))?;
@@ -142,7 +144,8 @@ fn write_numbers(text: &mut String, figures: &Figures) -> Result<(), AllocError>
 /// Writes the shear force and the bending moment at a frame.
 fn write_frame(text: &mut String, figures: &Figures, i: usize) -> Result<(), AllocError>
     requires { i < 16 }
-    ensures { OnOk result (string_bytes text.new ≡ string_bytes text.old ++ frame_text (read figures.now) i) }
+    ensures { OnOk result
+        (string_bytes text.new ≡ string_bytes text.old ++ frame_text (read figures.now) i) }
 {
     let shear = figures.shear[i];
     let bending = figures.bending[i];
@@ -152,7 +155,8 @@ fn write_frame(text: &mut String, figures: &Figures, i: usize) -> Result<(), All
 /// Writes the same of a frame behind another.
 fn write_next_frame(text: &mut String, figures: &Figures, i: usize) -> Result<(), AllocError>
     requires { i < 16 }
-    ensures { OnOk result (string_bytes text.new ≡ string_bytes text.old ++ next_frame_text (read figures.now) i) }
+    ensures { OnOk result
+        (string_bytes text.new ≡ string_bytes text.old ++ next_frame_text (read figures.now) i) }
 {
     text.push_str(";")?;
     write_frame(text, figures, i)
@@ -161,7 +165,8 @@ fn write_next_frame(text: &mut String, figures: &Figures, i: usize) -> Result<()
 /// Writes the shear forces and bending moments up to the frame of this number, the first being 0.
 fn write_frames_up_to(text: &mut String, figures: &Figures, last: usize) -> Result<(), AllocError>
     requires { last < 16 }
-    ensures { OnOk result (string_bytes text.new ≡ string_bytes text.old ++ frames_up_to (read figures.now) last) }
+    ensures { OnOk result
+        (string_bytes text.new ≡ string_bytes text.old ++ frames_up_to (read figures.now) last) }
 {
     write_frame(text, figures, 0)?;
     for i in 0..last {
@@ -174,7 +179,8 @@ fn write_frames_up_to(text: &mut String, figures: &Figures, last: usize) -> Resu
 fn write_frames(text: &mut String, figures: &Figures, frames: usize) -> Result<(), AllocError>
     requires some { 1 ≤ frames }
     requires few { frames ≤ 16 }
-    ensures { OnOk result (string_bytes text.new ≡ string_bytes text.old ++ frames_text (read figures.now) frames) }
+    ensures { OnOk result
+        (string_bytes text.new ≡ string_bytes text.old ++ frames_text (read figures.now) frames) }
 {
     text.push_str(" ")?;
     write_frames_up_to(text, figures, frames - 1)
@@ -184,7 +190,8 @@ fn write_frames(text: &mut String, figures: &Figures, frames: usize) -> Result<(
 pub fn write_figures(text: &mut String, figures: &Figures, frames: usize) -> Result<(), AllocError>
     requires some { 1 ≤ frames }
     requires few { frames ≤ 16 }
-    ensures { OnOk result (string_bytes text.new ≡ string_bytes text.old ++ figures_text frames (read figures.now)) }
+    ensures { OnOk result
+        (string_bytes text.new ≡ string_bytes text.old ++ figures_text frames (read figures.now)) }
 {
     write_numbers(text, figures)?;
     write_frames(text, figures, frames)

@@ -1,7 +1,6 @@
 ghost use Rattle.std.specs.Prelude.{◌≡◌, ◌≢◌, ◌≤◌, length, option_map, false, IfOk, IfErr, Ok, Err};
-ghost use Rattle.lift_sequence.specs.Arrival.{on_arrival};
 ghost use Rattle.lift_sequence.specs.Sequence.{IsOf, StepsAddUp};
-ghost use Rattle.seq_report.specs.Cases.{HasArrived};
+ghost use Rattle.seq_report.specs.Cases.{HasArrived, aboard_of};
 ghost use Rattle.seq_report.specs.Refusal.{TellsMemory, arrival_in, is_cut, is_write, items_in, lifts_in, orders_in, orders_on, rows_of, sequence_in, ship_in};
 
 use crate::faults::RunFault;
@@ -57,10 +56,11 @@ pub fn items(alloc: Global, inputs: &Inputs<'_>) -> Result<Vec<Item>, RunFault>
 
 /// The condition of the ship on arrival with these items.
 pub fn arrival(alloc: Global, profile: &Profile, items: Vec<Item>) -> Result<Arrival, RunFault>
-    ensures ok { IfOk result (λ a. arrival_in profile.now items.items ≡ Ok (on_arrival a.items a.fills)) }
+    ensures ok { IfOk result (λ a. arrival_in profile.now items.items ≡ Ok (aboard_of a)) }
     ensures arrived { IfOk result (λ a. HasArrived profile.now a) }
     ensures items { IfOk result (λ a. a.items ≡ items.items) }
-    ensures refused { IfErr result (λ e. e ≢ RunFault.NoMemory → arrival_in profile.now items.items ≡ Err e) }
+    ensures refused { IfErr result
+        (λ e. e ≢ RunFault.NoMemory → arrival_in profile.now items.items ≡ Err e) }
     ensures memory { IfErr result TellsMemory }
     ensures silent { is_write result ≡ false }
     ensures uncut { is_cut result ≡ false }
@@ -88,8 +88,10 @@ fn lifts(alloc: Global, inputs: &Inputs<'_>) -> Result<Vec<Lift>, RunFault>
 
 /// The rows of the steps file, where there is one.
 fn rows(alloc: Global, text: Option<&[u8]>, lifts: u32) -> Result<Option<Vec<StepRow>>, RunFault>
-    ensures ok { IfOk result (λ rows. rows_of (option_map (λ t. t.now) text.entry) lifts ≡ Ok (option_map (λ r. r.items) rows)) }
-    ensures refused { IfErr result (λ e. e ≢ RunFault.NoMemory → rows_of (option_map (λ t. t.now) text.entry) lifts ≡ Err e) }
+    ensures ok { IfOk result (λ rows. rows_of (option_map (λ t. t.now) text.entry) lifts
+        ≡ Ok (option_map (λ r. r.items) rows)) }
+    ensures refused { IfErr result
+        (λ e. e ≢ RunFault.NoMemory → rows_of (option_map (λ t. t.now) text.entry) lifts ≡ Err e) }
     ensures memory { IfErr result TellsMemory }
     ensures silent { is_write result ≡ false }
     ensures uncut { is_cut result ≡ false }
@@ -107,7 +109,8 @@ fn rows(alloc: Global, text: Option<&[u8]>, lifts: u32) -> Result<Option<Vec<Ste
 fn orders_on(alloc: Global, inputs: &Inputs<'_>, lifts: Vec<Lift>) -> Result<Vec<Op>, RunFault>
     requires { length lifts.items ≤ 200000 }
     ensures ok { IfOk result (λ o. orders_on inputs.now lifts.items ≡ Ok o.items) }
-    ensures refused { IfErr result (λ e. e ≢ RunFault.NoMemory → orders_on inputs.now lifts.items ≡ Err e) }
+    ensures refused { IfErr result
+        (λ e. e ≢ RunFault.NoMemory → orders_on inputs.now lifts.items ≡ Err e) }
     ensures memory { IfErr result TellsMemory }
     ensures silent { is_write result ≡ false }
     ensures uncut { is_cut result ≡ false }
@@ -139,11 +142,13 @@ pub fn sequence(
     ops: Vec<Op>,
 ) -> Result<Sequence, RunFault>
     requires { IsOf profile.now arrival.now }
-    ensures ok { IfOk result (λ s. sequence_in profile.now (on_arrival arrival.now.items arrival.now.fills) ops.items ≡ Ok s.ops) }
+    ensures ok { IfOk result
+        (λ s. sequence_in profile.now (aboard_of arrival.now) ops.items ≡ Ok s.ops) }
     ensures ops { IfOk result (λ s. s.ops ≡ ops.items) }
-    ensures sums { IfOk result (λ s. StepsAddUp profile.now (on_arrival arrival.now.items arrival.now.fills) s.ops s.steps) }
+    ensures sums { IfOk result (λ s. StepsAddUp profile.now (aboard_of arrival.now) s.ops s.steps) }
     ensures few { IfOk result (λ s. length s.ops ≤ 120000) }
-    ensures refused { IfErr result (λ e. e ≢ RunFault.NoMemory → sequence_in profile.now (on_arrival arrival.now.items arrival.now.fills) ops.items ≡ Err e) }
+    ensures refused { IfErr result (λ e. e ≢ RunFault.NoMemory
+        → sequence_in profile.now (aboard_of arrival.now) ops.items ≡ Err e) }
     ensures memory { IfErr result TellsMemory }
     ensures silent { is_write result ≡ false }
     ensures uncut { is_cut result ≡ false }

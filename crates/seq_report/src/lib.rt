@@ -7,7 +7,7 @@ mod chunks;
 mod codes;
 mod columns;
 mod faults;
-mod finished;
+mod complete;
 mod inputs;
 mod lifts;
 mod lines;
@@ -21,7 +21,7 @@ mod weights;
 
 pub use criteria::Criterion;
 pub use faults::RunFault;
-pub use finished::Summary;
+pub use complete::Summary;
 pub use inputs::Inputs;
 pub use lifts::shown;
 pub use plans::CutPlan;

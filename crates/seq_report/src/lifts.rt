@@ -51,7 +51,8 @@ fn write_name(text: &mut String, name: &[u8]) -> Result<(), AllocError>
 
 /// Writes the two cells of a restow.
 fn write_cells(text: &mut String, from: Cell, to: Cell) -> Result<(), AllocError>
-    ensures { OnOk result (string_bytes text.new ≡ string_bytes text.old ++ (cell_text from ++ (codes ">" ++ cell_text to))) }
+    ensures { OnOk result (string_bytes text.new
+        ≡ string_bytes text.old ++ (cell_text from ++ (codes ">" ++ cell_text to))) }
 {
     write_cell(text, from)?;
     text.push_str(">")?;
@@ -84,7 +85,8 @@ fn write_op(text: &mut String, op: &Op) -> Result<(), AllocError>
 
 /// Writes what leads to a step; nothing leads to the condition on arrival.
 pub fn write_lift(text: &mut String, lift: Option<&Op>) -> Result<(), AllocError>
-    ensures { OnOk result (string_bytes text.new ≡ string_bytes text.old ++ lift_text (option_map (λ op. op.now) lift.entry)) }
+    ensures { OnOk result (string_bytes text.new
+        ≡ string_bytes text.old ++ lift_text (option_map (λ op. op.now) lift.entry)) }
 {
     match lift {
         Some(op) => write_op(text, op),

@@ -76,7 +76,8 @@ pub fn write_header(text: &mut String) -> Result<(), AllocError>
 
 /// Writes how a step is judged: its figures and the verdict, or what lies outside of the tables.
 fn write_verdict(text: &mut String, line: &StepLine) -> Result<(), AllocError>
-    ensures { OnOk result (string_bytes text.new ≡ string_bytes text.old ++ verdict_text line.now.frames (told line.now.verdict)) }
+    ensures { OnOk result (string_bytes text.new
+        ≡ string_bytes text.old ++ verdict_text line.now.frames (told line.now.verdict)) }
 {
     match &line.verdict {
         Verdict::Outside(outside) => {
@@ -97,7 +98,8 @@ fn write_verdict(text: &mut String, line: &StepLine) -> Result<(), AllocError>
 
 /// Writes the displacement, how it is judged, and the end of the line.
 fn write_judged(text: &mut String, line: &StepLine) -> Result<(), AllocError>
-    ensures { OnOk result (string_bytes text.new ≡ string_bytes text.old ++ judged_text (said line.now)) }
+    ensures { OnOk result
+        (string_bytes text.new ≡ string_bytes text.old ++ judged_text (said line.now)) }
 {
     let kg = line.kg;
     write!(text, " {kg}")?;
@@ -107,7 +109,8 @@ fn write_judged(text: &mut String, line: &StepLine) -> Result<(), AllocError>
 
 /// Writes the line of a step, with the lift that leads to it.
 pub fn write_line(text: &mut String, lift: Option<&Op>, line: &StepLine) -> Result<(), AllocError>
-    ensures { OnOk result (string_bytes text.new ≡ string_bytes text.old ++ line_of (option_map (λ op. op.now) lift.entry) (said line.now)) }
+    ensures { OnOk result (string_bytes text.new
+        ≡ string_bytes text.old ++ line_of (option_map (λ op. op.now) lift.entry) (said line.now)) }
 {
     let step = line.step;
     write!(text, "{step} ")?;

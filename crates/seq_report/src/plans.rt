@@ -23,7 +23,8 @@ fn divided(alloc: Global, plan: CutPlan<'_>, lines: u32) -> Result<Cuts, CutFaul
     requires { 0 < lines }
     ensures cut { IfOk result (λ cuts. Divides cuts lines) }
     ensures fits { IfOk result (λ _. Fits plan.entry lines) }
-    ensures unfit { IfErr result (λ fault. fault ≢ CutFault.NoMemory → IsPlanFault plan.entry lines fault) }
+    ensures unfit { IfErr result
+        (λ fault. fault ≢ CutFault.NoMemory → IsPlanFault plan.entry lines fault) }
 {
     match plan {
         CutPlan::Every(n) => Cuts::every(alloc, n, lines),
@@ -36,7 +37,8 @@ pub fn cuts_of(alloc: Global, plan: CutPlan<'_>, lines: u32) -> Result<Cuts, Run
     requires { 0 < lines }
     ensures cut { IfOk result (λ cuts. Divides cuts lines) }
     ensures fits { IfOk result (λ _. Fits plan.entry lines) }
-    ensures unfit { IfErr result (λ e. (fault : CutFaultValue) → e ≡ RunFault.Cuts fault → IsPlanFault plan.entry lines fault) }
+    ensures unfit { IfErr result (λ e. (fault : CutFaultValue) → e ≡ RunFault.Cuts fault
+        → IsPlanFault plan.entry lines fault) }
     ensures plan { IfErr result (λ e. is_refusal e ≡ false) }
     ensures memory { IfErr result TellsMemory }
     ensures silent { is_write result ≡ false }

@@ -10,7 +10,8 @@ use stow_messages::{StepsCode, StepsFault, StowCode, StowFault};
 /// A refusal of the profile as one of the run; out of memory stays out of memory.
 pub fn profile_refusal(fault: ProfileFault) -> RunFault
     ensures exact { result ≡ profile_refusal fault }
-    ensures told { result ≢ RunFault.NoMemory → (fault ≢ ProfileFault.NoMemory) × (result ≡ RunFault.Profile fault) }
+    ensures told { result ≢ RunFault.NoMemory → (fault ≢ ProfileFault.NoMemory)
+        × (result ≡ RunFault.Profile fault) }
     ensures memory { TellsMemory result }
     ensures silent { is_write_fault result ≡ false }
     ensures uncut { is_cut_fault result ≡ false }
@@ -24,7 +25,8 @@ pub fn profile_refusal(fault: ProfileFault) -> RunFault
 /// A refusal of the bay plan as one of the run; out of memory stays out of memory.
 pub fn baplie_refusal(fault: StowFault) -> RunFault
     ensures exact { result ≡ baplie_refusal fault }
-    ensures told { result ≢ RunFault.NoMemory → (fault.code ≢ StowCode.NoMemory) × (result ≡ RunFault.Baplie fault) }
+    ensures told { result ≢ RunFault.NoMemory → (fault.code ≢ StowCode.NoMemory)
+        × (result ≡ RunFault.Baplie fault) }
     ensures memory { TellsMemory result }
     ensures silent { is_write_fault result ≡ false }
     ensures uncut { is_cut_fault result ≡ false }
@@ -38,7 +40,8 @@ pub fn baplie_refusal(fault: StowFault) -> RunFault
 /// A refusal of the condition on arrival as one of the run; out of memory stays out of memory.
 pub fn arrival_refusal(fault: SeqFault) -> RunFault
     ensures exact { result ≡ arrival_refusal fault }
-    ensures told { result ≢ RunFault.NoMemory → (fault.code ≢ SeqCode.NoMemory) × (result ≡ RunFault.Arrival fault) }
+    ensures told { result ≢ RunFault.NoMemory → (fault.code ≢ SeqCode.NoMemory)
+        × (result ≡ RunFault.Arrival fault) }
     ensures memory { TellsMemory result }
     ensures silent { is_write_fault result ≡ false }
     ensures uncut { is_cut_fault result ≡ false }
@@ -52,7 +55,8 @@ pub fn arrival_refusal(fault: SeqFault) -> RunFault
 /// A refusal of the movement instruction as one of the run; out of memory stays out of memory.
 pub fn movins_refusal(fault: StowFault) -> RunFault
     ensures exact { result ≡ movins_refusal fault }
-    ensures told { result ≢ RunFault.NoMemory → (fault.code ≢ StowCode.NoMemory) × (result ≡ RunFault.Movins fault) }
+    ensures told { result ≢ RunFault.NoMemory → (fault.code ≢ StowCode.NoMemory)
+        × (result ≡ RunFault.Movins fault) }
     ensures memory { TellsMemory result }
     ensures silent { is_write_fault result ≡ false }
     ensures uncut { is_cut_fault result ≡ false }
@@ -66,7 +70,8 @@ pub fn movins_refusal(fault: StowFault) -> RunFault
 /// A refusal of the steps file as one of the run; out of memory stays out of memory.
 pub fn steps_refusal(fault: StepsFault) -> RunFault
     ensures exact { result ≡ steps_refusal fault }
-    ensures told { result ≢ RunFault.NoMemory → (fault.code ≢ StepsCode.NoMemory) × (result ≡ RunFault.Steps fault) }
+    ensures told { result ≢ RunFault.NoMemory → (fault.code ≢ StepsCode.NoMemory)
+        × (result ≡ RunFault.Steps fault) }
     ensures memory { TellsMemory result }
     ensures silent { is_write_fault result ≡ false }
     ensures uncut { is_cut_fault result ≡ false }
@@ -80,7 +85,8 @@ pub fn steps_refusal(fault: StepsFault) -> RunFault
 /// A refusal of the sequence of steps as one of the run; out of memory stays out of memory.
 pub fn sequence_refusal(fault: SeqFault) -> RunFault
     ensures exact { result ≡ sequence_refusal fault }
-    ensures told { result ≢ RunFault.NoMemory → (fault.code ≢ SeqCode.NoMemory) × (result ≡ RunFault.Sequence fault) }
+    ensures told { result ≢ RunFault.NoMemory → (fault.code ≢ SeqCode.NoMemory)
+        × (result ≡ RunFault.Sequence fault) }
     ensures memory { TellsMemory result }
     ensures silent { is_write_fault result ≡ false }
     ensures uncut { is_cut_fault result ≡ false }
@@ -94,7 +100,8 @@ pub fn sequence_refusal(fault: SeqFault) -> RunFault
 /// A fault of the plan of the cuts as one of the run; out of memory stays out of memory.
 pub fn cuts_refusal(fault: CutFault) -> RunFault
     ensures exact { result ≡ cuts_refusal fault }
-    ensures told { result ≢ RunFault.NoMemory → (fault ≢ CutFault.NoMemory) × (result ≡ RunFault.Cuts fault) }
+    ensures told { result ≢ RunFault.NoMemory → (fault ≢ CutFault.NoMemory)
+        × (result ≡ RunFault.Cuts fault) }
     ensures plan { is_refusal result ≡ false }
     ensures memory { TellsMemory result }
     ensures silent { is_write_fault result ≡ false }

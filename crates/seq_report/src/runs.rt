@@ -9,7 +9,7 @@ ghost use Rattle.seq_report.specs.Refusal.{Outcome, TellsMemory, outcome_of, is_
 use crate::cases::{Case, case_of};
 use crate::chunks::sums_before;
 use crate::faults::RunFault;
-use crate::finished::{Finished, Summary};
+use crate::complete::{CompleteReport, Summary};
 use crate::inputs::Inputs;
 use crate::plans::{CutPlan, cuts_of};
 use crate::sections::sections;
@@ -18,22 +18,23 @@ use prefix_scan::Cuts;
 use std::alloc::{AllocError, Global};
 
 /// The report on a case, made chunk by chunk.
-fn report_in_chunks(alloc: Global, case: &Case, cuts: &Cuts) -> Result<Finished, AllocError>
+fn report_in_chunks(alloc: Global, case: &Case, cuts: &Cuts) -> Result<CompleteReport, AllocError>
     requires ready { IsReady case.now }
     requires cut { Divides cuts.now (length case.now.sequence.ops + 1) }
     ensures { IfOk result (λ made. made ≡ outcome_in case.now) }
 {
     let sums = sums_before(alloc, case, cuts)?;
     let made = sections(alloc, case, cuts, &sums)?;
-    Finished::join(alloc, made, case.lines())
+    CompleteReport::join(alloc, made, case.lines())
 }
 
 /// The report on a case, made in the chunks of a plan, or the fault of the plan.
-fn report_by_plan(alloc: Global, case: &Case, plan: CutPlan<'_>) -> Result<Finished, RunFault>
+fn report_by_plan(alloc: Global, case: &Case, plan: CutPlan<'_>) -> Result<CompleteReport, RunFault>
     requires { IsReady case.now }
     ensures ok { IfOk result (λ made. made ≡ outcome_in case.now) }
     ensures fits { IfOk result (λ made. Fits plan.entry made.summary.lines) }
-    ensures unfit { IfErr result (λ e. (fault : CutFaultValue) → e ≡ RunFault.Cuts fault → IsPlanFault plan.entry (outcome_in case.now).summary.lines fault) }
+    ensures unfit { IfErr result (λ e. (fault : CutFaultValue) → e ≡ RunFault.Cuts fault
+        → IsPlanFault plan.entry (outcome_in case.now).summary.lines fault) }
     ensures plan { IfErr result (λ e. is_refusal e ≡ false) }
     ensures memory { IfErr result TellsMemory }
     ensures silent { is_write result ≡ false }
@@ -53,11 +54,12 @@ fn report_on_inputs(
     alloc: Global,
     inputs: &Inputs<'_>,
     plan: CutPlan<'_>,
-) -> Result<Finished, RunFault>
+) -> Result<CompleteReport, RunFault>
     ensures ok { IfOk result (λ made. outcome_of inputs.now ≡ Ok made) }
     ensures fits { IfOk result (λ made. Fits plan.entry made.summary.lines) }
     ensures refused { IfErr result (λ e. is_refusal e ≡ true → outcome_of inputs.now ≡ Err e) }
-    ensures unfit { IfErr result (λ e. (fault : CutFaultValue) → e ≡ RunFault.Cuts fault → (outcome : Outcome) × (outcome_of inputs.now ≡ Ok outcome)
+    ensures unfit { IfErr result (λ e. (fault : CutFaultValue) → e ≡ RunFault.Cuts fault
+        → (outcome : Outcome) × (outcome_of inputs.now ≡ Ok outcome)
         × IsPlanFault plan.entry outcome.summary.lines fault) }
     ensures memory { IfErr result TellsMemory }
     ensures silent { is_write result ≡ false }
@@ -80,16 +82,21 @@ pub fn report<S: Sink>(
     sink: &mut S,
 ) -> Result<Summary, RunFault>
     requires sound { S.has_failed sink.old ≡ false }
-    ensures written { IfOk result (λ summary. (outcome : Outcome) × (outcome_of inputs.now ≡ Ok outcome) × (summary ≡ outcome.summary)
+    ensures written { IfOk result (λ summary. (outcome : Outcome)
+        × (outcome_of inputs.now ≡ Ok outcome) × (summary ≡ outcome.summary)
         × Appends (S.contents sink.old) (S.contents sink.new) outcome.text) }
     ensures fits { IfOk result (λ summary. Fits plan.entry summary.lines) }
     ensures refused { IfErr result (λ e. is_refusal e ≡ true → outcome_of inputs.now ≡ Err e) }
-    ensures unfit { IfErr result (λ e. (fault : CutFaultValue) → e ≡ RunFault.Cuts fault → (outcome : Outcome) × (outcome_of inputs.now ≡ Ok outcome)
+    ensures unfit { IfErr result (λ e. (fault : CutFaultValue) → e ≡ RunFault.Cuts fault
+        → (outcome : Outcome) × (outcome_of inputs.now ≡ Ok outcome)
         × IsPlanFault plan.entry outcome.summary.lines fault) }
-    ensures untouched { IfErr result (λ e. is_write_fault e ≡ false → S.contents sink.new ≡ S.contents sink.old) }
+    ensures untouched { IfErr result
+        (λ e. is_write_fault e ≡ false → S.contents sink.new ≡ S.contents sink.old) }
     ensures failed { S.has_failed sink.new ≡ is_write result }
-    ensures cut_short { IfErr result (λ e. (m : ℕ) → e ≡ RunFault.Write m → (outcome : Outcome) × (outcome_of inputs.now ≡ Ok outcome)
-        × (m < length outcome.text) × Appends (S.contents sink.old) (S.contents sink.new) (take m outcome.text)) }
+    ensures cut_short { IfErr result (λ e. (m : ℕ) → e ≡ RunFault.Write m → (outcome : Outcome)
+        × (outcome_of inputs.now ≡ Ok outcome)
+        × (m < length outcome.text)
+        × Appends (S.contents sink.old) (S.contents sink.new) (take m outcome.text)) }
     ensures memory { IfErr result TellsMemory }
 {
     let made = match report_on_inputs(alloc, inputs, plan) {

@@ -89,7 +89,8 @@ fn make_section(
     requires there { end ≤ length case.now.sequence.ops + 1 }
     requires sum { values sum ≡ before case.now start }
     requires size { size_of sum ≤ parts_before start }
-    ensures { IfOk result (λ s. s ≡ part_of (map (line_in case.now) (range_with_len start (end - start)))) }
+    ensures { IfOk result
+        (λ s. s ≡ part_of (map (line_in case.now) (range_with_len start (end - start)))) }
 {
     let mut section = Section::new(alloc);
     let mut sum = sum;
@@ -112,7 +113,8 @@ pub fn sections(
     requires ready { IsReady case.now }
     requires cut { Divides cuts.now (length case.now.sequence.ops + 1) }
     requires sums { AreOffsets case.now.profile.ship.frames case.now.arrival.bodies case.now.sequence.steps cuts.now sums.now }
-    ensures { IfOk result (λ made. made.items ≡ map (λ chunk. part_of (map (line_in case.now) (chunk_of cuts.now chunk))) (range_with_len 0 (length cuts.now))) }
+    ensures { IfOk result (λ made. made.items ≡ map (λ chunk. part_of
+        (map (line_in case.now) (chunk_of cuts.now chunk))) (range_with_len 0 (length cuts.now))) }
 {
     let hull = Hull::new(&case.profile);
     let mut made = Vec::new(alloc);

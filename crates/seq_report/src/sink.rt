@@ -73,7 +73,8 @@ impl<W: Write + Drop> Sink for Through<W> {
 pub fn put_all<S: Sink>(sink: &mut S, bytes: &[u8]) -> Result<(), usize>
     requires { S.has_failed sink.old ≡ false }
     ensures ok { OnOk result (Appends (S.contents sink.old) (S.contents sink.new) bytes.now) }
-    ensures err { IfErr result (λ n. Appends (S.contents sink.old) (S.contents sink.new) (take n bytes.now)) }
+    ensures err { IfErr result
+        (λ n. Appends (S.contents sink.old) (S.contents sink.new) (take n bytes.now)) }
     ensures err_short { IfErr result (λ n. n < length bytes.now) }
     ensures failed { S.has_failed sink.new ≡ is_err result }
 {

@@ -1,6 +1,7 @@
 use Rattle.std.proofs.Common.{◌≡◌, ◌∙◌, ap}
 use Rattle.std.proofs.lemmas.Result.{IfOk-weaker, IfErr-weaker}
-use Rattle.seq_report.specs.Refusal.{◌>>=◌, outcome_for, outcome_of}
+use Rattle.units_core.specs.Outcome.{◌>>=◌}
+use Rattle.seq_report.specs.Refusal.{outcome_for, outcome_of}
 use Rattle.seq_report.proofs.cases.case_of.Goals as goal
 
 pub returns-clause-ok : goal.returns-clause-ok

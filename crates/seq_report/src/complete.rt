@@ -19,12 +19,12 @@ pub struct Summary {
 
 /// A report that is made and not yet written.
 #[derive(Debug, Drop)]
-pub struct Finished {
+pub struct CompleteReport {
     text: String,
     summary: Summary,
 }
 
-impl Model for Finished {
+impl Model for CompleteReport {
     ghost use Rattle.std.specs.Prelude.{string_bytes};
     ghost use Rattle.seq_report.specs.Refusal.{Outcome};
 
@@ -33,9 +33,9 @@ impl Model for Finished {
     ghost view = { λ f. record { text = string_bytes f.text; summary = f.summary } };
 }
 
-impl Finished {
+impl CompleteReport {
     /// The report of these sections in their order, which have so many lines, between the heading and the last line.
-    pub fn join(alloc: Global, sections: Vec<Section>, lines: u32) -> Result<Finished, AllocError>
+    pub fn join(alloc: Global, sections: Vec<Section>, lines: u32) -> Result<CompleteReport, AllocError>
         ensures { IfOk result (λ made. made ≡ record {
           text = header_of ++ (text_in sections.items ++ last_line (first_in sections.items));
           summary = record { lines = lines; first = first_in sections.items };
@@ -49,7 +49,7 @@ impl Finished {
             first = first.or(section.first());
         }
         write_last_line(&mut text, first)?;
-        Ok(Finished {
+        Ok(CompleteReport {
             text,
             summary: Summary { lines, first },
         })

@@ -3,7 +3,7 @@ use Rattle.std.specs.Option.{option_or}
 use Rattle.std.specs.Vec.Iter.{into_iter_items}
 use Rattle.seq_report.specs.Chunks.{first_in, text_in}
 use Rattle.seq_report.specs.Report.{header_of}
-use Rattle.seq_report.proofs.finished.Finished.join.Given as goal
+use Rattle.seq_report.proofs.complete.CompleteReport.join.Given as goal
 
 abbrev pub invariant-loop-section : goal.invariant-loop-section
 invariant-loop-section l = record {
