@@ -7,47 +7,13 @@ use crate::{
     Levers, area_holds, area_over_pairs, area_sum, best_from_30, best_number_from_30, greatest,
     greatest_number, levers_of,
 };
+use box_ship::{KN, files};
 use hydrostat::Outside;
 use moment_sums::Totals;
-use ship_profile::{Profile, ProfileBytes, ProfileFault};
+use ship_profile::{Profile, ProfileFault};
 use std::alloc::Global;
 use std::test::Fail;
 use units_core::{Angle, Body, Frac, Mm, Place, floor};
-
-static SHIP: &str = "lbp_mm = 100000
-downflooding_deg = 60
-draught_max_mm = 6100
-trim_max_mm = 500
-list_max = 500
-closing_max_kg = 5000
-stations_mm = [0, 50000, 100000]
-[[blocks]]
-kg = 8200000
-x_mm = 50000
-y_mm = 0
-z_mm = 6000
-half_mm = 50000
-[[frames]]
-x_mm = 50000
-shear_max_kg = 100000
-hog_max_kgmm = 1000000000
-sag_max_kgmm = 1000000000
-";
-
-static CELLS: &str = "cell,x,y,z,half
-0030082,50000,0,10000,3029
-";
-
-static HYDRO: &str = "kg,draught,kmt,lcb,lcf,mct
-4100000,2000,17667,50000,50000,17000000
-12300000,6000,8556,50000,50000,17000000
-";
-
-/// The cross curves of the box ship.
-static KN: &str = "kg,0,5,10,15,20,25,30,35,40,45,50,55,60
-4100000,0,900,1790,2650,3470,4230,4900,5400,5750,5980,6110,6150,6110
-12300000,0,900,1790,2650,3470,4230,4900,5400,5750,5980,6110,6150,6110
-";
 
 /// The same lever at 20 and 25 degrees, and smaller ones elsewhere.
 static TIED: &str = "kg,0,5,10,15,20,25,30,35,40,45,50,55,60
@@ -55,25 +21,11 @@ static TIED: &str = "kg,0,5,10,15,20,25,30,35,40,45,50,55,60
 12300000,0,900,1790,2650,4230,4230,4000,3800,3600,3400,3200,3000,2800
 ";
 
-static BONJEAN: &str = "draught,0,50000,100000
-0,0,0,0
-8000,1600000,1600000,1600000
-";
-
 /// The box ship with these cross curves.
 fn box_ship(alloc: Global, kn: &str) -> Result<Profile, ProfileFault> {
-    Profile::read(
-        alloc,
-        &ProfileBytes {
-            ship: SHIP.as_bytes(),
-            cells: CELLS.as_bytes(),
-            hydro: HYDRO.as_bytes(),
-            kn: kn.as_bytes(),
-            bonjean: BONJEAN.as_bytes(),
-            tanks: b"",
-            gm: None,
-        },
-    )
+    let mut files = files();
+    files.kn = kn.as_bytes();
+    Profile::read(alloc, &files)
 }
 
 /// Refuses a sum that no ship has.

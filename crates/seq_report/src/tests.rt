@@ -1,3 +1,6 @@
+use box_ship::{
+    BONJEAN, CELLS, EMPTY_PLAN, HYDRO, KN, LIMITS, LOAD_TO_STARBOARD, NO_MOVES, SHIP, TANKS,
+};
 use crate::{CutPlan, Inputs, RunFault, Summary, Through, report};
 use ship_profile::ProfileBytes;
 use std::alloc::Global;
@@ -10,39 +13,7 @@ mod sinks;
 mod steps;
 mod worked;
 
-/// What the box ship's `ship.toml` says before her block.
-const LIMITS: &str =
-    "lbp_mm = 100000\ndownflooding_deg = 60\ndraught_max_mm = 6100\ntrim_max_mm = 500\nlist_max = 500\nclosing_max_kg = 5000\nstations_mm = [0, 25000, 50000, 75000, 100000]\n[[frames]]\nx_mm = 0\nshear_max_kg = 100000\nhog_max_kgmm = 1000000000\nsag_max_kgmm = 1000000000\n[[frames]]\nx_mm = 25000\nshear_max_kg = 100000\nhog_max_kgmm = 1000000000\nsag_max_kgmm = 1000000000\n[[frames]]\nx_mm = 50000\nshear_max_kg = 100000\nhog_max_kgmm = 1000000000\nsag_max_kgmm = 1000000000\n[[frames]]\nx_mm = 75000\nshear_max_kg = 100000\nhog_max_kgmm = 1000000000\nsag_max_kgmm = 1000000000\n[[frames]]\nx_mm = 100000\nshear_max_kg = 100000\nhog_max_kgmm = 1000000000\nsag_max_kgmm = 1000000000\n";
-
-/// The box ship: one block, five frames, five cells, three rows of hydrostatics and one tank, which is empty.
-const SHIP: &str =
-    "lbp_mm = 100000\ndownflooding_deg = 60\ndraught_max_mm = 6100\ntrim_max_mm = 500\nlist_max = 500\nclosing_max_kg = 5000\nstations_mm = [0, 25000, 50000, 75000, 100000]\n[[blocks]]\nkg = 8200000\nx_mm = 50000\ny_mm = 0\nz_mm = 6000\nhalf_mm = 50000\n[[frames]]\nx_mm = 0\nshear_max_kg = 100000\nhog_max_kgmm = 1000000000\nsag_max_kgmm = 1000000000\n[[frames]]\nx_mm = 25000\nshear_max_kg = 100000\nhog_max_kgmm = 1000000000\nsag_max_kgmm = 1000000000\n[[frames]]\nx_mm = 50000\nshear_max_kg = 100000\nhog_max_kgmm = 1000000000\nsag_max_kgmm = 1000000000\n[[frames]]\nx_mm = 75000\nshear_max_kg = 100000\nhog_max_kgmm = 1000000000\nsag_max_kgmm = 1000000000\n[[frames]]\nx_mm = 100000\nshear_max_kg = 100000\nhog_max_kgmm = 1000000000\nsag_max_kgmm = 1000000000\n";
-
-const CELLS: &[u8] =
-    b"cell,x,y,z,half\n0010082,75000,0,10000,3029\n0020082,62500,0,10000,6096\n0030082,50000,0,10000,3029\n0030782,50000,8000,10000,3029\n0050082,25000,0,10000,3029\n";
-
-const HYDRO: &[u8] =
-    b"kg,draught,kmt,lcb,lcf,mct\n4100000,2000,17667,50000,50000,17000000\n8200000,4000,10333,50000,50000,17000000\n12300000,6000,8556,50000,50000,17000000\n";
-
-const LEVERS: &str =
-    "kg,0,5,10,15,20,25,30,35,40,45,50,55,60\n4100000,0,900,1790,2650,3470,4230,4900,5400,5750,5980,6110,6150,6110\n12300000,0,900,1790,2650,3470,4230,4900,5400,5750,5980,6110,6150,6110\n";
-
-const BONJEAN: &str =
-    "draught,0,25000,50000,75000,100000\n0,0,0,0,0,0\n8000,1600000,1600000,1600000,1600000,1600000\n";
-
-const TANKS: &[u8] =
-    b"tank,kg,x,y,z,half,fsm\nDB1,0,50000,0,0,5000,0\nDB1,500000,50000,0,1000,5000,2050000000\n";
-
-const EMPTY: &[u8] = b"UNB+UNOA:2+SHIP+PLAN+250101:1200+7'UNH+1+BAPLIE:D:95B:UN'UNT+2+1'UNZ+1+7'";
-
-const NO_MOVES: &[u8] =
-    b"UNB+UNOA:2+PLAN+SHIP+250101:1200+8'UNH+1+MOVINS:D:95B:UN'UNT+2+1'UNZ+1+8'";
-
-/// A container of 20,500 kg comes aboard to starboard.
-const TO_STARBOARD: &[u8] =
-    b"UNB+UNOA:2+PLAN+SHIP+250101:1200+8'UNH+1+MOVINS:D:95B:UN'HAN+LOA'LOC+147+0030782::5'MEA+WT++KGM:20500'EQD+CN+ABCU1234560'UNT+6+1'UNZ+1+8'";
-
-/// The texts of a run besides the cells, hydrostatics and tanks of the box ship.
+/// The texts of a run besides the cells, water and tanks of the box ship.
 #[derive(Clone, Copy)]
 struct Run<'a> {
     ship: &'a str,
@@ -57,10 +28,10 @@ struct Run<'a> {
 /// The box ship, with nothing aboard and nothing to do.
 const IDLE: Run<'static> = Run {
     ship: SHIP,
-    baplie: EMPTY,
+    baplie: EMPTY_PLAN,
     movins: NO_MOVES,
     steps: None,
-    kn: LEVERS,
+    kn: KN,
     bonjean: BONJEAN,
     gm: None,
 };
@@ -70,11 +41,11 @@ impl<'a> Run<'a> {
         Inputs {
             profile: ProfileBytes {
                 ship: self.ship.as_bytes(),
-                cells: CELLS,
-                hydro: HYDRO,
+                cells: CELLS.as_bytes(),
+                hydro: HYDRO.as_bytes(),
                 kn: self.kn.as_bytes(),
                 bonjean: self.bonjean.as_bytes(),
-                tanks: TANKS,
+                tanks: TANKS.as_bytes(),
                 gm: match self.gm {
                     Some(text) => Some(text.as_bytes()),
                     None => None,

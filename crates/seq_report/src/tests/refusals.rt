@@ -1,4 +1,5 @@
-use super::{IDLE, Run, SHIP, TO_STARBOARD, check_refusal};
+use super::{IDLE, Run, check_refusal};
+use box_ship::{LOAD_TO_STARBOARD, SHIP};
 use crate::RunFault;
 use lift_sequence::{SeqCode, SeqFault};
 use ship_profile::{File, ProfileFault};
@@ -50,7 +51,7 @@ fn refused_bay_plans(rt: HostRuntime) -> Result<(), Fail> {
         (TAKEN_TWICE, "F3 S2 item 2"),
         (UNKNOWN, "F3 S1 item 1"),
         (OVERLAPPING, "F3 S3 item 2 cell 0010082"),
-        (TO_STARBOARD, "F2 M1 E6 at 35"),
+        (LOAD_TO_STARBOARD, "F2 M1 E6 at 35"),
     ] {
         // The instruction has a fault too, which comes later.
         let run = Run {
@@ -101,7 +102,7 @@ fn steps_file_faults(rt: HostRuntime) -> Result<(), Fail> {
         ("kind,a,b,c\nswap,1,,\n", "F9 G2 line 2"),
     ] {
         let run = Run {
-            movins: TO_STARBOARD,
+            movins: LOAD_TO_STARBOARD,
             steps: Some(steps.as_bytes()),
             ..IDLE
         };

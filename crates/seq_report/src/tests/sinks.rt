@@ -42,7 +42,7 @@ fn writer_fails_after_seven(rt: HostRuntime) {
     assert_eq!(rt; taken.as_slice(), b"STEP LI".as_slice());
 }
 
-// Wherever a writer fails, it holds the front of the report of the length that is said.
+// Wherever a writer fails, it holds a prefix of the report, of the length that is said.
 #[test]
 fn failing_writers(rt: HostRuntime) {
     let whole =

@@ -1,7 +1,5 @@
-use super::{
-    EMPTY_LINE, HEADER, IDLE, LIMITS, Run, SHIP, STARBOARD_LINE, TO_STARBOARD, check_passes,
-    written,
-};
+use super::{EMPTY_LINE, HEADER, IDLE, Run, STARBOARD_LINE, check_passes, written};
+use box_ship::{LIMITS, LOAD_TO_STARBOARD, SHIP};
 use crate::codes::code;
 use crate::lifts::write_lift;
 use crate::{Criterion, Summary};
@@ -129,7 +127,7 @@ fn items_are_aboard(rt: HostRuntime) -> Result<(), Fail> {
 #[test]
 fn load_to_starboard(rt: HostRuntime) -> Result<(), Fail> {
     let run = Run {
-        movins: TO_STARBOARD,
+        movins: LOAD_TO_STARBOARD,
         ..IDLE
     };
     check_passes(
@@ -173,7 +171,7 @@ fn cells_and_containers(rt: HostRuntime) -> Result<(), Fail> {
 #[test]
 fn restow_step(rt: HostRuntime) -> Result<(), Fail> {
     let run = Run {
-        movins: TO_STARBOARD,
+        movins: LOAD_TO_STARBOARD,
         steps: Some(b"kind,a,b,c\nlift,1,,\nrestow,0030782,0050082,\n"),
         ..IDLE
     };

@@ -1,6 +1,7 @@
 //! Conditions of the box ship with some of her numbers changed, worked by hand or by a calculator of fractions that shares no code with
 //! this one.
-use super::{BONJEAN, HEADER, IDLE, LEVERS, NO_MOVES, Run, TO_STARBOARD, written};
+use super::{HEADER, IDLE, Run, written};
+use box_ship::{BONJEAN, KN, LOAD_TO_STARBOARD, NO_MOVES};
 use crate::codes::code;
 use crate::{Criterion, Summary};
 use std::alloc::Global;
@@ -12,7 +13,7 @@ const AFT: &[u8] =
     b"UNB+UNOA:2+PLAN+SHIP+250101:1200+8'UNH+1+MOVINS:D:95B:UN'HAN+LOA'LOC+147+0050082::5'MEA+WT++KGM:20500'EQD+CN+ABCU1234560'UNT+6+1'UNZ+1+8'";
 
 /// The same into a cell to starboard.
-const STARBOARD: &[u8] = TO_STARBOARD;
+const STARBOARD: &[u8] = LOAD_TO_STARBOARD;
 
 /// What differs from the box ship, and what her report says.
 #[derive(Clone, Copy)]
@@ -40,7 +41,7 @@ const BOX: Row = Row {
     closing_max: 5_000,
     shear: 100_000,
     sag: 1_000_000_000,
-    kn: LEVERS,
+    kn: KN,
     bonjean: BONJEAN,
     gm: None,
     movins: NO_MOVES,
