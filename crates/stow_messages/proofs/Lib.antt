@@ -1,5 +1,5 @@
-pub mod Counts
-pub mod Meanings
+pub mod EntryLemmas
+pub mod MessageLemmas
 pub mod StepLemmas
 pub mod Texts
 pub mod Walks

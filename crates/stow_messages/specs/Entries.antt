@@ -1,5 +1,6 @@
 -- What a group says, whatever its message: a cell, a container's identification, and its mass.
-use Rattle.std.specs.Prelude.{ℕ, List, [], ◌∷◌, ◌++◌, length, Option, Some, None, Result, Ok, Err, nat_le, nat_lt, if◌then◌else◌, codes}
+use Rattle.std.specs.Prelude.{◌≡◌, ℕ, List, [], ◌∷◌, ◌++◌, length, Option, Some, None, Result, Ok, Err, is_ok, true, nat_le, nat_lt, flat_map, if◌then◌else◌, codes}
+use Rattle.std.specs.List.{list_all}
 use Rattle.std.specs.Option.{option_or, is_some}
 use Rattle.arrayvec.specs.ArrayVec.{ArrayVec}
 use Rattle.units_core.specs.declared.cells.Cell.{Cell}
@@ -69,3 +70,8 @@ listed (Some x) = x ∷ []
 abbrev pub given : {X : Type 0} → Result (Option X) StowFault → List X
 given (Ok entry) = listed entry
 given (Err e) = []
+
+-- None of the parts of a message has a fault, and these are the entries that they give, in their order.
+pub record AreEntries {X P : Type 0} (gives : P → Result (Option X) StowFault) (parts : List P) (entries : List X) : Type 0 where
+  pub sound : list_all (λ p. is_ok (gives p)) parts ≡ true
+  pub each : entries ≡ flat_map (λ p. given (gives p)) parts

@@ -67,13 +67,22 @@ groups_in [] = []
 groups_in (Handled s ∷ more) = groups_in more
 groups_in (Located f ∷ more) = f ∷ groups_in more
 
--- a group, and the last handling before it
-pub record HandledGroup : Type 0 where
+-- a part, and the last handling before it
+pub record HandledPart : Type 0 where
   pub handling : Option Numbered
-  pub group : Found
+  pub part : Part
 
--- the groups among the parts, in their order, where this is the last handling before the parts
-abbrev pub handled_in : Option Numbered → List Part → List HandledGroup
+-- the last handling behind a part, where this is the last one before it
+abbrev pub handling_behind : Option Numbered → Part → Option Numbered
+handling_behind last (Handled s) = Some s
+handling_behind last (Located f) = last
+
+-- the parts in their order, where this is the last handling before them
+abbrev pub handled_in : Option Numbered → List Part → List HandledPart
 handled_in last [] = []
-handled_in last (Handled s ∷ more) = handled_in (Some s) more
-handled_in last (Located f ∷ more) = record { handling = last; group = f } ∷ handled_in last more
+handled_in last (p ∷ more) = record { handling = last; part = p } ∷ handled_in (handling_behind last p) more
+
+-- the segment that begins a part
+abbrev pub location_of : Part → Numbered
+location_of (Handled s) = s
+location_of (Located f) = f.location

@@ -1,7 +1,7 @@
 -- The items of a bay plan (BAPLIE, UN/EDIFACT D.95B): those of its groups in their order. The first fault in the order of the
 -- groups is the plan's.
-use Rattle.std.specs.Prelude.{◌≡◌, ℕ, List, [], ◌∷◌, Option, Result, Ok, Err, is_ok, false, true, flat_map}
-use Rattle.std.specs.List.{list_all}
+use Rattle.std.specs.Prelude.{ℕ, ◌≤◌, List, [], ◌∷◌, length, Option, Result, Ok, Err, false}
+use Rattle.edifact_text.specs.Faults.{IsMessage}
 use Rattle.edifact_text.specs.Interchange.{Opened}
 use Rattle.edifact_text.specs.Reading.{opened}
 use Rattle.edifact_text.specs.declared.faults.EdiFault.{EdiFault}
@@ -9,7 +9,7 @@ use Rattle.edifact_text.specs.declared.faults.Kind.TheVariants.{Baplie}
 use Rattle.stow_messages.specs.declared.items.Item.{Item}
 use Rattle.stow_messages.specs.declared.faults.StowFault.{StowFault}
 use Rattle.stow_messages.specs.declared.faults.StowCode.TheVariants.{Envelope}
-use Rattle.stow_messages.specs.Entries.{◌>>=◌, cell_at, id_of, item_of, with_entry, given}
+use Rattle.stow_messages.specs.Entries.{◌>>=◌, cell_at, id_of, item_of, with_entry, AreEntries}
 use Rattle.stow_messages.specs.Groups.{Found, Part, Handled, Located, parts_of, groups_in}
 
 abbrev pub item_in : ℕ → Found → Result (Option Item) StowFault
@@ -43,11 +43,9 @@ bay_plan text = items_behind (opened Baplie text)
 abbrev pub item_groups : Opened → List Found
 item_groups m = groups_in (parts_of false m.segments)
 
--- What this comes to: no group of the message has a fault, and the items are those that the groups give, in their order.
-pub record AreItemsOf (m : Opened) (items : List Item) : Type 0 where
-  pub sound : list_all (λ f. is_ok (item_in m.mark f)) (item_groups m) ≡ true
-  pub each : items ≡ flat_map (λ f. given (item_in m.mark f)) (item_groups m)
-
--- the text spells a message, and these are its items
+-- What this comes to: the text is a message, no group of it has a fault, and the items are those that the groups give, in their
+-- order, at most 30,000.
 abbrev pub AreItems : List ℕ → List Item → Type 0
-AreItems text items = (m : Opened) × (opened Baplie text ≡ Ok m) × AreItemsOf m items
+AreItems text items =
+    (m : Opened) × IsMessage Baplie text m.mark m.segments × AreEntries (item_in m.mark) (item_groups m) items
+    × (length items ≤ 30000)

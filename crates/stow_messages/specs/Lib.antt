@@ -1,4 +1,5 @@
 pub mod Entries
+pub mod Faults
 pub mod Groups
 pub mod Items
 pub mod Kinds

@@ -1,11 +1,11 @@
 -- The lifts of a movement instruction (MOVINS, UN/EDIFACT D.95B): those of its groups in their order, each handled as the last
 -- handling before it says. The first fault in the order of the segments is the instruction's, and those of a group come before
 -- those of the segment that ends it.
-use Rattle.std.specs.Prelude.{◌≡◌, ℕ, List, [], ◌∷◌, Option, Some, None, Result, Ok, Err, is_ok, Bool, true, ◌||◌, if◌then◌else◌, codes, flat_map}
-use Rattle.std.specs.List.{list_all}
+use Rattle.std.specs.Prelude.{ℕ, ◌≤◌, List, [], ◌∷◌, length, Option, Some, None, Result, Ok, Err, Bool, true, ◌||◌, if◌then◌else◌, codes}
 use Rattle.std.specs.Option.{is_some, option_map}
 use Rattle.arrayvec.specs.ArrayVec.{ArrayVec}
 use Rattle.units_core.specs.declared.cells.Cell.{Cell}
+use Rattle.edifact_text.specs.Faults.{IsMessage}
 use Rattle.edifact_text.specs.Interchange.{Numbered, Opened}
 use Rattle.edifact_text.specs.Reading.{opened}
 use Rattle.edifact_text.specs.declared.faults.EdiFault.{EdiFault}
@@ -16,8 +16,8 @@ use Rattle.stow_messages.specs.declared.lifts.Handling.{Handling}
 use Rattle.stow_messages.specs.declared.lifts.Handling.TheVariants.{Loading, Discharging}
 use Rattle.stow_messages.specs.declared.faults.StowFault.{StowFault}
 use Rattle.stow_messages.specs.declared.faults.StowCode.TheVariants.{Envelope, LiftWithoutHandling, UnknownHandling}
-use Rattle.stow_messages.specs.Entries.{◌>>=◌, fault_at, or_fault_at, cell_at, id_of, item_of, with_entry, given}
-use Rattle.stow_messages.specs.Groups.{Found, Part, Handled, Located, parts_of, HandledGroup, handled_in}
+use Rattle.stow_messages.specs.Entries.{◌>>=◌, fault_at, or_fault_at, cell_at, id_of, item_of, with_entry, AreEntries}
+use Rattle.stow_messages.specs.Groups.{Found, Part, Handled, Located, parts_of, HandledPart, handled_in}
 use Rattle.stow_messages.specs.Kinds.{has}
 
 -- what a handling says: LOA to load, DIS to discharge, and no other code
@@ -64,31 +64,26 @@ lifts_behind (Err e) = Err (record { code = Envelope e; segment = 0 })
 abbrev pub movement_instruction : List ℕ → Result (List Lift) StowFault
 movement_instruction text = lifts_behind (opened Movins text)
 
--- a part that is a handling loads or discharges
-abbrev pub is_understood : Part → Bool
-is_understood (Handled s) = is_ok (handling_at s)
-is_understood (Located f) = true
-
 -- what the last handling says, if there was one
 abbrev pub handling_of : Option Numbered → Result (Option Handling) StowFault
 handling_of None = Ok None
 handling_of (Some s) = handling_at s >>= (λ handling. Ok (Some handling))
 
--- the lift of a group under the last handling before it
-abbrev pub lift_under : ℕ → HandledGroup → Result (Option Lift) StowFault
-lift_under mark g = handling_of g.handling >>= (λ handling. lift_in mark handling g.group)
+-- the lift of a part behind this handling: a handling gives none, but has a fault where it isn't understood
+abbrev pub lift_behind : ℕ → Option Numbered → Part → Result (Option Lift) StowFault
+lift_behind mark last (Handled s) = handling_at s >>= (λ handling. Ok None)
+lift_behind mark last (Located f) = handling_of last >>= (λ handling. lift_in mark handling f)
 
--- the groups of a message, each with the last handling before it
-abbrev pub lift_groups : Opened → List HandledGroup
-lift_groups m = handled_in None (parts_of true m.segments)
+abbrev pub lift_under : ℕ → HandledPart → Result (Option Lift) StowFault
+lift_under mark p = lift_behind mark p.handling p.part
 
--- What this comes to: each handling of the message is understood, no group has a fault under the last handling before it, and the
--- lifts are those that the groups give, in their order.
-pub record AreLiftsOf (m : Opened) (lifts : List Lift) : Type 0 where
-  pub understood : list_all is_understood (parts_of true m.segments) ≡ true
-  pub sound : list_all (λ g. is_ok (lift_under m.mark g)) (lift_groups m) ≡ true
-  pub each : lifts ≡ flat_map (λ g. given (lift_under m.mark g)) (lift_groups m)
+-- the parts of a message, each with the last handling before it
+abbrev pub lift_parts : Opened → List HandledPart
+lift_parts m = handled_in None (parts_of true m.segments)
 
--- the text spells a message, and these are its lifts
+-- What this comes to: the text is a message, no part of it has a fault under the last handling before it, and the lifts are those
+-- that the parts give, in their order, at most 200,000.
 abbrev pub AreLifts : List ℕ → List Lift → Type 0
-AreLifts text lifts = (m : Opened) × (opened Movins text ≡ Ok m) × AreLiftsOf m lifts
+AreLifts text lifts =
+    (m : Opened) × IsMessage Movins text m.mark m.segments × AreEntries (lift_under m.mark) (lift_parts m) lifts
+    × (length lifts ≤ 200000)

@@ -1,4 +1,6 @@
-use crate::{Item, Lift, StowCode, StowFault, baplie, copied, movins};
+use crate::{
+    Item, Lift, StowCode, StowFault, baplie, copied, movins, one_bay_plan, one_movement_instruction,
+};
 use arrayvec::ArrayVec;
 use edifact_text::{EdiCode, EdiFault};
 use std::alloc::{AllocError, Global};
@@ -75,6 +77,7 @@ fn release_and_verified_weight(rt: HostRuntime) -> Result<(), Fail> {
     };
     assert_eq!(rt; item, expected);
     assert_eq!(rt; items[0], expected);
+    one_bay_plan();
     Ok(())
 }
 
@@ -386,6 +389,7 @@ static HANDLINGS: [(&str, &str); 9] = [
 
 #[test]
 fn handlings_hold_for_what_follows(rt: HostRuntime) -> Result<(), Fail> {
+    one_movement_instruction();
     check_orders(&rt, &HANDLINGS)
 }
 

@@ -1,13 +1,13 @@
-use Rattle.std.proofs.Common.{◌≡◌, [], None, Ok, arith, rules}
+use Rattle.std.proofs.Common.{◌≡◌, Ok, rules}
 use Rattle.std.proofs.lemmas.Result.{IfOk-weaker}
-use Rattle.stow_messages.specs.Views.{parts_left}
 use Rattle.stow_messages.specs.Lifts.{movement_instruction}
-use Rattle.stow_messages.proofs.Meanings.{are_lifts}
-use Rattle.stow_messages.proofs.Counts.{few_lifts}
+use Rattle.stow_messages.proofs.MessageLemmas.{are_lifts}
 use Rattle.stow_messages.proofs.instructions.movins.Goals as goal
 
 pub returns-in-Ok-clause-few : goal.returns-in-Ok-clause-few
-returns-in-Ok-clause-few c = IfOk-weaker c.lifts_of.result _ _ (λ lifts e. few_lifts c.decimal_mark.result None [] lifts.items (parts_left c.new.result) e (omega arith)) c.lifts_of.ensures.ok
+returns-in-Ok-clause-few c = IfOk-weaker c.lifts_of.result _ _ (λ lifts e.
+    let all : movement_instruction c.args.bytes.now ≡ Ok lifts.items = search rules in
+    (are_lifts c.args.bytes.now lifts.items all).3) c.lifts_of.ensures.ok
 
 pub returns-in-Ok-clause-meaning : goal.returns-in-Ok-clause-meaning
 returns-in-Ok-clause-meaning c = IfOk-weaker c.lifts_of.result _ _ (λ lifts e.

@@ -1,0 +1,46 @@
+-- The fault of a text that is no bay plan, or no movement instruction.
+use Rattle.std.specs.Prelude.{◌≡◌, ◌⊎◌, ℕ, ◌≤◌, List, ◌∷◌, ◌++◌, length, Option, Some, Result, Ok, Err}
+use Rattle.edifact_text.specs.Faults.{IsMessage, IsFault}
+use Rattle.edifact_text.specs.Interchange.{Numbered, Opened}
+use Rattle.edifact_text.specs.declared.faults.EdiFault.{EdiFault}
+use Rattle.edifact_text.specs.declared.faults.Kind.{Kind}
+use Rattle.edifact_text.specs.declared.faults.Kind.TheVariants.{Baplie, Movins}
+use Rattle.stow_messages.specs.declared.faults.StowFault.{StowFault}
+use Rattle.stow_messages.specs.declared.faults.StowCode.TheVariants.{Envelope, TooMany}
+use Rattle.stow_messages.specs.Entries.{AreEntries}
+use Rattle.stow_messages.specs.Groups.{Found, HandledPart, location_of}
+use Rattle.stow_messages.specs.Items.{item_in, item_groups}
+use Rattle.stow_messages.specs.Lifts.{lift_under, lift_parts}
+
+-- What a part gives is refused behind these entries: it is a fault, or an entry where as many stand as there may be.
+abbrev pub IsRefused : {X : Type 0} → ℕ → List X → Numbered → Result (Option X) StowFault → StowFault → Type 0
+IsRefused {X} most entries location gives f =
+    (gives ≡ Err f)
+    ⊎ ((entry : X) × (gives ≡ Ok (Some entry)) × (length entries ≡ most) × (f ≡ record { code = TooMany; segment = location.number }))
+
+-- A part of the message is refused with this fault, and none before it is.
+pub record IsFirstFault {X P : Type 0} (most : ℕ) (location : P → Numbered) (gives : P → Result (Option X) StowFault) (parts : List P) (f : StowFault) : Type 0 where
+  pub before : List P
+  pub part : P
+  pub behind : List P
+  pub entries : List X
+  pub parts_are : parts ≡ before ++ part ∷ behind
+  pub given_before : AreEntries gives before entries
+  pub few : length entries ≤ most
+  pub refused : IsRefused most entries (location part) (gives part) f
+
+-- The text is no message of the kind. The fault stands for the message as a whole.
+abbrev pub IsEnvelopeFault : Kind → List ℕ → StowFault → Type 0
+IsEnvelopeFault kind text f = (e : EdiFault) × IsFault kind text e × (f ≡ record { code = Envelope e; segment = 0 })
+
+abbrev pub IsPlanFault : List ℕ → StowFault → Type 0
+IsPlanFault text f =
+    IsEnvelopeFault Baplie text f
+    ⊎ ((m : Opened) × IsMessage Baplie text m.mark m.segments
+    × IsFirstFault 30000 (λ (g : Found). g.location) (item_in m.mark) (item_groups m) f)
+
+abbrev pub IsInstructionFault : List ℕ → StowFault → Type 0
+IsInstructionFault text f =
+    IsEnvelopeFault Movins text f
+    ⊎ ((m : Opened) × IsMessage Movins text m.mark m.segments
+    × IsFirstFault 200000 (λ (p : HandledPart). location_of p.part) (lift_under m.mark) (lift_parts m) f)
