@@ -1,5 +1,6 @@
 pub mod EntryLemmas
 pub mod MessageLemmas
 pub mod StepLemmas
+pub mod StepWalks
 pub mod Texts
 pub mod Walks

@@ -87,7 +87,7 @@ one_if : (b : Bool) (row : StepRow) → length (cond b (row ∷ []) []) ≡ cond
 one_if true row = refl
 one_if false row = refl
 
-times-more : (n : ℕ) (rows : List StepRow) (row : StepRow) → length (filter (is_lift n) (rows ++ row ∷ [])) ≡ length (filter (is_lift n) rows) + cond (is_lift n row) 1 0
+pub times-more : (n : ℕ) (rows : List StepRow) (row : StepRow) → length (filter (is_lift n) (rows ++ row ∷ [])) ≡ length (filter (is_lift n) rows) + cond (is_lift n row) 1 0
 times-more n rows row =
     ap length (filter-append (is_lift n) rows (row ∷ []))
     ∙ length-append (filter (is_lift n) rows) (filter (is_lift n) (row ∷ []))

@@ -5,6 +5,7 @@ pub mod Items
 pub mod Kinds
 pub mod Lifts
 pub mod Printed
+pub mod StepFaults
 pub mod Steps
 pub mod StepsSoFar
 pub mod Views

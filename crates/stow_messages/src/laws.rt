@@ -1,10 +1,15 @@
-ghost use Rattle.std.specs.Prelude.{◌≡◌, ◌⊎◌, ℕ, List, Ok, Err};
+ghost use Rattle.std.specs.Prelude.{◌≡◌, ◌⊎◌, ℕ, ◌-◌, List, length, Ok, Err};
+ghost use Rattle.csv_text.specs.Reading.{records_of};
 ghost use Rattle.stow_messages.specs.declared.faults.StowFault.{StowFault};
 ghost use Rattle.stow_messages.specs.declared.items.Item.{Item};
 ghost use Rattle.stow_messages.specs.declared.lifts.Lift.{Lift};
+ghost use Rattle.stow_messages.specs.declared.step_faults.StepsFault.{StepsFault};
+ghost use Rattle.stow_messages.specs.declared.step_rows.StepRow.{StepRow};
 ghost use Rattle.stow_messages.specs.Faults.{IsPlanFault, IsInstructionFault};
 ghost use Rattle.stow_messages.specs.Items.{AreItems, bay_plan};
 ghost use Rattle.stow_messages.specs.Lifts.{AreLifts, movement_instruction};
+ghost use Rattle.stow_messages.specs.StepFaults.{AreSteps, IsStepsFault};
+ghost use Rattle.stow_messages.specs.Steps.{steps_of};
 
 /// A text is a bay plan with its items, or it has a fault, and one only: that of its envelope, or of the first group that is
 /// refused (`specs/Items.antt`, `specs/Faults.antt`). What is so is what [`baplie`](crate::baplie) answers.
@@ -32,4 +37,21 @@ pub fn one_movement_instruction()
         ⊎ ((f : StowFault) × IsInstructionFault text f) }
     ensures not_both { (text : List ℕ) (lifts : List Lift) (f : StowFault) →
         AreLifts text lifts → IsInstructionFault text f → ⊥ }
+{}
+
+/// A text is a steps file with its rows, each lift of the instruction in one of them, or it has a fault, and one only: that of
+/// its heading, or of the first record that is refused, or else the least lift that is missing (`specs/StepFaults.antt`). No
+/// record is lost: there are as many rows as records under the heading. What is so is what [`steps`](crate::steps) answers.
+pub fn one_steps_file()
+    ensures sound { (lifts : ℕ) (text : List ℕ) (rows : List StepRow) →
+        AreSteps lifts text rows → steps_of lifts text ≡ Ok rows }
+    ensures fault { (lifts : ℕ) (text : List ℕ) (f : StepsFault) →
+        IsStepsFault lifts text f → steps_of lifts text ≡ Err f }
+    ensures either { (lifts : ℕ) (text : List ℕ) →
+        ((rows : List StepRow) × AreSteps lifts text rows)
+        ⊎ ((f : StepsFault) × IsStepsFault lifts text f) }
+    ensures not_both { (lifts : ℕ) (text : List ℕ) (rows : List StepRow) (f : StepsFault) →
+        AreSteps lifts text rows → IsStepsFault lifts text f → ⊥ }
+    ensures as_many { (lifts : ℕ) (text : List ℕ) (rows : List StepRow) →
+        steps_of lifts text ≡ Ok rows → length rows ≡ length (records_of text) - 1 }
 {}

@@ -3,6 +3,7 @@ ghost use Rattle.csv.specs.Records.{fields_of};
 ghost use Rattle.csv_text.specs.Reading.{Fields, Gave, HasLeft};
 ghost use Rattle.stow_messages.specs.declared.step_rows.StepRow.{StepRow};
 ghost use Rattle.stow_messages.specs.StepsSoFar.{AreFlags, IsWithin};
+ghost use Rattle.stow_messages.specs.StepFaults.{AreSteps};
 ghost use Rattle.stow_messages.specs.Steps.{EachLiftOnce, at_record, complete, joined, missing_from, rows_from, rows_under, steps_of, with_record};
 
 use crate::step_faults::{StepsCode, StepsFault, fault_at};
@@ -192,6 +193,7 @@ pub fn steps(alloc: Global, bytes: &[u8], lifts: u32) -> Result<Vec<StepRow>, St
     ensures ok { IfOk result (λ rows. steps_of lifts bytes.now ≡ Ok rows.items) }
     ensures refused { IfErr result (λ e. e.code ≢ StepsCode.NoMemory → steps_of lifts bytes.now ≡ Err e) }
     ensures memory { IfErr result (λ e. e.code ≡ StepsCode.NoMemory → e.at ≡ 0) }
+    ensures meaning { IfOk result (λ rows. AreSteps lifts bytes.now rows.items) }
     ensures few { IfOk result (λ rows. length rows.items ≤ 200000) }
 {
     let mut gathered = match no_rows(alloc, lifts) {

@@ -1,5 +1,5 @@
 use crate::tests::printed;
-use crate::{StepRow, StepsCode, StepsFault, steps};
+use crate::{StepRow, StepsCode, StepsFault, one_steps_file, steps};
 use arrayvec::ArrayVec;
 use std::alloc::{AllocError, Global};
 use std::process::Abort;
@@ -57,6 +57,7 @@ fn steps_file_of_every_kind(rt: HostRuntime) -> Result<(), Fail> {
         shown.as_str(),
         "tank DB 1 0;lift 2;restow 0010082 0030282 ;lift 1;restow 0010082 0030282 AB;tank A123456789ABCDEF 1000000000;"
     );
+    one_steps_file();
     Ok(())
 }
 
