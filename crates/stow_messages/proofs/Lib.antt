@@ -3,4 +3,3 @@ pub mod MessageLemmas
 pub mod StepLemmas
 pub mod StepWalks
 pub mod Texts
-pub mod Walks

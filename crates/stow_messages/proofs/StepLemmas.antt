@@ -1,8 +1,8 @@
 -- The rows of a steps file: their flags, and the lifts that are missing.
-use Rattle.std.proofs.Common.{◌≡◌, ◌≢◌, ◌∙◌, ℕ, zero, suc, ◌+◌, ◌<◌, ◌≤◌, ◌==◌, ◌-◌, ◌&&◌, nat_lt, nat_le, Bool, true, false, cond, ◌||◌, List, [], ◌∷◌, ◌++◌, length, length-append, get_or, set, replicate, Option, Some, None, Ok, Err, refl, ap, sym, arith, add-one}
+use Rattle.std.proofs.Common.{◌≡◌, ◌≢◌, ◌∙◌, ℕ, zero, suc, ◌+◌, ◌<◌, ◌≤◌, ◌==◌, ◌-◌, ◌&&◌, nat_lt, nat_le, Bool, true, false, cond, ◌||◌, List, [], ◌∷◌, ◌++◌, length, length-append, get_or, set, Option, Some, None, Ok, Err, refl, ap, sym, arith, add-one}
 use Rattle.std.specs.List.{filter}
 use Rattle.std.proofs.lemmas.Bool.Decides.{nat_tests}
-use Rattle.std.proofs.lemmas.List.{length-replicate, length-set, get_or-set_other}
+use Rattle.std.proofs.lemmas.List.{length-set, get_or-set_other}
 use Rattle.std.proofs.lemmas.List.Elements.{filter-append}
 use Rattle.std.proofs.lemmas.List.Folds.{list_any-append}
 use Rattle.std.proofs.lemmas.Grind.{get_or-set_at}
@@ -61,15 +61,6 @@ missing-tells rows n (suc count) e j low high =
 
 sub-add-one : (n : ℕ) → 1 ≤ n → n - 1 + 1 ≡ n
 sub-add-one n h = omega arith
-
--- the flags of no rows
-none-set : (n i : ℕ) → get_or (replicate n false) i false ≡ false
-none-set zero i = refl
-none-set (suc n) zero = refl
-none-set (suc n) (suc i) = none-set n i
-
-pub flags-none : (lifts : ℕ) → AreFlags lifts [] (replicate lifts false)
-flags-none lifts = record { size = length-replicate lifts false; each = none-set lifts; none = refl; once = λ n. refl }
 
 or_false : (b : Bool) → (b || false) ≡ b
 or_false true = refl
