@@ -1,13 +1,13 @@
 -- A walk over the parts of a message comes to the entries that they give, or to the first fault.
 use Rattle.std.proofs.Common.{◌≡◌, ◌∙◌, ◌⊎◌, inl, inr, ℕ, ◌<◌, ◌≤◌, List, [], ◌∷◌, ◌++◌, append_assoc, append-nil, length, length-append, Option, Some, None, Result, Ok, Err, Bool, true, false, refl, sym, ap, subst, arith}
-use Rattle.std.specs.Prelude.{is_ok, flat_map, nat_lt}
+use Rattle.std.specs.Prelude.{is_ok, flat_map, nat_lt, option_to_list}
 use Rattle.std.specs.List.{list_all}
 use Rattle.std.proofs.lemmas.Bool.{cases_lt}
 use Rattle.std.proofs.lemmas.Bool.Decides.{nat_tests}
 use Rattle.edifact_text.specs.Interchange.{Numbered}
 use Rattle.stow_messages.specs.declared.faults.StowFault.{StowFault}
 use Rattle.stow_messages.specs.declared.faults.StowCode.TheVariants.{TooMany}
-use Rattle.stow_messages.specs.Entries.{◌>>=◌, fault_at, with_entry, listed, given, AreEntries}
+use Rattle.stow_messages.specs.Entries.{◌>>=◌, fault_at, with_entry, entries_of, AreEntries}
 use Rattle.stow_messages.specs.Faults.{IsRefused, IsFirstFault}
 
 -- what follows from one step of a chain, whatever the rest makes of it
@@ -25,22 +25,22 @@ told r P Q good bad (inr h) a e = let is = bad h.0 h.1 in cc
 
 -- an entry, or none, and whether there is room for it
 module _ {X : Type 0} (most : ℕ) (entries : List X) (location : Numbered) where
-  fits : (o : Option X) → length (entries ++ listed o) ≤ most → with_entry most entries location o ≡ Ok (entries ++ listed o)
+  fits : (o : Option X) → length (entries ++ option_to_list o) ≤ most → with_entry most entries location o ≡ Ok (entries ++ option_to_list o)
   fits None few = ap Ok (sym (append-nil entries))
   fits (Some x) few =
       let test : nat_lt (length entries) most ≡ true = grind (arith, nat_tests, length-append entries (x ∷ [])) in
       rw test refl
 
-  too_many : (x : X) → length entries ≡ most → with_entry most entries location (Some x) ≡ fault_at TooMany location
+  too_many : (x : X) → length entries ≡ most → with_entry most entries location (Some x) ≡ Err (fault_at TooMany location)
   too_many x full =
       let test : nat_lt (length entries) most ≡ false = grind (arith, nat_tests) in
       rw test refl
 
-room : {X : Type 0} (most : ℕ) (entries : List X) (o : Option X) → length entries ≤ most → (length (entries ++ listed o) ≤ most) ⊎ ((x : X) × (o ≡ Some x) × (length entries ≡ most))
+room : {X : Type 0} (most : ℕ) (entries : List X) (o : Option X) → length entries ≤ most → (length (entries ++ option_to_list o) ≤ most) ⊎ ((x : X) × (o ≡ Some x) × (length entries ≡ most))
 room most entries None few = inl (rw append-nil few)
 room most entries (Some x) few = go (cases_lt (length entries) most)
   where
-    go : (length entries < most) ⊎ (most ≤ length entries) → (length (entries ++ listed (Some x)) ≤ most) ⊎ ((y : _) × (Some x ≡ Some y) × (length entries ≡ most))
+    go : (length entries < most) ⊎ (most ≤ length entries) → (length (entries ++ option_to_list (Some x)) ≤ most) ⊎ ((y : _) × (Some x ≡ Some y) × (length entries ≡ most))
     go (inl h) = inl (grind (arith, length-append entries (x ∷ [])))
     go (inr h) = inr (x, refl, omega (arith, few, h))
 
@@ -50,16 +50,16 @@ module _ {X P : Type 0} (most : ℕ) (location : P → Numbered) (gives : P → 
   walk entries (p ∷ more) = gives p >>= with_entry most entries (location p) >>= (λ longer. walk longer more)
 
   abbrev pub entries_in : List P → List X
-  entries_in parts = flat_map (λ p. given (gives p)) parts
+  entries_in parts = flat_map (λ p. entries_of (gives p)) parts
 
   abbrev pub AreSound : List P → Type 0
   AreSound parts = list_all (λ p. is_ok (gives p)) parts ≡ true
 
   -- one part, and those behind it
-  one_more : (start : List X) (p : P) (behind : List P) (o : Option X) → gives p ≡ Ok o → (start ++ listed o) ++ entries_in behind ≡ start ++ entries_in (p ∷ behind)
+  one_more : (start : List X) (p : P) (behind : List P) (o : Option X) → gives p ≡ Ok o → (start ++ option_to_list o) ++ entries_in behind ≡ start ++ entries_in (p ∷ behind)
   one_more start p behind o is =
-      append_assoc start (listed o) (entries_in behind)
-      ∙ ap (λ (l : List X). start ++ (l ++ entries_in behind)) (sym (ap given is))
+      append_assoc start (option_to_list o) (entries_in behind)
+      ∙ ap (λ (l : List X). start ++ (l ++ entries_in behind)) (sym (ap entries_of is))
 
   -- parts without a fault
   walks_on : (start : List X) (parts : List P) → AreSound parts → length (start ++ entries_in parts) ≤ most → walk start parts ≡ Ok (start ++ entries_in parts)
@@ -72,10 +72,10 @@ module _ {X P : Type 0} (most : ℕ) (location : P → Numbered) (gives : P → 
       go (Err f) is on = let no : ◌≡◌ {A = Bool} false true = rw is at sound in cc no
       go (Ok o) is on =
           let all = one_more start p behind o is in
-          let fewer : length ((start ++ listed o) ++ entries_in behind) ≤ most = subst (λ (l : List X). length l ≤ most) (sym all) few in
-          let here : length (start ++ listed o) ≤ most = omega (arith, fewer, length-append (start ++ listed o) (entries_in behind)) in
-          let rest = on (start ++ listed o) (rw is at sound) fewer in
-          rw (is, fits most start (location p) o here) (rest ∙ ap Ok (append_assoc start (listed o) (entries_in behind)))
+          let fewer : length ((start ++ option_to_list o) ++ entries_in behind) ≤ most = subst (λ (l : List X). length l ≤ most) (sym all) few in
+          let here : length (start ++ option_to_list o) ≤ most = omega (arith, fewer, length-append (start ++ option_to_list o) (entries_in behind)) in
+          let rest = on (start ++ option_to_list o) (rw is at sound) fewer in
+          rw (is, fits most start (location p) o here) (rest ∙ ap Ok (append_assoc start (option_to_list o) (entries_in behind)))
 
   walks_past : (start entries : List X) (before rest : List P) → walk start before ≡ Ok entries → walk start (before ++ rest) ≡ walk entries rest
   walks_past start entries [] rest h = let same : start ≡ entries = cc in rw same refl
@@ -112,7 +112,7 @@ module _ {X P : Type 0} (most : ℕ) (location : P → Numbered) (gives : P → 
     few_before : AreFew start before
     refused : IsRefused most (start ++ entries_in before) (location part) (gives part) fault
 
-  one_less : (start : List X) (p : P) (parts : List P) (o : Option X) → gives p ≡ Ok o → AreFew (start ++ listed o) parts → AreFew start (p ∷ parts)
+  one_less : (start : List X) (p : P) (parts : List P) (o : Option X) → gives p ≡ Ok o → AreFew (start ++ option_to_list o) parts → AreFew start (p ∷ parts)
   one_less start p parts o is h = record {
     sound = rw is h.sound;
     few = subst (λ (l : List X). length l ≤ most) (one_more start p parts o is) h.few;
@@ -132,7 +132,7 @@ module _ {X P : Type 0} (most : ℕ) (location : P → Numbered) (gives : P → 
     refused = subst (λ (l : List X). IsRefused most l (location p) (gives p) f) (sym (append-nil start)) refused;
   }
 
-  stopped_behind : (start : List X) (p : P) (parts : List P) (o : Option X) → gives p ≡ Ok o → AreStopped (start ++ listed o) parts → AreStopped start (p ∷ parts)
+  stopped_behind : (start : List X) (p : P) (parts : List P) (o : Option X) → gives p ≡ Ok o → AreStopped (start ++ option_to_list o) parts → AreStopped start (p ∷ parts)
   stopped_behind start p parts o is h = record {
     fault = h.fault;
     before = p ∷ h.before;
@@ -152,7 +152,7 @@ module _ {X P : Type 0} (most : ℕ) (location : P → Numbered) (gives : P → 
       go (Err f) is on = inr (stopped_here start p behind f few (inl is))
       go (Ok o) is on =
           elim (room most start o few) [
-            | inl fit ↦ elim (on (start ++ listed o) fit) [
+            | inl fit ↦ elim (on (start ++ option_to_list o) fit) [
               | inl h ↦ inl (one_less start p behind o is h)
               | inr h ↦ inr (stopped_behind start p behind o is h)
             ]

@@ -11,9 +11,9 @@ use Rattle.stow_messages.specs.declared.lifts.Handling.{Handling}
 use Rattle.stow_messages.specs.declared.faults.StowFault.{StowFault}
 use Rattle.stow_messages.specs.Entries.{◌>>=◌, with_entry}
 use Rattle.stow_messages.specs.Faults.{IsPlanFault, IsInstructionFault}
-use Rattle.stow_messages.specs.Groups.{Found, Part, Handled, Located, HandledPart, groups_in, handled_in, location_of, parts_of}
-use Rattle.stow_messages.specs.Items.{item_in, added, item_groups, items_from, items_behind, bay_plan, AreItems}
-use Rattle.stow_messages.specs.Lifts.{handling_at, handling_of, lift_under, lift_parts, ordered, lifts_from, lifts_behind, movement_instruction, AreLifts}
+use Rattle.stow_messages.specs.Groups.{Found, Part, Handled, Located, HandledPart, groups_in, handled_parts, location_of, parts_of}
+use Rattle.stow_messages.specs.Items.{item_in, with_item_of, item_groups, items_from, items_behind, bay_plan, AreItems}
+use Rattle.stow_messages.specs.Lifts.{handling_at, handling_of, lift_under, lift_parts, with_lift_of, lifts_from, lifts_behind, movement_instruction, AreLifts}
 use Rattle.stow_messages.proofs.EntryLemmas.{told, walk, entries_walk, fault_walks, either_is}
 
 bind_same : {A B : Type 0} (r : Result A StowFault) (f g : A → Result B StowFault) → ((a : A) → f a ≡ g a) → (r >>= f) ≡ (r >>= g)
@@ -28,7 +28,7 @@ items_walk : (mark : ℕ) (items : List Item) (parts : List Part) → items_from
 items_walk mark items [] = refl
 items_walk mark items (Handled s ∷ more) = items_walk mark items more
 items_walk mark items (Located f ∷ more) =
-    bind_same (added mark items f) (λ longer. items_from mark longer more) (λ longer. item_walk mark longer (groups_in more)) (λ longer. items_walk mark longer more)
+    bind_same (with_item_of mark items f) (λ longer. items_from mark longer more) (λ longer. item_walk mark longer (groups_in more)) (λ longer. items_walk mark longer more)
 
 plan_walks : (text : List ℕ) (m : Opened) → opened Baplie text ≡ Ok m → bay_plan text ≡ item_walk m.mark [] (item_groups m)
 plan_walks text m h = ap items_behind h ∙ items_walk m.mark [] (parts_of false m.segments)
@@ -65,21 +65,21 @@ lift_walk mark lifts parts = walk 200000 (λ (p : HandledPart). location_of p.pa
 
 -- a handling that is understood is the last one for the parts behind it
 module _ (mark : ℕ) (lifts : List Lift) (s : Numbered) (more : List Part) (handling : Option Handling) (last : Option Numbered) where
-  by_handling : (r : Result Handling StowFault) → handling_at s ≡ r → ((next : Handling) → handling_at s ≡ Ok next → lifts_from mark (Some next) lifts more ≡ lift_walk mark lifts (handled_in (Some s) more))
-      → lifts_from mark handling lifts (Handled s ∷ more) ≡ lift_walk mark lifts (handled_in last (Handled s ∷ more))
+  by_handling : (r : Result Handling StowFault) → handling_at s ≡ r → ((next : Handling) → handling_at s ≡ Ok next → lifts_from mark (Some next) lifts more ≡ lift_walk mark lifts (handled_parts (Some s) more))
+      → lifts_from mark handling lifts (Handled s ∷ more) ≡ lift_walk mark lifts (handled_parts last (Handled s ∷ more))
   by_handling (Ok next) is on = rw is (on next is)
   by_handling (Err e) is on = rw is refl
 
 lifts_walk : (mark : ℕ) (last : Option Numbered) (handling : Option Handling) (lifts : List Lift) (parts : List Part) → handling_of last ≡ Ok handling
-    → lifts_from mark handling lifts parts ≡ lift_walk mark lifts (handled_in last parts)
+    → lifts_from mark handling lifts parts ≡ lift_walk mark lifts (handled_parts last parts)
 lifts_walk mark last handling lifts [] known = refl
 lifts_walk mark last handling lifts (Handled s ∷ more) known =
     by_handling mark lifts s more handling last (handling_at s) refl (λ next is. lifts_walk mark (Some s) (Some next) lifts more (rw is refl))
 lifts_walk mark last handling lifts (Located f ∷ more) known =
-    let same : ordered mark handling lifts f ≡ (lift_under mark (record { handling = last; part = Located f }) >>= with_entry 200000 lifts f.location) = rw known refl in
-    bind_same (ordered mark handling lifts f) (λ longer. lifts_from mark handling longer more) (λ longer. lift_walk mark longer (handled_in last more))
+    let same : with_lift_of mark handling lifts f ≡ (lift_under mark (record { handling = last; part = Located f }) >>= with_entry 200000 lifts f.location) = rw known refl in
+    bind_same (with_lift_of mark handling lifts f) (λ longer. lifts_from mark handling longer more) (λ longer. lift_walk mark longer (handled_parts last more))
     (λ longer. lifts_walk mark last handling longer more known)
-    ∙ ap (λ (r : Result (List Lift) StowFault). r >>= λ longer. lift_walk mark longer (handled_in last more)) same
+    ∙ ap (λ (r : Result (List Lift) StowFault). r >>= λ longer. lift_walk mark longer (handled_parts last more)) same
 
 instruction_walks : (text : List ℕ) (m : Opened) → opened Movins text ≡ Ok m → movement_instruction text ≡ lift_walk m.mark [] (lift_parts m)
 instruction_walks text m h = ap lifts_behind h ∙ lifts_walk m.mark None None [] (parts_of true m.segments) refl

@@ -7,7 +7,7 @@ use Rattle.edifact_text.specs.declared.faults.Kind.{Kind}
 use Rattle.edifact_text.specs.declared.faults.Kind.TheVariants.{Baplie, Movins}
 use Rattle.stow_messages.specs.declared.faults.StowFault.{StowFault}
 use Rattle.stow_messages.specs.declared.faults.StowCode.TheVariants.{Envelope, TooMany}
-use Rattle.stow_messages.specs.Entries.{AreEntries}
+use Rattle.stow_messages.specs.Entries.{fault_at, AreEntries}
 use Rattle.stow_messages.specs.Groups.{Found, HandledPart, location_of}
 use Rattle.stow_messages.specs.Items.{item_in, item_groups}
 use Rattle.stow_messages.specs.Lifts.{lift_under, lift_parts}
@@ -16,7 +16,7 @@ use Rattle.stow_messages.specs.Lifts.{lift_under, lift_parts}
 abbrev pub IsRefused : {X : Type 0} → ℕ → List X → Numbered → Result (Option X) StowFault → StowFault → Type 0
 IsRefused {X} most entries location gives f =
     (gives ≡ Err f)
-    ⊎ ((entry : X) × (gives ≡ Ok (Some entry)) × (length entries ≡ most) × (f ≡ record { code = TooMany; segment = location.number }))
+    ⊎ ((entry : X) × (gives ≡ Ok (Some entry)) × (length entries ≡ most) × (f ≡ fault_at TooMany location))
 
 -- A part of the message is refused with this fault, and none before it is.
 pub record IsFirstFault {X P : Type 0} (most : ℕ) (location : P → Numbered) (gives : P → Result (Option X) StowFault) (parts : List P) (f : StowFault) : Type 0 where

@@ -43,23 +43,23 @@ parts_of handles [] = []
 parts_of handles (s ∷ more) = if begins handles s then part_at s (until_part handles more) ∷ parts_of handles more else parts_of handles more
 
 -- What is found where nothing stands behind the location yet, and with one more segment: the first of each kind counts.
-abbrev pub started : Numbered → Found
-started location = found_in location []
+abbrev pub found_at : Numbered → Found
+found_at location = found_in location []
 
 abbrev pub first_of : (Numbered → Bool) → Option Numbered → Numbered → Option Numbered
 first_of is_kind found s = option_or found (if is_kind s then Some s else None)
 
-abbrev pub noted : Found → Numbered → Found
-noted f s = record {
+abbrev pub with_segment : Found → Numbered → Found
+with_segment f s = record {
   location = f.location;
   equipment = first_of (has_kind Equipment) f.equipment s;
   verified = first_of (has_kind Verified) f.verified s;
   gross = first_of (has_kind Gross) f.gross s;
 }
 
-abbrev pub noted_part : Part → Numbered → Part
-noted_part (Handled handling) s = Handled handling
-noted_part (Located f) s = Located (noted f s)
+abbrev pub part_with_segment : Part → Numbered → Part
+part_with_segment (Handled handling) s = Handled handling
+part_with_segment (Located f) s = Located (with_segment f s)
 
 -- the groups among the parts, in their order
 abbrev pub groups_in : List Part → List Found
@@ -78,9 +78,9 @@ handling_behind last (Handled s) = Some s
 handling_behind last (Located f) = last
 
 -- the parts in their order, where this is the last handling before them
-abbrev pub handled_in : Option Numbered → List Part → List HandledPart
-handled_in last [] = []
-handled_in last (p ∷ more) = record { handling = last; part = p } ∷ handled_in (handling_behind last p) more
+abbrev pub handled_parts : Option Numbered → List Part → List HandledPart
+handled_parts last [] = []
+handled_parts last (p ∷ more) = record { handling = last; part = p } ∷ handled_parts (handling_behind last p) more
 
 -- the segment that begins a part
 abbrev pub location_of : Part → Numbered

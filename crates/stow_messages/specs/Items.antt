@@ -19,13 +19,13 @@ item_in mark f =
     item_of mark f cell id))
 
 -- with the item of one more group: a plan has at most 30,000
-abbrev pub added : ℕ → List Item → Found → Result (List Item) StowFault
-added mark items f = item_in mark f >>= with_entry 30000 items f.location
+abbrev pub with_item_of : ℕ → List Item → Found → Result (List Item) StowFault
+with_item_of mark items f = item_in mark f >>= with_entry 30000 items f.location
 
 abbrev pub items_from : ℕ → List Item → List Part → Result (List Item) StowFault
 items_from mark items [] = Ok items
 items_from mark items (Handled s ∷ more) = items_from mark items more
-items_from mark items (Located f ∷ more) = added mark items f >>= (λ longer. items_from mark longer more)
+items_from mark items (Located f ∷ more) = with_item_of mark items f >>= (λ longer. items_from mark longer more)
 
 -- the items of a message, in which handlings are ignored
 abbrev pub items_of : Opened → Result (List Item) StowFault

@@ -17,7 +17,7 @@ use Rattle.stow_messages.specs.declared.lifts.Handling.TheVariants.{Loading, Dis
 use Rattle.stow_messages.specs.declared.faults.StowFault.{StowFault}
 use Rattle.stow_messages.specs.declared.faults.StowCode.TheVariants.{Envelope, LiftWithoutHandling, UnknownHandling}
 use Rattle.stow_messages.specs.Entries.{◌>>=◌, fault_at, or_fault_at, cell_at, id_of, item_of, with_entry, AreEntries}
-use Rattle.stow_messages.specs.Groups.{Found, Part, Handled, Located, parts_of, HandledPart, handled_in}
+use Rattle.stow_messages.specs.Groups.{Found, Part, Handled, Located, parts_of, HandledPart, handled_parts}
 use Rattle.stow_messages.specs.Kinds.{has}
 
 -- what a handling says: LOA to load, DIS to discharge, and no other code
@@ -25,7 +25,7 @@ abbrev pub handling_at : Numbered → Result Handling StowFault
 handling_at s =
     if has s 1 0 (codes "LOA") then Ok Loading
     else if has s 1 0 (codes "DIS") then Ok Discharging
-    else fault_at UnknownHandling s
+    else Err (fault_at UnknownHandling s)
 
 -- A group under DIS is a discharge where it names a container or has a mass, which isn't read.
 abbrev pub names_a_container : Found → Bool
@@ -44,13 +44,13 @@ lift_in mark handling f =
     lift_of mark f cell handling id)))
 
 -- with the lift of one more group: an instruction has at most 200,000
-abbrev pub ordered : ℕ → Option Handling → List Lift → Found → Result (List Lift) StowFault
-ordered mark handling lifts f = lift_in mark handling f >>= with_entry 200000 lifts f.location
+abbrev pub with_lift_of : ℕ → Option Handling → List Lift → Found → Result (List Lift) StowFault
+with_lift_of mark handling lifts f = lift_in mark handling f >>= with_entry 200000 lifts f.location
 
 abbrev pub lifts_from : ℕ → Option Handling → List Lift → List Part → Result (List Lift) StowFault
 lifts_from mark handling lifts [] = Ok lifts
 lifts_from mark handling lifts (Handled s ∷ more) = handling_at s >>= (λ next. lifts_from mark (Some next) lifts more)
-lifts_from mark handling lifts (Located f ∷ more) = ordered mark handling lifts f >>= (λ longer. lifts_from mark handling longer more)
+lifts_from mark handling lifts (Located f ∷ more) = with_lift_of mark handling lifts f >>= (λ longer. lifts_from mark handling longer more)
 
 -- the lifts of a message, before which there was no handling
 abbrev pub lifts_of : Opened → Result (List Lift) StowFault
@@ -79,7 +79,7 @@ lift_under mark p = lift_behind mark p.handling p.part
 
 -- the parts of a message, each with the last handling before it
 abbrev pub lift_parts : Opened → List HandledPart
-lift_parts m = handled_in None (parts_of true m.segments)
+lift_parts m = handled_parts None (parts_of true m.segments)
 
 -- What this comes to: the text is a message, no part of it has a fault under the last handling before it, and the lifts are those
 -- that the parts give, in their order, at most 200,000.

@@ -1,7 +1,7 @@
 -- The steps file: in which order the lifts of a movement instruction are done, with the changes of tanks and the restows among
 -- them. It is a table of comma-separated values: a heading of four fields, whose text is ignored, then a record for each
 -- step, `lift,N,,`, `tank,NAME,KG,` or `restow,FROM,TO,ID`. Each lift stands once. The first fault is the file's.
-use Rattle.std.specs.Prelude.{◌≡◌, ℕ, zero, suc, ◌+◌, ℤ, pos, negsuc, List, [], ◌∷◌, ◌++◌, length, Option, Some, None, option_map, Result, Ok, Err, Bool, false, nat_le, nat_lt, ◌==◌, ◌&&◌, if◌then◌else◌, codes}
+use Rattle.std.specs.Prelude.{◌≡◌, ◌≢◌, ℕ, zero, suc, ◌+◌, ℤ, pos, negsuc, List, [], ◌∷◌, ◌++◌, length, Option, Some, None, option_map, Result, Ok, Err, Bool, false, nat_le, nat_lt, ◌==◌, ◌&&◌, if◌then◌else◌, codes}
 use Rattle.std.specs.List.{filter, list_any}
 use Rattle.std.specs.Str.{bytes_eq}
 use Rattle.arrayvec.specs.ArrayVec.{ArrayVec}
@@ -84,11 +84,11 @@ repeats rows (Tank name kg) = false
 repeats rows (Restow from to id) = false
 
 -- the rows with one more, and with that of one more record: a file has at most 200,000
-abbrev pub joined : List StepRow → StepRow → Result (List StepRow) StepsCode
-joined rows row = if repeats rows row then Err LiftTwice else Ok (rows ++ row ∷ [])
+abbrev pub with_row : List StepRow → StepRow → Result (List StepRow) StepsCode
+with_row rows row = if repeats rows row then Err LiftTwice else Ok (rows ++ row ∷ [])
 
 abbrev pub with_record : ℕ → List StepRow → Fields → Result (List StepRow) StepsCode
-with_record lifts rows fields = if nat_lt (length rows) 200000 then row_of lifts fields >>= joined rows else Err TooMany
+with_record lifts rows fields = if nat_lt (length rows) 200000 then row_of lifts fields >>= with_row rows else Err TooMany
 
 -- A fault by its place, a record's number or a lift's. Out of memory has no place.
 abbrev pub fault_at : StepsCode → ℕ → StepsFault
@@ -123,6 +123,10 @@ complete lifts rows = unless_missing (missing_from rows 1 lifts) rows
 -- the rows of a steps file
 abbrev pub steps_of : ℕ → List ℕ → Result (List StepRow) StepsFault
 steps_of lifts text = rows_under lifts (records_of text) >>= complete lifts
+
+-- The fault that is answered, where memory sufficed, is the one defined.
+abbrev pub IsFaultOf : {A : Type 0} → Result A StepsFault → StepsFault → Type 0
+IsFaultOf defined e = e.code ≢ NoMemory → defined ≡ Err e
 
 -- What this comes to: of the rows, one is lift n for each n from 1 to the number of lifts, and none for any other n.
 abbrev pub EachLiftOnce : ℕ → List StepRow → Type 0

@@ -1,6 +1,12 @@
--- What a reader of a steps file keeps of the rows that it has so far.
-use Rattle.std.specs.Prelude.{◌≡◌, ℕ, ◌+◌, ◌≤◌, List, length, Bool, false, if◌then◌else◌, slice_index_or, ⊤}
+-- Bookkeeping: what the code that reads a steps file keeps while it reads, as its own functions hand it on. No definition of the
+-- format cites this.
+use Rattle.std.specs.Prelude.{◌≡◌, ◌≢◌, ℕ, ◌+◌, ◌≤◌, List, length, Result, Err, Bool, false, if◌then◌else◌, slice_index_or, ⊤}
+use Rattle.std.specs.Borrow.{Bor}
 use Rattle.std.specs.List.{filter}
+use Rattle.csv.specs.declared.reader.Reader.{Reader}
+use Rattle.csv_text.specs.Reading.{Fields, HasLeft}
+use Rattle.stow_messages.specs.declared.step_faults.StepsCode.{StepsCode}
+use Rattle.stow_messages.specs.declared.step_faults.StepsCode.TheVariants.{NoMemory}
 use Rattle.stow_messages.specs.declared.step_rows.StepRow.{StepRow}
 use Rattle.stow_messages.specs.declared.step_rows.StepRow.TheVariants.{Lift, Tank, Restow}
 use Rattle.stow_messages.specs.Steps.{is_lift, stands}
@@ -17,3 +23,11 @@ abbrev pub IsWithin : ℕ → StepRow → Type 0
 IsWithin lifts (Lift n) = (1 ≤ n) × (n ≤ lifts)
 IsWithin lifts (Tank name kg) = ⊤
 IsWithin lifts (Restow from to id) = ⊤
+
+-- what holds of the records that the reader has yet to give
+abbrev pub OfRecordsLeft : Reader (Bor (List ℕ)) → (List Fields → Type 0) → Type 0
+OfRecordsLeft reader P = (records : List Fields) → HasLeft reader records → P records
+
+-- The cause that is answered, where memory sufficed, is the one defined.
+abbrev pub IsCodeOf : {A : Type 0} → Result A StepsCode → StepsCode → Type 0
+IsCodeOf defined e = e ≢ NoMemory → defined ≡ Err e

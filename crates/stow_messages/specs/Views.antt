@@ -37,10 +37,17 @@ abbrev pub more_part : Part → List Numbered → Part
 more_part (Handled s) behind = Handled s
 more_part (Located f) behind = Located (more_found f behind)
 
--- the parts that are left: the one that was begun, and those of the segments that are left
+-- the parts of one that was begun, and of the segments behind it
 abbrev pub parts_from : Bool → Option Part → List Numbered → List Part
 parts_from handles None segments = parts_of handles segments
 parts_from handles (Some begun) segments = more_part begun (until_part handles segments) ∷ parts_of handles segments
 
+abbrev pub begun_view : Parts → Option Part
+begun_view parts = option_map part_view parts.begun
+
+-- the parts that come where these segments are left, and those that are left
+abbrev pub parts_before : Parts → List Numbered → List Part
+parts_before parts segments = parts_from parts.handles (begun_view parts) segments
+
 abbrev pub parts_left : Parts → List Part
-parts_left parts = parts_from parts.handles (option_map part_view parts.begun) (left_of parts.left)
+parts_left parts = parts_before parts (left_of parts.left)

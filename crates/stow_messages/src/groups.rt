@@ -1,8 +1,8 @@
 ghost use Rattle.std.specs.Prelude.{◌≡◌, ◌≢◌, Ok, Err, IfErr, OnOk};
 ghost use Rattle.std.specs.Str.{bytes_eq};
 ghost use Rattle.edifact_text.specs.Views.{meant, numbered_view};
-ghost use Rattle.stow_messages.specs.Entries.{cell_at, id_at, id_of, kg_at, item_of, with_entry};
-ghost use Rattle.stow_messages.specs.Groups.{noted, started};
+ghost use Rattle.stow_messages.specs.Entries.{IsFaultOf, cell_at, fault_at, id_at, id_of, kg_at, item_of, with_entry};
+ghost use Rattle.stow_messages.specs.Groups.{with_segment, found_at};
 ghost use Rattle.stow_messages.specs.Kinds.{has, kind_of, measurement_of};
 ghost use Rattle.stow_messages.specs.Lifts.{names_a_container};
 ghost use Rattle.stow_messages.specs.Views.{found_view};
@@ -96,7 +96,7 @@ fn measurement_of(segment: &Segment<'_>) -> SegmentKind
 
 /// A fault found at a segment.
 pub fn fault_at(code: StowCode, segment: &Segment<'_>) -> StowFault
-    ensures { result ≡ record { code = code; segment = (numbered_view segment.now).number } }
+    ensures { result ≡ fault_at code (numbered_view segment.now) }
 {
     StowFault {
         code,
@@ -149,9 +149,11 @@ pub fn put<X: Drop>(
     location: &Segment<'_>,
     entry: Option<X>,
 ) -> Result<(), StowFault>
-    ensures ok { OnOk result (with_entry most entries.old.items (numbered_view location.now) entry ≡ Ok entries.new.items) }
-    ensures refused { IfErr result (λ e. e.code ≢ StowCode.NoMemory →
-        with_entry most entries.old.items (numbered_view location.now) entry ≡ Err e) }
+    ensures ok { OnOk result (
+        with_entry most entries.old.items (numbered_view location.now) entry
+        ≡ Ok entries.new.items) }
+    ensures refused { IfErr result (IsFaultOf (
+        with_entry most entries.old.items (numbered_view location.now) entry)) }
     ensures memory { IfErr result (λ e. e.code ≡ StowCode.NoMemory → e.segment ≡ 0) }
 {
     let entry = match entry {
@@ -170,7 +172,7 @@ pub fn put<X: Drop>(
 impl<'a> Group<'a> {
     /// The group that a location begins.
     pub fn at(location: &Segment<'a>) -> Group<'a>
-        ensures { found_view result ≡ started (numbered_view location.now) }
+        ensures { found_view result ≡ found_at (numbered_view location.now) }
     {
         Group {
             location: *location,
@@ -183,7 +185,8 @@ impl<'a> Group<'a> {
     /// Takes one more segment of this kind into the group: the first of each kind counts.
     pub fn note(&mut self, kind: SegmentKind, segment: &Segment<'a>)
         requires { kind ≡ kind_of (numbered_view segment.now) }
-        ensures { found_view self.new ≡ noted (found_view self.old) (numbered_view segment.now) }
+        ensures { found_view self.new
+            ≡ with_segment (found_view self.old) (numbered_view segment.now) }
     {
         match kind {
             SegmentKind::Equipment if self.equipment.is_none() => self.equipment = Some(*segment),

@@ -1,6 +1,7 @@
 ghost use Rattle.std.specs.Prelude.{◌≡◌, ◌≢◌, ◌≤◌, [], None, length, Ok, Err, IfOk, IfErr, OnOk};
 ghost use Rattle.edifact_text.specs.Views.{numbered_view};
-ghost use Rattle.stow_messages.specs.Lifts.{AreLifts, handling_at, lift_of, lift_in, lifts_from, movement_instruction, ordered};
+ghost use Rattle.stow_messages.specs.Entries.{IsFaultOf};
+ghost use Rattle.stow_messages.specs.Lifts.{AreLifts, handling_at, lift_of, lift_in, lifts_from, movement_instruction, with_lift_of};
 ghost use Rattle.stow_messages.specs.Views.{found_view, parts_left};
 
 use crate::faults::{StowCode, StowFault};
@@ -77,8 +78,10 @@ fn add(
     handling: Option<Handling>,
     mark: u8,
 ) -> Result<(), StowFault>
-    ensures ok { OnOk result (ordered mark handling lifts.old.items (found_view group.now) ≡ Ok lifts.new.items) }
-    ensures refused { IfErr result (λ e. e.code ≢ StowCode.NoMemory → ordered mark handling lifts.old.items (found_view group.now) ≡ Err e) }
+    ensures ok { OnOk result (
+        with_lift_of mark handling lifts.old.items (found_view group.now) ≡ Ok lifts.new.items) }
+    ensures refused { IfErr result (IsFaultOf (
+        with_lift_of mark handling lifts.old.items (found_view group.now))) }
     ensures memory { IfErr result (λ e. e.code ≡ StowCode.NoMemory → e.segment ≡ 0) }
 {
     let lift = lift_in(group, handling, mark)?;
@@ -87,8 +90,9 @@ fn add(
 
 /// The lifts of a message's parts.
 fn lifts_of(alloc: Global, parts: Parts<'_>, mark: u8) -> Result<Vec<Lift>, StowFault>
-    ensures ok { IfOk result (λ lifts. lifts_from mark None [] (parts_left parts.entry) ≡ Ok lifts.items) }
-    ensures refused { IfErr result (λ e. e.code ≢ StowCode.NoMemory → lifts_from mark None [] (parts_left parts.entry) ≡ Err e) }
+    ensures ok { IfOk result (λ lifts.
+        lifts_from mark None [] (parts_left parts.entry) ≡ Ok lifts.items) }
+    ensures refused { IfErr result (IsFaultOf (lifts_from mark None [] (parts_left parts.entry))) }
     ensures memory { IfErr result (λ e. e.code ≡ StowCode.NoMemory → e.segment ≡ 0) }
 {
     let mut lifts = Vec::new(alloc);
@@ -108,7 +112,7 @@ fn lifts_of(alloc: Global, parts: Parts<'_>, mark: u8) -> Result<Vec<Lift>, Stow
 /// segment; out of memory has segment 0.
 pub fn movins(alloc: Global, bytes: &[u8]) -> Result<Vec<Lift>, StowFault>
     ensures ok { IfOk result (λ lifts. movement_instruction bytes.now ≡ Ok lifts.items) }
-    ensures refused { IfErr result (λ e. e.code ≢ StowCode.NoMemory → movement_instruction bytes.now ≡ Err e) }
+    ensures refused { IfErr result (IsFaultOf (movement_instruction bytes.now)) }
     ensures memory { IfErr result (λ e. e.code ≡ StowCode.NoMemory → e.segment ≡ 0) }
     ensures meaning { IfOk result (λ lifts. AreLifts bytes.now lifts.items) }
     ensures few { IfOk result (λ lifts. length lifts.items ≤ 200000) }

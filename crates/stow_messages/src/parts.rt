@@ -2,9 +2,9 @@ ghost use Rattle.std.specs.Prelude.{◌≡◌, [], ◌∷◌, List, Some, None, 
 ghost use Rattle.std.specs.Iterator.{YieldsFirstBy, item_count};
 ghost use Rattle.edifact_text.specs.Interchange.{Numbered};
 ghost use Rattle.edifact_text.specs.Views.{numbered_view, left_of};
-ghost use Rattle.stow_messages.specs.Groups.{begins, noted_part, part_at, parts_of};
+ghost use Rattle.stow_messages.specs.Groups.{begins, part_with_segment, part_at, parts_of};
 ghost use Rattle.stow_messages.specs.Kinds.{kind_of};
-ghost use Rattle.stow_messages.specs.Views.{part_view, parts_from, parts_left};
+ghost use Rattle.stow_messages.specs.Views.{begun_view, part_view, parts_before, parts_left};
 
 use crate::groups::{Group, SegmentKind, kind_of};
 use edifact_text::{Segment, Segments};
@@ -43,7 +43,8 @@ impl<'a> Parts<'a> {
     fn begun_by(&self, kind: SegmentKind, segment: &Segment<'a>) -> Option<Part<'a>>
         requires { kind ≡ kind_of (numbered_view segment.now) }
         ensures { MatchOption result (begins self.now.handles (numbered_view segment.now) ≡ false)
-            (λ part. (begins self.now.handles (numbered_view segment.now) ≡ true) × (part_view part ≡ part_at (numbered_view segment.now) [])) }
+            (λ part. (begins self.now.handles (numbered_view segment.now) ≡ true)
+            × (part_view part ≡ part_at (numbered_view segment.now) [])) }
     {
         match kind {
             SegmentKind::Location => Some(Part::Located(Group::at(segment))),
@@ -56,10 +57,9 @@ impl<'a> Parts<'a> {
     fn advance(&mut self, segment: &Segment<'a>) -> Option<Part<'a>>
         ensures left { (self.new.left ≡ self.old.left) × (self.new.handles ≡ self.old.handles) }
         ensures parts { (rest : List Numbered) → MatchOption result
-            (parts_from self.old.handles (option_map part_view self.old.begun) (numbered_view segment.now ∷ rest)
-            ≡ parts_from self.old.handles (option_map part_view self.new.begun) rest)
-            (λ part. parts_from self.old.handles (option_map part_view self.old.begun) (numbered_view segment.now ∷ rest)
-            ≡ part_view part ∷ parts_from self.old.handles (option_map part_view self.new.begun) rest) }
+            (parts_before self.old (numbered_view segment.now ∷ rest) ≡ parts_before self.new rest)
+            (λ part. parts_before self.old (numbered_view segment.now ∷ rest)
+            ≡ part_view part ∷ parts_before self.new rest) }
     {
         let kind = kind_of(segment);
         match self.begun_by(kind, segment) {
@@ -79,7 +79,8 @@ impl<'a> Parts<'a> {
     fn note(&mut self, kind: SegmentKind, segment: &Segment<'a>)
         requires { kind ≡ kind_of (numbered_view segment.now) }
         ensures left { (self.new.left ≡ self.old.left) × (self.new.handles ≡ self.old.handles) }
-        ensures begun { option_map part_view self.new.begun ≡ option_map (λ p. noted_part p (numbered_view segment.now)) (option_map part_view self.old.begun) }
+        ensures begun { begun_view self.new ≡ option_map
+            (λ p. part_with_segment p (numbered_view segment.now)) (begun_view self.old) }
     {
         if let Some(Part::Located(group)) = &mut self.begun {
             group.note(kind, segment);

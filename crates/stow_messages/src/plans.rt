@@ -1,5 +1,6 @@
 ghost use Rattle.std.specs.Prelude.{◌≡◌, ◌≢◌, ◌≤◌, [], length, Ok, Err, IfOk, IfErr, OnOk};
-ghost use Rattle.stow_messages.specs.Items.{AreItems, added, bay_plan, item_in, items_from};
+ghost use Rattle.stow_messages.specs.Entries.{IsFaultOf};
+ghost use Rattle.stow_messages.specs.Items.{AreItems, with_item_of, bay_plan, item_in, items_from};
 ghost use Rattle.stow_messages.specs.Views.{found_view, parts_left};
 
 use crate::faults::{StowCode, StowFault};
@@ -23,8 +24,10 @@ fn item_in(group: &Group<'_>, mark: u8) -> Result<Option<Item>, StowFault>
 
 /// Adds the item of a group, if it is one.
 fn add(items: &mut Vec<Item>, group: &Group<'_>, mark: u8) -> Result<(), StowFault>
-    ensures ok { OnOk result (added mark items.old.items (found_view group.now) ≡ Ok items.new.items) }
-    ensures refused { IfErr result (λ e. e.code ≢ StowCode.NoMemory → added mark items.old.items (found_view group.now) ≡ Err e) }
+    ensures ok { OnOk result (
+        with_item_of mark items.old.items (found_view group.now) ≡ Ok items.new.items) }
+    ensures refused { IfErr result (IsFaultOf (
+        with_item_of mark items.old.items (found_view group.now))) }
     ensures memory { IfErr result (λ e. e.code ≡ StowCode.NoMemory → e.segment ≡ 0) }
 {
     let item = item_in(group, mark)?;
@@ -33,8 +36,9 @@ fn add(items: &mut Vec<Item>, group: &Group<'_>, mark: u8) -> Result<(), StowFau
 
 /// The items of a message's parts.
 fn items_of(alloc: Global, parts: Parts<'_>, mark: u8) -> Result<Vec<Item>, StowFault>
-    ensures ok { IfOk result (λ items. items_from mark [] (parts_left parts.entry) ≡ Ok items.items) }
-    ensures refused { IfErr result (λ e. e.code ≢ StowCode.NoMemory → items_from mark [] (parts_left parts.entry) ≡ Err e) }
+    ensures ok { IfOk result (λ items.
+        items_from mark [] (parts_left parts.entry) ≡ Ok items.items) }
+    ensures refused { IfErr result (IsFaultOf (items_from mark [] (parts_left parts.entry))) }
     ensures memory { IfErr result (λ e. e.code ≡ StowCode.NoMemory → e.segment ≡ 0) }
 {
     let mut items = Vec::new(alloc);
@@ -53,7 +57,7 @@ fn items_of(alloc: Global, parts: Parts<'_>, mark: u8) -> Result<Vec<Item>, Stow
 /// out of memory has segment 0.
 pub fn baplie(alloc: Global, bytes: &[u8]) -> Result<Vec<Item>, StowFault>
     ensures ok { IfOk result (λ items. bay_plan bytes.now ≡ Ok items.items) }
-    ensures refused { IfErr result (λ e. e.code ≢ StowCode.NoMemory → bay_plan bytes.now ≡ Err e) }
+    ensures refused { IfErr result (IsFaultOf (bay_plan bytes.now)) }
     ensures memory { IfErr result (λ e. e.code ≡ StowCode.NoMemory → e.segment ≡ 0) }
     ensures meaning { IfOk result (λ items. AreItems bytes.now items.items) }
     ensures few { IfOk result (λ items. length items.items ≤ 30000) }

@@ -2,9 +2,9 @@ ghost use Rattle.std.specs.Prelude.{◌≡◌, ◌≢◌, ℕ, ◌≤◌, ◌<�
 ghost use Rattle.csv.specs.Records.{fields_of};
 ghost use Rattle.csv_text.specs.Reading.{Fields, Gave, HasLeft};
 ghost use Rattle.stow_messages.specs.declared.step_rows.StepRow.{StepRow};
-ghost use Rattle.stow_messages.specs.StepsSoFar.{AreFlags, IsWithin};
+ghost use Rattle.stow_messages.specs.StepsSoFar.{AreFlags, IsCodeOf, IsWithin, OfRecordsLeft};
 ghost use Rattle.stow_messages.specs.StepFaults.{AreSteps};
-ghost use Rattle.stow_messages.specs.Steps.{EachLiftOnce, at_record, complete, joined, missing_from, rows_from, rows_under, steps_of, with_record};
+ghost use Rattle.stow_messages.specs.Steps.{EachLiftOnce, IsFaultOf, at_record, complete, with_row, missing_from, rows_from, rows_under, steps_of, with_record};
 
 use crate::step_faults::{StepsCode, StepsFault, fault_at};
 use crate::step_rows::{FIELDS, StepRow, row_of};
@@ -40,10 +40,11 @@ fn no_rows(alloc: Global, lifts: u32) -> Result<Gathered, StepsCode>
 fn join(lifts: u32, gathered: &mut Gathered, row: StepRow) -> Result<(), StepsCode>
     requires flags { AreFlags lifts gathered.old.rows.items gathered.old.seen.items }
     requires within { IsWithin lifts row }
-    ensures ok { OnOk result (joined gathered.old.rows.items row ≡ Ok gathered.new.rows.items) }
-    ensures refused { IfErr result (λ e. e ≢ StepsCode.NoMemory → joined gathered.old.rows.items row ≡ Err e) }
+    ensures ok { OnOk result (with_row gathered.old.rows.items row ≡ Ok gathered.new.rows.items) }
+    ensures refused { IfErr result (IsCodeOf (with_row gathered.old.rows.items row)) }
     ensures flags { OnOk result (AreFlags lifts gathered.new.rows.items gathered.new.seen.items) }
-    ensures len { OnOk result (length gathered.new.rows.items ≡ length gathered.old.rows.items + 1) }
+    ensures len { OnOk result (
+        length gathered.new.rows.items ≡ length gathered.old.rows.items + 1) }
 {
     if let StepRow::Lift(lift) = &row {
         let place = *lift as usize - 1;
@@ -61,10 +62,14 @@ fn join(lifts: u32, gathered: &mut Gathered, row: StepRow) -> Result<(), StepsCo
 /// Adds the row of a record.
 fn add(lifts: u32, gathered: &mut Gathered, fields: &ByteRecord) -> Result<(), StepsCode>
     requires { AreFlags lifts gathered.old.rows.items gathered.old.seen.items }
-    ensures ok { OnOk result (with_record lifts gathered.old.rows.items (fields_of fields.now) ≡ Ok gathered.new.rows.items) }
-    ensures refused { IfErr result (λ e. e ≢ StepsCode.NoMemory → with_record lifts gathered.old.rows.items (fields_of fields.now) ≡ Err e) }
+    ensures ok { OnOk result (
+        with_record lifts gathered.old.rows.items (fields_of fields.now)
+        ≡ Ok gathered.new.rows.items) }
+    ensures refused { IfErr result (IsCodeOf (
+        with_record lifts gathered.old.rows.items (fields_of fields.now))) }
     ensures flags { OnOk result (AreFlags lifts gathered.new.rows.items gathered.new.seen.items) }
-    ensures len { OnOk result (length gathered.new.rows.items ≡ length gathered.old.rows.items + 1) }
+    ensures len { OnOk result (
+        length gathered.new.rows.items ≡ length gathered.old.rows.items + 1) }
     ensures room { OnOk result (length gathered.old.rows.items < 200000) }
 {
     if gathered.rows.len() >= MAX_ROWS {
@@ -82,12 +87,15 @@ fn add_record(
     fields: &ByteRecord,
 ) -> Result<(), StepsFault>
     requires { AreFlags lifts gathered.old.rows.items gathered.old.seen.items }
-    ensures ok { OnOk result (at_record line (with_record lifts gathered.old.rows.items (fields_of fields.now)) ≡ Ok gathered.new.rows.items) }
-    ensures refused { IfErr result (λ e. e.code ≢ StepsCode.NoMemory →
-        at_record line (with_record lifts gathered.old.rows.items (fields_of fields.now)) ≡ Err e) }
+    ensures ok { OnOk result (
+        at_record line (with_record lifts gathered.old.rows.items (fields_of fields.now))
+        ≡ Ok gathered.new.rows.items) }
+    ensures refused { IfErr result (IsFaultOf (
+        at_record line (with_record lifts gathered.old.rows.items (fields_of fields.now)))) }
     ensures memory { IfErr result (λ e. e.code ≡ StepsCode.NoMemory → e.at ≡ 0) }
     ensures flags { OnOk result (AreFlags lifts gathered.new.rows.items gathered.new.seen.items) }
-    ensures len { OnOk result (length gathered.new.rows.items ≡ length gathered.old.rows.items + 1) }
+    ensures len { OnOk result (
+        length gathered.new.rows.items ≡ length gathered.old.rows.items + 1) }
     ensures room { OnOk result (length gathered.old.rows.items < 200000) }
 {
     match add(lifts, gathered, fields) {
@@ -98,7 +106,8 @@ fn add_record(
 
 /// Reads the next record.
 fn read(reader: &mut Reader<&[u8]>, fields: &mut ByteRecord) -> Result<bool, StepsFault>
-    ensures ok { IfOk result (λ found. (rest : List Fields) → HasLeft reader.old rest → Gave found (fields_of fields.new) rest reader.new) }
+    ensures ok { IfOk result (λ found. OfRecordsLeft reader.old (λ records.
+        Gave found (fields_of fields.new) records reader.new)) }
     ensures memory { IfErr result (λ e. e ≡ record { code = StepsCode.NoMemory; at = 0 }) }
 {
     match next_record(reader, fields) {
@@ -116,10 +125,10 @@ fn add_records(
 ) -> Result<(), StepsFault>
     requires flags { AreFlags lifts gathered.old.rows.items gathered.old.seen.items }
     requires few { length gathered.old.rows.items ≤ 200000 }
-    ensures ok { OnOk result ((rest : List Fields) → HasLeft reader.old rest →
-        rows_from lifts gathered.old.rows.items rest ≡ Ok gathered.new.rows.items) }
-    ensures refused { IfErr result (λ e. e.code ≢ StepsCode.NoMemory → (rest : List Fields) → HasLeft reader.old rest →
-        rows_from lifts gathered.old.rows.items rest ≡ Err e) }
+    ensures ok { OnOk result (OfRecordsLeft reader.old (λ records.
+        rows_from lifts gathered.old.rows.items records ≡ Ok gathered.new.rows.items)) }
+    ensures refused { IfErr result (λ e. OfRecordsLeft reader.old (λ records.
+        IsFaultOf (rows_from lifts gathered.old.rows.items records) e)) }
     ensures memory { IfErr result (λ e. e.code ≡ StepsCode.NoMemory → e.at ≡ 0) }
     ensures flags { OnOk result (AreFlags lifts gathered.new.rows.items gathered.new.seen.items) }
     ensures few { OnOk result (length gathered.new.rows.items ≤ 200000) }
@@ -140,9 +149,10 @@ fn add_all(
 ) -> Result<(), StepsFault>
     requires none { gathered.old.rows.items ≡ [] }
     requires flags { AreFlags lifts gathered.old.rows.items gathered.old.seen.items }
-    ensures ok { OnOk result ((rest : List Fields) → HasLeft reader.old rest → rows_under lifts rest ≡ Ok gathered.new.rows.items) }
-    ensures refused { IfErr result (λ e. e.code ≢ StepsCode.NoMemory → (rest : List Fields) → HasLeft reader.old rest →
-        rows_under lifts rest ≡ Err e) }
+    ensures ok { OnOk result (OfRecordsLeft reader.old (λ records.
+        rows_under lifts records ≡ Ok gathered.new.rows.items)) }
+    ensures refused { IfErr result (λ e. OfRecordsLeft reader.old (λ records.
+        IsFaultOf (rows_under lifts records) e)) }
     ensures memory { IfErr result (λ e. e.code ≡ StepsCode.NoMemory → e.at ≡ 0) }
     ensures flags { OnOk result (AreFlags lifts gathered.new.rows.items gathered.new.seen.items) }
     ensures few { OnOk result (length gathered.new.rows.items ≤ 200000) }
@@ -159,7 +169,8 @@ fn add_all(
 /// The least lift whose flag isn't set.
 fn least_missing(seen: &[bool]) -> Option<u32>
     requires { length seen.now < 2 ^ 32 }
-    ensures { (lifts : ℕ) (rows : List StepRow) → AreFlags lifts rows seen.now → result ≡ missing_from rows 1 lifts }
+    ensures { (lifts : ℕ) (rows : List StepRow) →
+        AreFlags lifts rows seen.now → result ≡ missing_from rows 1 lifts }
 {
     for (place, stands) in seen.iter().enumerate() {
         if !*stands {
@@ -191,7 +202,7 @@ fn complete(lifts: u32, gathered: Gathered) -> Result<Vec<StepRow>, StepsFault>
 pub fn steps(alloc: Global, bytes: &[u8], lifts: u32) -> Result<Vec<StepRow>, StepsFault>
     ensures once { IfOk result (λ rows. EachLiftOnce lifts rows.items) }
     ensures ok { IfOk result (λ rows. steps_of lifts bytes.now ≡ Ok rows.items) }
-    ensures refused { IfErr result (λ e. e.code ≢ StepsCode.NoMemory → steps_of lifts bytes.now ≡ Err e) }
+    ensures refused { IfErr result (IsFaultOf (steps_of lifts bytes.now)) }
     ensures memory { IfErr result (λ e. e.code ≡ StepsCode.NoMemory → e.at ≡ 0) }
     ensures meaning { IfOk result (λ rows. AreSteps lifts bytes.now rows.items) }
     ensures few { IfOk result (λ rows. length rows.items ≤ 200000) }

@@ -17,7 +17,7 @@ loop-gathered-preserved c = record {
 pub returns-in_err-add_record-clause-refused : goal.returns-in_err-add_record-clause-refused
 returns-in_err-add_record-clause-refused c =
     let p = err_from_is_err_and c.from_residual-in_err-add_record.result c.from_residual-in_err-add_record.ensures.1 in
-    rw (p.1, p.2) (λ m rest has.
+    rw (p.1, p.2) (λ rest has m.
     let left = c.loop-gathered.invariant.rest rest has in
     let gave = gave_one _ _ _ _ c.if-branch.true (c.in_ok-read.ensures.ok left.0 left.1) in
     left.2 ∙ rows-stop _ _ _ _ _ _ gave.1 (omega arith) _ (c.in_err-add_record.ensures.refused m))
