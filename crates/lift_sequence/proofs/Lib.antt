@@ -1,6 +1,10 @@
 pub mod ArrivalSums
 pub mod Changes
+pub mod CountLemmas
+pub mod FirstFaults
 pub mod Listings
 pub mod Overlaps
+pub mod PlaceLemmas
+pub mod RivalLemmas
 pub mod States
 pub mod Totals

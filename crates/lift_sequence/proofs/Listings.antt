@@ -89,7 +89,7 @@ few_options g (x ∷ xs) =
     omega (arith, length-append (option_to_list (g x)) (flat_map (λ x. option_to_list (g x)) xs), at_most_one g x (g x) refl, few_options g xs)
 
 -- a container that can be put into a cell has a place, and nothing stands there
-stood : (o : Option Place) (taken : Bool) (rival : Option Cell) → standing o taken rival ≡ None → ((p : Place) × (o ≡ Some p)) × (taken ≡ false)
+pub stood : (o : Option Place) (taken : Bool) (rival : Option Cell) → standing o taken rival ≡ None → ((p : Place) × (o ≡ Some p)) × (taken ≡ false)
 stood None taken rival h = absurd (cc)
 stood (Some p) true rival h = absurd (cc)
 stood (Some p) false rival h = ((p, refl), refl)

@@ -70,10 +70,10 @@ fills_more start now next xs i x inside at so_far moves =
     ∙ ap (λ y. with_fills start (take i xs ++ y ∷ [])) at ∙ ap (with_fills start) (sym (take_more xs i x inside))
 
 -- a number without a fault, and one with
-passed : (n : ℕ) (o : Option SeqCode) (more : Option SeqFault) → o ≡ None → option_or (option_map (fault_at n) o) more ≡ more
+pub passed : (n : ℕ) (o : Option SeqCode) (more : Option SeqFault) → o ≡ None → option_or (option_map (fault_at n) o) more ≡ more
 passed n o more e = rw e refl
 
-stopped : (n : ℕ) (o : Option SeqCode) (e : SeqCode) (more : Option SeqFault) → o ≡ Some e → option_or (option_map (fault_at n) o) more ≡ Some (fault_at n e)
+pub stopped : (n : ℕ) (o : Option SeqCode) (e : SeqCode) (more : Option SeqFault) → o ≡ Some e → option_or (option_map (fault_at n) o) more ≡ Some (fault_at n e)
 stopped n o e more h = rw h refl
 
 -- where neither a first one nor those behind it have a fault

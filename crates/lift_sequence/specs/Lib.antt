@@ -1,7 +1,10 @@
 pub mod Aboard
 pub mod Arrival
 pub mod Bodies
+pub mod Faults
 pub mod Legal
+pub mod Places
 pub mod Printed
+pub mod Rivals
 pub mod Sequence
 pub mod Totals

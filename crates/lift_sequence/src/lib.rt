@@ -10,6 +10,7 @@
 mod arrivals;
 mod containers;
 mod faults;
+mod laws;
 mod operations;
 mod sequences;
 mod steps;
@@ -19,6 +20,10 @@ mod tests;
 
 pub use arrivals::Arrival;
 pub use faults::{SeqCode, SeqFault};
+pub use laws::{
+    arrivals_have_one_answer, cargo_has_places, nobody_is_lost, overlaps_are_least,
+    sequences_have_one_answer,
+};
 pub use operations::{Op, ops};
 pub use sequences::Sequence;
 pub use steps::Step;

@@ -1,5 +1,6 @@
 mod arrivals;
 mod faults;
+mod laws;
 mod operations;
 mod orders;
 mod sequences;

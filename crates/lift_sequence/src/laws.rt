@@ -1,0 +1,84 @@
+ghost use Rattle.std.specs.Prelude.{◌≡◌, ◌⊎◌, ◌↔◌, ◌+◌, ℕ, List, All, length, take, Option, Some, None};
+ghost use Rattle.stow_messages.specs.declared.items.Item.{Item};
+ghost use Rattle.stow_messages.specs.declared.lifts.Lift.{Lift};
+ghost use Rattle.stow_messages.specs.declared.step_rows.StepRow.{StepRow};
+ghost use Rattle.stow_messages.specs.Steps.{EachLiftOnce};
+ghost use Rattle.ship_profile.specs.declared.fills.TankFill.{TankFill};
+ghost use Rattle.ship_profile.specs.Record.{ProfileRecord, Texts};
+ghost use Rattle.ship_profile.specs.Written.{IsWritten};
+ghost use Rattle.units_core.specs.declared.cells.Cell.{Cell};
+ghost use Rattle.lift_sequence.specs.declared.containers.Container.{Container};
+ghost use Rattle.lift_sequence.specs.declared.faults.SeqFault.{SeqFault};
+ghost use Rattle.lift_sequence.specs.declared.operations.Op.{Op};
+ghost use Rattle.lift_sequence.specs.Aboard.{Aboard, after_all, with_cell};
+ghost use Rattle.lift_sequence.specs.Arrival.{arrival_bodies, arrival_fault, on_arrival};
+ghost use Rattle.lift_sequence.specs.Bodies.{bodies};
+ghost use Rattle.lift_sequence.specs.Faults.{IsArrivalFault, IsLegalArrival, IsLegalSequence, IsSequenceFault};
+ghost use Rattle.lift_sequence.specs.Legal.{overlap};
+ghost use Rattle.lift_sequence.specs.Places.{HasLift, HasPlaces, filled_tanks, taken_cells};
+ghost use Rattle.lift_sequence.specs.Rivals.{HaveShortBays, HasNoRival, IsLeastRival};
+ghost use Rattle.lift_sequence.specs.Sequence.{ops_of, sequence_fault};
+
+/// An arrival has one answer: nothing is wrong with it, or it has a fault, and one only. What is so by the definitions
+/// (`specs/Faults.antt`) is what [`Arrival::new`](crate::Arrival::new) answers.
+pub fn arrivals_have_one_answer()
+    ensures fault { (ship : ProfileRecord) (items : List Item) (fills : List TankFill) (f : SeqFault) →
+        IsArrivalFault ship items fills f → arrival_fault ship items fills ≡ Some f }
+    ensures legal { (ship : ProfileRecord) (items : List Item) (fills : List TankFill) →
+        IsLegalArrival ship items fills → arrival_fault ship items fills ≡ None }
+    ensures either { (ship : ProfileRecord) (items : List Item) (fills : List TankFill) →
+        IsLegalArrival ship items fills ⊎ ((f : SeqFault) × IsArrivalFault ship items fills f) }
+    ensures not_both { (ship : ProfileRecord) (items : List Item) (fills : List TankFill)
+        (f : SeqFault) → IsLegalArrival ship items fills → IsArrivalFault ship items fills f → ⊥ }
+{}
+
+/// So has a sequence of steps, from whatever is aboard; it is what [`Sequence::new`](crate::Sequence::new) answers.
+pub fn sequences_have_one_answer()
+    ensures fault { (ship : ProfileRecord) (at : Aboard) (ops : List Op) (f : SeqFault) →
+        IsSequenceFault ship at ops f → sequence_fault ship at ops ≡ Some f }
+    ensures legal { (ship : ProfileRecord) (at : Aboard) (ops : List Op) →
+        IsLegalSequence ship at ops → sequence_fault ship at ops ≡ None }
+    ensures either { (ship : ProfileRecord) (at : Aboard) (ops : List Op) →
+        IsLegalSequence ship at ops ⊎ ((f : SeqFault) × IsSequenceFault ship at ops f) }
+    ensures not_both { (ship : ProfileRecord) (at : Aboard) (ops : List Op) (f : SeqFault) →
+        IsLegalSequence ship at ops → IsSequenceFault ship at ops f → ⊥ }
+{}
+
+/// The rival of a cell is named exactly where a taken cell wants its room, and it is the one of least bay (`specs/Rivals.antt`). This is
+/// said of bays of three digits; such are the bays of all that has its place in a ship whose cells are written in a text.
+pub fn overlaps_are_least()
+    ensures none { (cells : Cell → Option Container) (cell : Cell) →
+        HaveShortBays cells → (overlap cells cell ≡ None) ↔ HasNoRival cells cell }
+    ensures some { (cells : Cell → Option Container) (cell rival : Cell) →
+        HaveShortBays cells → (overlap cells cell ≡ Some rival) ↔ IsLeastRival cells cell rival }
+    ensures bays { (texts : Texts) (ship : ProfileRecord) (at : Aboard) →
+        IsWritten texts ship → HasPlaces ship at → HaveShortBays at.cells }
+{}
+
+/// What is aboard on arrival, and after any number of steps, has its place in the ship (`HasPlaces`), where nothing is wrong with the
+/// arrival and the sequence; and so has what is left when a cell is emptied, by which the second cell of a restow is judged.
+pub fn cargo_has_places()
+    ensures arrival { (ship : ProfileRecord) (items : List Item) (fills : List TankFill) →
+        arrival_fault ship items fills ≡ None → HasPlaces ship (on_arrival items fills) }
+    ensures steps { (ship : ProfileRecord) (at : Aboard) (ops : List Op) (k : ℕ) → HasPlaces ship at →
+        sequence_fault ship at ops ≡ None → HasPlaces ship (after_all ship at (take k ops)) }
+    ensures emptied { (ship : ProfileRecord) (at : Aboard) (cell : Cell) →
+        HasPlaces ship at → HasPlaces ship (with_cell at cell None) }
+{}
+
+/// No body and no step is lost: there are as many bodies on arrival as blocks, fills and items; of all that has its place in the ship as
+/// many as blocks, filled tanks and taken cells; and as many steps as rows or lifts, where each row of a lift has the number of one, as
+/// in rows among which each lift stands once.
+pub fn nobody_is_lost()
+    ensures arrival { (ship : ProfileRecord) (items : List Item) (fills : List TankFill) →
+        arrival_fault ship items fills ≡ None → length (arrival_bodies ship items fills)
+        ≡ length ship.ship.blocks + (length fills + length items) }
+    ensures aboard { (ship : ProfileRecord) (at : Aboard) → HasPlaces ship at →
+        length (bodies ship at) ≡ length ship.ship.blocks
+        + (length (filled_tanks ship at) + length (taken_cells ship at)) }
+    ensures lifts { (lifts : List Lift) → length (ops_of lifts None) ≡ length lifts }
+    ensures rows { (lifts : List Lift) (rows : List StepRow) → All (HasLift lifts) rows →
+        length (ops_of lifts (Some rows)) ≡ length rows }
+    ensures once { (lifts : List Lift) (rows : List StepRow) →
+        EachLiftOnce (length lifts) rows → All (HasLift lifts) rows }
+{}

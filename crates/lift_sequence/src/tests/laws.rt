@@ -1,0 +1,13 @@
+use crate::{
+    arrivals_have_one_answer, cargo_has_places, nobody_is_lost, overlaps_are_least,
+    sequences_have_one_answer,
+};
+
+#[test]
+fn laws() {
+    arrivals_have_one_answer();
+    sequences_have_one_answer();
+    overlaps_are_least();
+    cargo_has_places();
+    nobody_is_lost();
+}
