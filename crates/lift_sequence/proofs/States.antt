@@ -1,26 +1,42 @@
 -- What is aboard, item by item and step by step.
-use Rattle.std.proofs.Common.{◌≡◌, ℕ, zero, suc, ◌+◌, ◌<◌, ◌≤◌, arith, length-append, List, [], ◌∷◌, ◌++◌, length, take, drop, get_or, Option, None, Some, refl, sym, ap, ◌∙◌}
+use Rattle.std.proofs.Common.{◌≡◌, ℕ, zero, suc, ◌+◌, ◌<◌, ◌≤◌, arith, length-append, List, [], ◌∷◌, ◌++◌, length, take, drop, get_or, Option, None, Some, Bool, true, false, cond, nat_eq, refl, sym, ap, ◌∙◌}
 use Rattle.std.specs.List.{filter_map}
+use Rattle.std.specs.Map.{lookup}
 use Rattle.std.specs.Option.{option_or, option_map, option_to_list}
 use Rattle.std.proofs.lemmas.List.{take_more, drop_more}
 use Rattle.std.proofs.lemmas.List.Elements.{filter_map-append}
 use Rattle.std.proofs.lemmas.Option.{none-some}
 use Rattle.units_core.specs.declared.cells.Cell.{Cell}
+use Rattle.units_core.specs.Cells.{cell_eq}
 use Rattle.stow_messages.specs.declared.items.Item.{Item}
 use Rattle.ship_profile.specs.declared.fills.TankFill.{TankFill}
 use Rattle.ship_profile.specs.Record.{ProfileRecord, tank_body}
+use Rattle.lift_sequence.specs.declared.containers.Container.{Container}
+use Rattle.lift_sequence.specs.declared.stowage.Stowage.{Stowage}
 use Rattle.lift_sequence.specs.declared.faults.SeqFault.{SeqFault}
 use Rattle.lift_sequence.specs.declared.faults.SeqCode.{SeqCode}
-use Rattle.lift_sequence.specs.Aboard.{Aboard, with_cell, with_tank, container_of, moved}
+use Rattle.lift_sequence.specs.Aboard.{Aboard, held, with_cell, with_tank, container_of, moved}
 use Rattle.lift_sequence.specs.Arrival.{with_items, with_fills, items_fault, fills_fault, fault_at}
 use Rattle.lift_sequence.specs.declared.operations.Op.{Op}
 use Rattle.lift_sequence.specs.Bodies.{steps_of}
 use Rattle.lift_sequence.specs.Legal.{stand_fault, over_fault}
 use Rattle.lift_sequence.specs.Sequence.{AreSteps}
+use Rattle.lift_sequence.proofs.Listings.{cells_same}
 
 -- two that hold the same in each cell and in each tank are one
 pub same : (a b : Aboard) → ((cell : Cell) → a.cells cell ≡ b.cells cell) → ((tank : ℕ) → a.tanks tank ≡ b.tanks tank) → a ≡ b
 same a b h k = λ i. record { cells = λ cell. h cell i; tanks = λ tank. k tank i }
+
+-- tables whose entries are as they were hold what they held
+pub unchanged : (s t : Stowage) → t.cells.entries ≡ s.cells.entries → t.tanks.entries ≡ s.tanks.entries → held t ≡ held s
+unchanged s t h k = λ i. record { cells = λ cell. lookup (cell_eq cell) (h i); tanks = λ tank. lookup (nat_eq tank) (k i) }
+
+-- a container that is put back where it was
+pub put_back : (at : Aboard) (cell : Cell) (c : Container) → at.cells cell ≡ Some c → with_cell (with_cell at cell None) cell (Some c) ≡ at
+put_back at cell c there = same (with_cell (with_cell at cell None) cell (Some c)) at (λ q. by_cell q (cell_eq cell q) refl) (λ tank. refl) where
+  by_cell : (q : Cell) (b : Bool) → cell_eq cell q ≡ b → cond b (Some c) (cond b None (at.cells q)) ≡ at.cells q
+  by_cell q true e = sym there ∙ ap at.cells (cells_same cell q e)
+  by_cell q false e = refl
 
 -- one more element gives one more, or none
 module _ {X Y : Type 0} (h : X → Option Y) where

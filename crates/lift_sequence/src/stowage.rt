@@ -1,5 +1,6 @@
-ghost use Rattle.std.specs.Prelude.{◌≡◌, ◌≢◌, OnOk, IfOk, IfErr, Some, None, pos};
+ghost use Rattle.std.specs.Prelude.{◌≡◌, ◌≢◌, ◌<◌, ◌≤◌, OnOk, OnErr, IfOk, IfErr, Some, None, pos};
 ghost use Rattle.std.specs.Option.{is_some, option_or};
+ghost use Rattle.indexmap.specs.IndexMap.{spare};
 ghost use Rattle.ship_profile.specs.Record.{place_of, tank_of};
 ghost use Rattle.lift_sequence.specs.Aboard.{held, moved, nothing, with_cell, with_tank};
 ghost use Rattle.lift_sequence.specs.Bodies.{body_of, body_in, filling_step, step_of};
@@ -101,7 +102,7 @@ impl Stowage {
         }
     }
 
-    /// Puts a container into a cell, and gives its body.
+    /// Puts a container into a cell, and gives its body. Where it can't, nothing changes.
     pub(crate) fn stow(
         &mut self,
         profile: &Profile,
@@ -112,6 +113,7 @@ impl Stowage {
         ensures moved { OnOk result (held self.new ≡ with_cell (held self.old) cell (Some container)) }
         ensures body { IfOk result (λ b. body_in (place_of profile.now cell) (Some container) ≡ Some b) }
         ensures refused { IfErr result (λ e. e ≢ SeqCode.NoMemory → stand_fault profile.now (held self.old).cells cell ≡ Some e) }
+        ensures same { OnErr result (held self.new ≡ held self.old) }
     {
         let place = self.free_place(profile, cell)?;
         let body = body_of(place, container.kg);
@@ -121,7 +123,30 @@ impl Stowage {
         }
     }
 
-    /// Takes the container of this identification out of a cell, and gives its body with it.
+    /// Makes room in the table for one container more, so that the next one needs no memory.
+    fn make_room(&mut self) -> Result<(), SeqCode>
+        ensures same { held self.new ≡ held self.old }
+        ensures room { OnOk result (0 < spare self.new.cells) }
+        ensures memory { IfErr result (λ e. e ≡ SeqCode.NoMemory) }
+    {
+        match self.cells.reserve(1) {
+            Ok(()) => Ok(()),
+            Err(_) => Err(SeqCode::NoMemory),
+        }
+    }
+
+    /// Puts a container into a cell, where the table has room.
+    fn put(&mut self, cell: Cell, container: Container)
+        requires { 0 < spare self.old.cells }
+        ensures { held self.new ≡ with_cell (held self.old) cell (Some container) }
+    {
+        match self.cells.insert(cell, container) {
+            Ok(_) => {}
+            Err(_) => unreachable!(),
+        }
+    }
+
+    /// Takes the container of this identification out of a cell, and gives its body with it. Where it can't, nothing changes.
     fn take(
         &mut self,
         profile: &Profile,
@@ -133,25 +158,29 @@ impl Stowage {
         ensures container { IfOk result (λ r. (held self.old).cells cell ≡ Some r.1) }
         ensures body { IfOk result (λ r. body_in (place_of profile.now cell) ((held self.old).cells cell) ≡ Some r.0) }
         ensures refused { IfErr result (λ e. take_fault profile.now (held self.old).cells cell id.now ≡ Some e) }
+        ensures same { OnErr result (held self.new ≡ held self.old) }
+        ensures room { spare self.old.cells ≤ spare self.new.cells }
     {
         let Some(place) = profile.cell(cell) else {
             return Err(SeqCode::UnknownCell);
         };
-        let Some(container) = self.cells.swap_remove(&cell) else {
+        let Some((index, _, container)) = self.cells.get_full(&cell) else {
             return Err(SeqCode::CellEmpty);
         };
         if differ(id, container.id.as_slice()) {
             return Err(SeqCode::WrongContainer);
         }
+        let (_, container) = self.cells.swap_remove_index(index).unwrap();
         Ok((body_of(place, container.kg), container))
     }
 
-    /// Leaves so many kg in a tank.
+    /// Leaves so many kg in a tank. Where it can't, nothing changes.
     fn fill(&mut self, profile: &Profile, name: &[u8], kg: u32) -> Result<Step, SeqCode>
         ensures legal { OnOk result (fill_fault profile.now (tank_of profile.now name.now) kg ≡ None) }
         ensures moved { OnOk result (held self.new ≡ with_tank (held self.old) (tank_of profile.now name.now) kg) }
         ensures step { IfOk result (λ s. s ≡ filling_step profile.now (held self.old) (tank_of profile.now name.now) kg) }
         ensures refused { IfErr result (λ e. e ≢ SeqCode.NoMemory → fill_fault profile.now (tank_of profile.now name.now) kg ≡ Some e) }
+        ensures same { OnErr result (held self.new ≡ held self.old) }
     {
         let Some(tank) = profile.tank(name) else {
             return Err(SeqCode::UnknownTank);
@@ -172,7 +201,7 @@ impl Stowage {
         })
     }
 
-    /// Takes a container from one cell to another.
+    /// Takes a container from one cell to another. It is put back where it can't be put there, so that nothing changes.
     fn restow(
         &mut self,
         profile: &Profile,
@@ -189,22 +218,33 @@ impl Stowage {
         }) }
         ensures refused { IfErr result (λ e. e ≢ SeqCode.NoMemory → option_or (take_fault profile.now (held self.old).cells from id.now)
             (stand_fault profile.now (with_cell (held self.old) from None).cells to) ≡ Some e) }
+        ensures same { OnErr result (held self.new ≡ held self.old) }
     {
+        self.make_room()?;
         let (out, container) = self.take(profile, from, id)?;
-        let put = self.stow(profile, to, container)?;
-        Ok(Step {
-            out: Some(out),
-            put: Some(put),
-        })
+        match self.free_place(profile, to) {
+            Ok(place) => {
+                let put = body_of(place, container.kg);
+                self.put(to, container);
+                Ok(Step {
+                    out: Some(out),
+                    put: Some(put),
+                })
+            }
+            Err(code) => {
+                self.put(from, container);
+                Err(code)
+            }
+        }
     }
 
-    /// Does one step, and tells the bodies that it takes out and puts in; or why it can't be done, and then the state
-    /// is unspecified.
+    /// Does one step, and tells the bodies that it takes out and puts in; or why it can't be done, and then nothing changes.
     pub(crate) fn make(&mut self, profile: &Profile, op: &Op) -> Result<Step, SeqCode>
         ensures legal { OnOk result (fault_of profile.now (held self.old) op.now ≡ None) }
         ensures moved { OnOk result (held self.new ≡ moved profile.now (held self.old) op.now) }
         ensures step { IfOk result (λ s. s ≡ step_of profile.now (held self.old) op.now) }
         ensures refused { IfErr result (λ e. e ≢ SeqCode.NoMemory → fault_of profile.now (held self.old) op.now ≡ Some e) }
+        ensures same { OnErr result (held self.new ≡ held self.old) }
     {
         match op {
             Op::Lift(Lift::Load(item)) => {
