@@ -9,11 +9,11 @@ use Rattle.units_core.specs.Bodies.{Mass}
 use Rattle.units_core.specs.Cells.{cell_eq}
 use Rattle.stow_messages.specs.declared.items.Item.{Item}
 use Rattle.ship_profile.specs.declared.fills.TankFill.{TankFill}
-use Rattle.ship_profile.specs.Record.{ProfileRecord, place_of, tank_body}
+use Rattle.ship_profile.specs.Record.{ProfileRecord, tank_body}
 use Rattle.lift_sequence.specs.declared.containers.Container.{Container}
 use Rattle.lift_sequence.specs.Aboard.{Aboard, container_of, nothing, with_cell, with_tank}
 use Rattle.lift_sequence.specs.Arrival.{arrival_bodies, items_fault, on_arrival, with_fills, with_items}
-use Rattle.lift_sequence.specs.Bodies.{bodies, bodies_in_cells, bodies_in_tanks, body_in, filling_in}
+use Rattle.lift_sequence.specs.Bodies.{bodies, bodies_in_cells, bodies_in_tanks, fill_body, filling_in, item_body}
 use Rattle.lift_sequence.specs.Legal.{stand_fault}
 use Rattle.lift_sequence.specs.Totals.{total}
 use Rattle.lift_sequence.proofs.Listings.{distinct_range, nothing_stands, stowed_adds, tank_given}
@@ -29,12 +29,6 @@ fills_leave : (at : Aboard) (fills : List TankFill) → (with_fills at fills).ce
 fills_leave at [] = refl
 fills_leave at (fill ∷ more) = fills_leave (with_tank at (Some fill.tank) fill.kg) more
 
-abbrev item_body : ProfileRecord → Item → Option Mass
-item_body ship item = body_in (place_of ship item.cell) (Some (container_of item))
-
-abbrev fill_body : ProfileRecord → TankFill → Option Mass
-fill_body ship fill = tank_body ship fill.tank fill.kg
-
 -- items that can stand add their bodies to those in the cells
 items_add : (ship : ProfileRecord) (f : Mass → ℤ) → IsDistinct cell_eq (keys_of ship.tables.cells) → (now : Aboard) (number : ℕ) (items : List Item)
     → items_fault ship now number items ≡ None
@@ -42,7 +36,7 @@ items_add : (ship : ProfileRecord) (f : Mass → ℤ) → IsDistinct cell_eq (ke
 items_add ship f tidy now number [] legal = omega (arith, ints)
 items_add ship f tidy now number (item ∷ more) legal =
     let next = with_cell now item.cell (Some (container_of item)) in
-    let both = none_first number (stand_fault ship now.cells item.cell) (items_fault ship next (number + 1) more) legal in
+    let both = none_first number (stand_fault ship now item.cell) (items_fault ship next (number + 1) more) legal in
     let here = stowed_adds ship f now item.cell (container_of item) tidy both.0 in
     let rest = items_add ship f tidy next (number + 1) more both.1 in
     let listed = ap (total f) (filter_first (item_body ship) item more) in

@@ -1,8 +1,8 @@
 -- Each step changes every total over the bodies aboard by the bodies that it takes out and puts in.
-use Rattle.std.proofs.Common.{◌≡◌, ℕ, zero, suc, ◌+◌, List, [], ◌∷◌, ◌++◌, take, map, flat_map, length, Option, None, Some, Bool, true, false, cond, nat_eq, nat_lt, ℤ, pos, ◌+ℤ◌, ◌-ℤ◌, refl, sym, ap, ◌∙◌, arith, eqb-true}
+use Rattle.std.proofs.Common.{◌≡◌, ℕ, zero, suc, ◌+◌, List, [], ◌∷◌, ◌++◌, take, length, Option, None, Some, nat_eq, nat_lt, ℤ, pos, ◌+ℤ◌, refl, sym, ap, ◌∙◌, arith, eqb-true}
 use Rattle.std.specs.Prelude.{find}
 use Rattle.std.specs.List.{IsDistinct, range_with_len}
-use Rattle.std.specs.Map.{keys_of, lookup, update}
+use Rattle.std.specs.Map.{keys_of}
 use Rattle.std.specs.Option.{is_some, option_map, option_or, option_to_list}
 use Rattle.std.proofs.lemmas.Int.{ints}
 use Rattle.std.proofs.lemmas.Option.{none-some}
@@ -11,15 +11,15 @@ use Rattle.units_core.specs.declared.cells.Cell.{Cell}
 use Rattle.units_core.specs.Bodies.{Mass}
 use Rattle.units_core.specs.Cells.{cell_eq}
 use Rattle.stow_messages.specs.declared.lifts.Lift.TheVariants.{Load, Discharge}
-use Rattle.ship_profile.specs.Record.{ProfileRecord, place_of, tank_of, tank_body}
+use Rattle.ship_profile.specs.Record.{ProfileRecord, place_of, tank_of}
 use Rattle.lift_sequence.specs.declared.containers.Container.{Container}
 use Rattle.lift_sequence.specs.declared.faults.SeqCode.{SeqCode}
 use Rattle.lift_sequence.specs.declared.operations.Op as operation
 use Rattle.lift_sequence.specs.declared.steps.Step.{Step}
 use Rattle.lift_sequence.specs.declared.operations.Op.TheVariants.{Lift, Fill, Restow}
-use Rattle.lift_sequence.specs.Aboard.{Aboard, with_cell, with_tank, moved, after_all, container_of}
+use Rattle.lift_sequence.specs.Aboard.{Aboard, with_cell, with_tank, after_step, after_all, container_of}
 use Rattle.lift_sequence.specs.Bodies.{bodies, bodies_in_cells, bodies_in_tanks, body_in, filling_in, filling_step, step_of, steps_of}
-use Rattle.lift_sequence.specs.Legal.{overlap, standing, stand_fault, take_fault, fault_of}
+use Rattle.lift_sequence.specs.Legal.{overlap, place_fault, stand_fault, take_fault, fault_of}
 use Rattle.lift_sequence.specs.Sequence.{StepsAddUp, first_fault}
 use Rattle.lift_sequence.specs.Totals.{change, total}
 use Rattle.lift_sequence.proofs.Listings.{cells_same, distinct_range, found, tank_given}
@@ -109,7 +109,7 @@ module _ (ship : ProfileRecord) (f : Mass → ℤ) where
   empty_cell cell o e = ap (in_cell cell) e ∙ ap (λ (m : Option Mass). total f (option_to_list m)) (nowhere (place_of ship cell))
 
   -- a container that can be put into a cell finds it empty
-  free : (o : Option Place) (c : Option Container) (rival : Option Cell) → standing o (is_some c) rival ≡ None → c ≡ None
+  free : (o : Option Place) (c : Option Container) (rival : Option Cell) → place_fault o (is_some c) rival ≡ None → c ≡ None
   free None c rival h = absurd (cc)
   free (Some p) None rival h = refl
   free (Some p) (Some c) rival h = absurd (cc)
@@ -124,7 +124,7 @@ module _ (ship : ProfileRecord) (f : Mass → ℤ) where
 
   -- a step changes the total by what it puts in, less what it takes out
   pub one_step : (at : Aboard) (op : operation.Op) → IsDistinct cell_eq (keys_of ship.tables.cells) → fault_of ship at op ≡ None
-      → total f (bodies ship (moved ship at op)) ≡ total f (bodies ship at) +ℤ change f (step_of ship at op)
+      → total f (bodies ship (after_step ship at op)) ≡ total f (bodies ship at) +ℤ change f (step_of ship at op)
   one_step at (Lift (Load item)) tidy legal =
       let was = empty_cell item.cell (at.cells item.cell) (free (place_of ship item.cell) (at.cells item.cell) (overlap at.cells item.cell) legal) in
       omega (arith, ints, one_cell at item.cell (Some (container_of item)) tidy, was)
@@ -132,7 +132,7 @@ module _ (ship : ProfileRecord) (f : Mass → ℤ) where
   one_step at (Fill name kg) tidy legal = filled at (tank_of ship name.items) kg
   one_step at (Restow from to id) tidy legal =
       let between = with_cell at from None in
-      let stands = second (take_fault ship at.cells from id.items) (stand_fault ship between.cells to) legal in
+      let stands = second (take_fault ship at from id.items) (stand_fault ship between to) legal in
       let was = empty_cell to (between.cells to) (free (place_of ship to) (between.cells to) (overlap between.cells to) stands) in
       omega (arith, ints, one_cell at from None tidy, one_cell between to (at.cells from) tidy, empty_cell from None refl, was)
 
@@ -142,8 +142,8 @@ module _ (ship : ProfileRecord) (f : Mass → ℤ) where
   all_steps at ops number zero tidy legal = omega (arith, ints)
   all_steps at [] number (suc k) tidy legal = omega (arith, ints)
   all_steps at (op ∷ more) number (suc k) tidy legal =
-      let both = none_first number (fault_of ship at op) (first_fault ship (moved ship at op) (number + 1) more) legal in
-      omega (arith, ints, one_step at op tidy both.0, all_steps (moved ship at op) more (number + 1) k tidy both.1)
+      let both = none_first number (fault_of ship at op) (first_fault ship (after_step ship at op) (number + 1) more) legal in
+      omega (arith, ints, one_step at op tidy both.0, all_steps (after_step ship at op) more (number + 1) k tidy both.1)
 
 -- so what steps change adds up, whatever value is added up
 pub add_up : (ship : ProfileRecord) (at : Aboard) (ops : List operation.Op) (steps : List Step) (number : ℕ) → IsDistinct cell_eq (keys_of ship.tables.cells)

@@ -1,5 +1,5 @@
 -- As many bodies as there is something aboard, and as many steps as rows.
-use Rattle.std.proofs.Common.{◌≡◌, ℕ, zero, suc, ◌+◌, ◌<◌, ◌≤◌, ◌&&◌, List, [], ◌∷◌, ◌++◌, length, map, Bool, true, false, cond, nat_le, Option, None, Some, refl, sym, ap, ◌∙◌, arith, length-append}
+use Rattle.std.proofs.Common.{◌≡◌, ℕ, zero, suc, ◌+◌, ◌<◌, ◌≤◌, ◌&&◌, List, [], ◌∷◌, ◌++◌, length, Bool, true, false, cond, nat_le, Option, None, Some, refl, sym, ap, ◌∙◌, arith, length-append}
 use Rattle.std.specs.Prelude.{All, slice_get, if◌then◌else◌}
 use Rattle.std.specs.List.{cons_option, filter, filter_map, flat_map, range_with_len}
 use Rattle.std.specs.Map.{keys_of}
@@ -17,11 +17,10 @@ use Rattle.stow_messages.specs.Steps.{EachLiftOnce, is_lift}
 use Rattle.ship_profile.specs.declared.fills.TankFill.{TankFill}
 use Rattle.ship_profile.specs.Record.{ProfileRecord, place_of, tank_body}
 use Rattle.lift_sequence.specs.declared.containers.Container.{Container}
-use Rattle.lift_sequence.specs.declared.operations.Op.{Op}
 use Rattle.lift_sequence.specs.declared.operations.Op.TheVariants.{Lift}
 use Rattle.lift_sequence.specs.Aboard.{Aboard, container_of, nothing, with_cell}
 use Rattle.lift_sequence.specs.Arrival.{arrival_bodies, arrival_fault, fills_fault, items_fault}
-use Rattle.lift_sequence.specs.Bodies.{bodies, bodies_in_cells, bodies_in_tanks, body_in, filling_in}
+use Rattle.lift_sequence.specs.Bodies.{bodies, bodies_in_cells, bodies_in_tanks, body_in, fill_body, filling_in, item_body}
 use Rattle.lift_sequence.specs.Legal.{over_fault, stand_fault}
 use Rattle.lift_sequence.specs.Places.{HasLift, HasPlaces, filled_tanks, taken_cells}
 use Rattle.lift_sequence.specs.Sequence.{lift_at, op_of, ops_of}
@@ -40,25 +39,19 @@ stands_somewhere None c h = h
 stands_somewhere (Some place) c h = refl
 
 module _ (ship : ProfileRecord) where
-  abbrev item_body : Item → Option Mass
-  item_body item = body_in (place_of ship item.cell) (Some (container_of item))
-
-  abbrev fill_body : TankFill → Option Mass
-  fill_body fill = tank_body ship fill.tank fill.kg
-
-  items_kept : (at : Aboard) (number : ℕ) (items : List Item) → items_fault ship at number items ≡ None → length (filter_map item_body items) ≡ length items
+  items_kept : (at : Aboard) (number : ℕ) (items : List Item) → items_fault ship at number items ≡ None → length (filter_map (item_body ship) items) ≡ length items
   items_kept at number [] legal = refl
   items_kept at number (item ∷ more) legal =
       let next = with_cell at item.cell (Some (container_of item)) in
-      let parts = none_first number (stand_fault ship at.cells item.cell) (items_fault ship next (number + 1) more) legal in
-      kept item_body item more (stands_somewhere (place_of ship item.cell) (container_of item) (has_place ship at item.cell parts.0))
+      let parts = none_first number (stand_fault ship at item.cell) (items_fault ship next (number + 1) more) legal in
+      kept (item_body ship) item more (stands_somewhere (place_of ship item.cell) (container_of item) (has_place ship at item.cell parts.0))
       (items_kept next (number + 1) more parts.1)
 
-  fills_kept : (number : ℕ) (fills : List TankFill) → fills_fault ship number fills ≡ None → length (filter_map fill_body fills) ≡ length fills
+  fills_kept : (number : ℕ) (fills : List TankFill) → fills_fault ship number fills ≡ None → length (filter_map (fill_body ship) fills) ≡ length fills
   fills_kept number [] legal = refl
   fills_kept number (fill ∷ more) legal =
-      let parts = none_first number (over_fault (fill_body fill)) (fills_fault ship (number + 1) more) legal in
-      kept fill_body fill more (has_body (fill_body fill) parts.0) (fills_kept (number + 1) more parts.1)
+      let parts = none_first number (over_fault (fill_body ship fill)) (fills_fault ship (number + 1) more) legal in
+      kept (fill_body ship) fill more (has_body (fill_body ship fill) parts.0) (fills_kept (number + 1) more parts.1)
 
   pub arrival_kept : (items : List Item) (fills : List TankFill) → arrival_fault ship items fills ≡ None
       → length (arrival_bodies ship items fills) ≡ length ship.ship.blocks + (length fills + length items)
@@ -66,8 +59,8 @@ module _ (ship : ProfileRecord) where
       let parts = neither (items_fault ship nothing 1 items) (fills_fault ship 1 fills) legal in
       omega (
         arith,
-        length-append ship.ship.blocks (filter_map fill_body fills ++ filter_map item_body items),
-        length-append (filter_map fill_body fills) (filter_map item_body items),
+        length-append ship.ship.blocks (filter_map (fill_body ship) fills ++ filter_map (item_body ship) items),
+        length-append (filter_map (fill_body ship) fills) (filter_map (item_body ship) items),
         items_kept nothing 1 items parts.0,
         fills_kept 1 fills parts.1,
       )

@@ -5,15 +5,15 @@ use Rattle.std.specs.Option.{option_and_then, option_map, option_or}
 use Rattle.std.proofs.lemmas.Option.{none-some, same_Some}
 use Rattle.stow_messages.specs.declared.items.Item.{Item}
 use Rattle.ship_profile.specs.declared.fills.TankFill.{TankFill}
-use Rattle.ship_profile.specs.Record.{ProfileRecord, tank_body}
+use Rattle.ship_profile.specs.Record.{ProfileRecord}
 use Rattle.lift_sequence.specs.declared.faults.SeqCode.{SeqCode}
 use Rattle.lift_sequence.specs.declared.faults.SeqCode.TheVariants.{TooManySteps}
 use Rattle.lift_sequence.specs.declared.faults.SeqFault.{SeqFault}
 use Rattle.lift_sequence.specs.declared.operations.Op.{Op}
-use Rattle.lift_sequence.specs.Aboard.{Aboard, after_all, container_of, moved, nothing, with_cell}
+use Rattle.lift_sequence.specs.Aboard.{Aboard, container_of, after_step, nothing, with_cell}
 use Rattle.lift_sequence.specs.Arrival.{arrival_fault, fault_at, fills_fault, items_fault, with_items}
 use Rattle.lift_sequence.specs.Faults.{AreLegal, IsArrivalFault, IsFirst, IsLegalArrival, IsLegalSequence, IsSequenceFault, fault_at_number, fault_of_fill, fault_of_item, fault_of_step}
-use Rattle.lift_sequence.specs.Legal.{fault_of, over_fault, stand_fault}
+use Rattle.lift_sequence.specs.Legal.{stand_fault}
 use Rattle.lift_sequence.specs.Sequence.{first_fault, sequence_fault}
 use Rattle.lift_sequence.proofs.States.{none_first, passed, stopped}
 
@@ -118,7 +118,7 @@ module _ (ship : ProfileRecord) where
   stowed at item = with_cell at item.cell (Some (container_of item))
 
   abbrev judge_item : Aboard → List Item → Item → Option SeqCode
-  judge_item at before item = stand_fault ship (with_items at before).cells item.cell
+  judge_item at before item = stand_fault ship (with_items at before) item.cell
 
   item_none : (items : List Item) → items_fault ship nothing 1 items ≡ None → AreLegal (fault_of_item ship) items
   item_none items = none_walked stowed judge_item (items_fault ship) (λ s n. refl) (λ s n x xs. refl) (λ s x before y. refl) nothing 1 items
@@ -148,16 +148,16 @@ module _ (ship : ProfileRecord) where
   first_fill fills f = walks_first (λ s x. s) (λ s. fault_of_fill ship) walk_fills (λ s n. refl) (λ s n x xs. refl) (λ s x before y. refl) tt fills f
 
   step_none : (at : Aboard) (ops : List Op) → first_fault ship at 1 ops ≡ None → AreLegal (fault_of_step ship at) ops
-  step_none at ops = none_walked (moved ship) (fault_of_step ship) (first_fault ship) (λ s n. refl) (λ s n x xs. refl) (λ s x before y. refl) at 1 ops
+  step_none at ops = none_walked (after_step ship) (fault_of_step ship) (first_fault ship) (λ s n. refl) (λ s n x xs. refl) (λ s x before y. refl) at 1 ops
 
   none_step : (at : Aboard) (ops : List Op) → AreLegal (fault_of_step ship at) ops → first_fault ship at 1 ops ≡ None
-  none_step at ops = walks_none (moved ship) (fault_of_step ship) (first_fault ship) (λ s n. refl) (λ s n x xs. refl) (λ s x before y. refl) at 1 ops
+  none_step at ops = walks_none (after_step ship) (fault_of_step ship) (first_fault ship) (λ s n. refl) (λ s n x xs. refl) (λ s x before y. refl) at 1 ops
 
   step_first : (at : Aboard) (ops : List Op) (f : SeqFault) → first_fault ship at 1 ops ≡ Some f → IsFirst (fault_of_step ship at) ops f
-  step_first at ops f = first_walked (moved ship) (fault_of_step ship) (first_fault ship) (λ s n. refl) (λ s n x xs. refl) (λ s x before y. refl) at ops f
+  step_first at ops f = first_walked (after_step ship) (fault_of_step ship) (first_fault ship) (λ s n. refl) (λ s n x xs. refl) (λ s x before y. refl) at ops f
 
   first_step : (at : Aboard) (ops : List Op) (f : SeqFault) → IsFirst (fault_of_step ship at) ops f → first_fault ship at 1 ops ≡ Some f
-  first_step at ops f = walks_first (moved ship) (fault_of_step ship) (first_fault ship) (λ s n. refl) (λ s n x xs. refl) (λ s x before y. refl) at ops f
+  first_step at ops f = walks_first (after_step ship) (fault_of_step ship) (first_fault ship) (λ s n. refl) (λ s n x xs. refl) (λ s x before y. refl) at ops f
 
 -- the answer of an arrival
 module _ (ship : ProfileRecord) (items : List Item) (fills : List TankFill) where

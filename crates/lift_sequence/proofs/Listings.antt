@@ -1,5 +1,5 @@
 -- Every body that is aboard, listed by what is held, and by the ship's tanks and cells.
-use Rattle.std.proofs.Common.{◌≡◌, ℕ, suc, zero, ◌+◌, ◌≤◌, ◌<◌, List, [], ◌∷◌, ◌++◌, map, flat_map, length, Option, None, Some, Bool, true, false, cond, nat_eq, nat_lt, ℤ, pos, ◌+ℤ◌, refl, sym, ap, ◌∙◌, arith, eqb-true}
+use Rattle.std.proofs.Common.{◌≡◌, ℕ, suc, zero, ◌+◌, ◌≤◌, ◌<◌, List, [], ◌∷◌, map, flat_map, length, Option, None, Some, Bool, true, false, cond, nat_eq, nat_lt, ℤ, pos, ◌+ℤ◌, refl, sym, ap, ◌∙◌, arith, eqb-true}
 use Rattle.std.specs.Prelude.{find, slice_get}
 use Rattle.std.specs.Cmp.{unsigned_Decides}
 use Rattle.std.specs.List.{IsDistinct, AllByRecursion, range_with_len}
@@ -16,23 +16,17 @@ use Rattle.units_core.specs.Cells.{cell_eq}
 use Rattle.ship_profile.specs.Record.{ProfileRecord, place_of, tank_body}
 use Rattle.lift_sequence.specs.declared.containers.Container.{Container}
 use Rattle.lift_sequence.specs.Aboard.{Aboard, with_cell}
-use Rattle.lift_sequence.specs.Legal.{overlap, standing, stand_fault}
-use Rattle.lift_sequence.specs.Bodies.{body_in, filling_in, bodies_in_tanks, bodies_in_cells}
+use Rattle.lift_sequence.specs.Legal.{overlap, place_fault, stand_fault}
+use Rattle.lift_sequence.specs.Bodies.{body_in, filling_in, bodies_in_cells}
 use Rattle.lift_sequence.specs.Totals.{total}
 use Rattle.lift_sequence.proofs.Overlaps.{find_at, find_none}
-use Rattle.lift_sequence.proofs.Totals.{element, given, listed, one_more, ones, total-append}
+use Rattle.lift_sequence.proofs.Totals.{element, given, one_more, ones}
 
 -- numbers and cells by their tests
 pub cells_same : (a b : Cell) → cell_eq a b ≡ true → a ≡ b
 cells_same a b h =
     let parts = (Decides-and _ _ (unsigned_Decides a.bay b.bay) (Decides-and _ _ (unsigned_Decides a.row b.row) (unsigned_Decides a.tier b.tier))).0 h in
     λ i. record { bay = parts.0 i; row = parts.1.0 i; tier = parts.1.1 i }
-
-nat_turn : (a b : ℕ) → nat_eq a b ≡ nat_eq b a
-nat_turn a b = grind arith
-
-cell_turn : (a b : Cell) → cell_eq a b ≡ cell_eq b a
-cell_turn a b = rw (nat_turn a.bay b.bay, nat_turn a.row b.row, nat_turn a.tier b.tier) refl
 
 apart_from : (k a n : ℕ) → k < a → AllByRecursion (λ y. nat_eq k y ≡ false) (map (λ t. t) (range_with_len a n))
 apart_from k a zero h = tt
@@ -43,14 +37,7 @@ unfolding IsDistinct
 distinct_range a zero = tt
 distinct_range a (suc n) = (apart_from a (a + 1) n (omega arith), distinct_range (a + 1) n)
 
-same_lists : {X Y : Type 0} (g h : X → List Y) → ((x : X) → g x ≡ h x) → (xs : List X) → flat_map g xs ≡ flat_map h xs
-same_lists g h e xs = λ i. flat_map (λ x. e x i) xs
-
 module _ (ship : ProfileRecord) where
-  -- a tank's filling, by its number in the table or straight
-  tank_row : ℕ → Option ℕ → List Mass
-  tank_row tank held = option_to_list (filling_in ship tank held)
-
   pub tank_given : (k kg : ℕ) (b : Bool) → nat_lt k (length ship.tables.tanks) ≡ b
       → given (λ (t : ℕ). t) nat_eq (λ a b h. eqb-true a b h) (λ t held. option_to_list (filling_in ship t held)) (λ t. refl)
       (element (λ (t : ℕ). t) nat_eq (λ a b h. eqb-true a b h) (λ t held. option_to_list (filling_in ship t held)) (λ t. refl) (range_with_len 0 (length ship.tables.tanks)) k) kg
@@ -89,7 +76,7 @@ few_options g (x ∷ xs) =
     omega (arith, length-append (option_to_list (g x)) (flat_map (λ x. option_to_list (g x)) xs), at_most_one g x (g x) refl, few_options g xs)
 
 -- a container that can be put into a cell has a place, and nothing stands there
-pub stood : (o : Option Place) (taken : Bool) (rival : Option Cell) → standing o taken rival ≡ None → ((p : Place) × (o ≡ Some p)) × (taken ≡ false)
+pub stood : (o : Option Place) (taken : Bool) (rival : Option Cell) → place_fault o taken rival ≡ None → ((p : Place) × (o ≡ Some p)) × (taken ≡ false)
 stood None taken rival h = absurd (cc)
 stood (Some p) true rival h = absurd (cc)
 stood (Some p) false rival h = ((p, refl), refl)
@@ -100,7 +87,7 @@ is_free (Some c) h = absurd (cc)
 
 -- so each that is put aboard is one body more in the ship's cells
 pub stowed_adds : (ship : ProfileRecord) (f : Mass → ℤ) (now : Aboard) (cell : Cell) (v : Container) → IsDistinct cell_eq (keys_of ship.tables.cells)
-    → stand_fault ship now.cells cell ≡ None
+    → stand_fault ship now cell ≡ None
     → total f (bodies_in_cells ship (with_cell now cell (Some v)).cells)
     ≡ total f (bodies_in_cells ship now.cells) +ℤ total f (option_to_list (body_in (place_of ship cell) (Some v)))
 stowed_adds ship f now cell v tidy legal =
@@ -114,7 +101,7 @@ stowed_adds ship f now cell v tidy legal =
     one ∙ ap (λ (bs : List Mass). total f (bodies_in_cells ship now.cells) +ℤ total f bs) body
 
 pub stowed_more : (ship : ProfileRecord) (now next : Aboard) (cell : Cell) (v : Container) (n : ℕ) → IsDistinct cell_eq (keys_of ship.tables.cells)
-    → pos n ≡ total (λ body. pos 1) (bodies_in_cells ship now.cells) → stand_fault ship now.cells cell ≡ None → next ≡ with_cell now cell (Some v)
+    → pos n ≡ total (λ body. pos 1) (bodies_in_cells ship now.cells) → stand_fault ship now cell ≡ None → next ≡ with_cell now cell (Some v)
     → pos (n + 1) ≡ total (λ body. pos 1) (bodies_in_cells ship next.cells)
 stowed_more ship now next cell v n tidy so_far legal moves =
     let f : Mass → ℤ = λ body. pos 1 in

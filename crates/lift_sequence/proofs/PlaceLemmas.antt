@@ -1,7 +1,7 @@
 -- Whatever is put aboard legally has its place in the ship.
-use Rattle.std.proofs.Common.{◌≡◌, ℕ, zero, suc, ◌+◌, ◌<◌, ◌≤◌, List, [], ◌∷◌, length, take, Bool, true, false, cond, nat_eq, nat_lt, Option, None, Some, refl, sym, ap, ◌∙◌, arith, eqb-true}
+use Rattle.std.proofs.Common.{◌≡◌, ℕ, zero, suc, ◌+◌, List, [], ◌∷◌, length, take, Bool, true, false, cond, nat_eq, nat_lt, Option, None, Some, refl, sym, ap, ◌∙◌, eqb-true}
 use Rattle.std.specs.Prelude.{if◌then◌else◌}
-use Rattle.std.specs.Option.{is_none, is_some, option_or}
+use Rattle.std.specs.Option.{is_some, option_or}
 use Rattle.std.proofs.lemmas.Option.{none-some, same_Some}
 use Rattle.units_core.specs.declared.cells.Cell.{Cell}
 use Rattle.units_core.specs.Bodies.{Mass}
@@ -14,8 +14,8 @@ use Rattle.lift_sequence.specs.declared.containers.Container.{Container}
 use Rattle.lift_sequence.specs.declared.faults.SeqFault.{SeqFault}
 use Rattle.lift_sequence.specs.declared.operations.Op.{Op}
 use Rattle.lift_sequence.specs.declared.operations.Op.TheVariants.{Lift, Fill, Restow}
-use Rattle.lift_sequence.specs.Aboard.{Aboard, after_all, container_of, moved, nothing, with_cell, with_tank}
-use Rattle.lift_sequence.specs.Arrival.{arrival_fault, fault_at, fills_fault, items_fault, on_arrival, with_fills, with_items}
+use Rattle.lift_sequence.specs.Aboard.{Aboard, after_all, container_of, after_step, nothing, with_cell, with_tank}
+use Rattle.lift_sequence.specs.Arrival.{arrival_fault, fills_fault, items_fault, on_arrival, with_fills, with_items}
 use Rattle.lift_sequence.specs.Legal.{fault_of, fill_fault, overlap, over_fault, stand_fault, take_fault}
 use Rattle.lift_sequence.specs.Places.{HasPlaces}
 use Rattle.lift_sequence.specs.Sequence.{first_fault, sequence_fault}
@@ -32,7 +32,7 @@ has_body None h = absurd (cc)
 has_body (Some body) h = refl
 
 module _ (ship : ProfileRecord) where
-  pub has_place : (at : Aboard) (cell : Cell) → stand_fault ship at.cells cell ≡ None → is_some (place_of ship cell) ≡ true
+  pub has_place : (at : Aboard) (cell : Cell) → stand_fault ship at cell ≡ None → is_some (place_of ship cell) ≡ true
   has_place at cell h = ap is_some (stood (place_of ship cell) (is_some (at.cells cell)) (overlap at.cells cell) h).0.1
 
   -- something, or nothing, in a cell and in a tank
@@ -48,7 +48,7 @@ module _ (ship : ProfileRecord) where
     by_tank t m true e h = (λ i. is_some (tank_body ship (sym (eqb-true tank t e) i) (sym (same_Some kg m h) i))) ∙ holds
     by_tank t m false e h = places.tanks t m h
 
-  pub stowed_places : (at : Aboard) (cell : Cell) (c : Container) → HasPlaces ship at → stand_fault ship at.cells cell ≡ None → HasPlaces ship (with_cell at cell (Some c))
+  pub stowed_places : (at : Aboard) (cell : Cell) (c : Container) → HasPlaces ship at → stand_fault ship at cell ≡ None → HasPlaces ship (with_cell at cell (Some c))
   stowed_places at cell c places legal = in_cell at cell (Some c) places (λ h. has_place at cell legal)
 
   pub emptied_places : (at : Aboard) (cell : Cell) → HasPlaces ship at → HasPlaces ship (with_cell at cell None)
@@ -61,7 +61,7 @@ module _ (ship : ProfileRecord) where
   items_places at number [] places legal = places
   items_places at number (item ∷ more) places legal =
       let next = with_cell at item.cell (Some (container_of item)) in
-      let parts = none_first number (stand_fault ship at.cells item.cell) (items_fault ship next (number + 1) more) legal in
+      let parts = none_first number (stand_fault ship at item.cell) (items_fault ship next (number + 1) more) legal in
       items_places next (number + 1) more (stowed_places at item.cell (container_of item) places parts.0) parts.1
 
   fills_places : (at : Aboard) (number : ℕ) (fills : List TankFill) → HasPlaces ship at → fills_fault ship number fills ≡ None → HasPlaces ship (with_fills at fills)
@@ -80,21 +80,21 @@ module _ (ship : ProfileRecord) where
   filled_places at None kg places legal = places
   filled_places at (Some tank) kg places legal = in_tank at tank kg places (has_body (tank_body ship tank kg) legal)
 
-  step_places : (at : Aboard) (op : Op) → HasPlaces ship at → fault_of ship at op ≡ None → HasPlaces ship (moved ship at op)
+  step_places : (at : Aboard) (op : Op) → HasPlaces ship at → fault_of ship at op ≡ None → HasPlaces ship (after_step ship at op)
   step_places at (Lift (Load item)) places legal = stowed_places at item.cell (container_of item) places legal
   step_places at (Lift (Discharge cell id)) places legal = emptied_places at cell places
   step_places at (Fill name kg) places legal = filled_places at (tank_of ship name.items) kg places legal
   step_places at (Restow from to id) places legal =
       let between = with_cell at from None in
-      let stands = (neither (take_fault ship at.cells from id.items) (stand_fault ship between.cells to) legal).1 in
+      let stands = (neither (take_fault ship at from id.items) (stand_fault ship between to) legal).1 in
       in_cell between to (at.cells from) (emptied_places at from places) (λ h. has_place between to stands)
 
   steps_places : (at : Aboard) (number : ℕ) (ops : List Op) (k : ℕ) → HasPlaces ship at → first_fault ship at number ops ≡ None → HasPlaces ship (after_all ship at (take k ops))
   steps_places at number ops zero places legal = places
   steps_places at number [] (suc k) places legal = places
   steps_places at number (op ∷ more) (suc k) places legal =
-      let parts = none_first number (fault_of ship at op) (first_fault ship (moved ship at op) (number + 1) more) legal in
-      steps_places (moved ship at op) (number + 1) more k (step_places at op places parts.0) parts.1
+      let parts = none_first number (fault_of ship at op) (first_fault ship (after_step ship at op) (number + 1) more) legal in
+      steps_places (after_step ship at op) (number + 1) more k (step_places at op places parts.0) parts.1
 
   few_steps : (b : Bool) (f : SeqFault) (o : Option SeqFault) → (if b then Some f else o) ≡ None → o ≡ None
   few_steps true f o h = absurd (none-some f (sym h))

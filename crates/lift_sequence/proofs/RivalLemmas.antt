@@ -1,5 +1,5 @@
 -- The search for a rival names the one of least bay.
-use Rattle.std.proofs.Common.{◌≡◌, ◌↔◌, ℕ, suc, zero, ◌+◌, ◌*◌, ◌<◌, ◌≤◌, ◌&&◌, Bool, true, false, Option, None, Some, nat_le, nat_lt, List, [], ◌∷◌, map, cond, refl, sym, ap, ◌∙◌, subst, arith}
+use Rattle.std.proofs.Common.{◌≡◌, ◌↔◌, ℕ, suc, zero, ◌+◌, ◌*◌, ◌<◌, ◌≤◌, ◌&&◌, Bool, true, false, Option, None, Some, nat_le, List, [], ◌∷◌, map, cond, refl, sym, ap, ◌∙◌, subst, arith}
 use Rattle.std.specs.Char.{is_ascii_digit}
 use Rattle.std.specs.Prelude.{find, if◌then◌else◌, slice_get}
 use Rattle.std.specs.List.{range_with_len}
@@ -8,8 +8,8 @@ use Rattle.std.specs.Option.{is_some, option_and_then, option_map}
 use Rattle.std.proofs.lemmas.Option.{none-some, option_and_then_some, same_Some}
 use Rattle.units_core.specs.declared.bodies.Place.{Place}
 use Rattle.units_core.specs.declared.cells.Cell.{Cell}
-use Rattle.units_core.specs.Cells.{Conflicts, cell_eq, cell_in, cell_of, digit, meet, three_in, two_in}
-use Rattle.ship_profile.specs.Record.{ProfileRecord, Texts, place_of}
+use Rattle.units_core.specs.Cells.{cell_eq, cell_in, cell_of, digit, meet, three_in, two_in}
+use Rattle.ship_profile.specs.Record.{ProfileRecord, Texts}
 use Rattle.ship_profile.specs.Written.{IsWritten}
 use Rattle.lift_sequence.specs.declared.containers.Container.{Container}
 use Rattle.lift_sequence.specs.Aboard.{Aboard}

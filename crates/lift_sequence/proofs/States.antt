@@ -15,7 +15,7 @@ use Rattle.lift_sequence.specs.declared.containers.Container.{Container}
 use Rattle.lift_sequence.specs.declared.stowage.Stowage.{Stowage}
 use Rattle.lift_sequence.specs.declared.faults.SeqFault.{SeqFault}
 use Rattle.lift_sequence.specs.declared.faults.SeqCode.{SeqCode}
-use Rattle.lift_sequence.specs.Aboard.{Aboard, held, with_cell, with_tank, container_of, moved}
+use Rattle.lift_sequence.specs.Aboard.{Aboard, cargo_in, with_cell, with_tank, container_of, after_step}
 use Rattle.lift_sequence.specs.Arrival.{with_items, with_fills, items_fault, fills_fault, fault_at}
 use Rattle.lift_sequence.specs.declared.operations.Op.{Op}
 use Rattle.lift_sequence.specs.Bodies.{steps_of}
@@ -28,7 +28,7 @@ pub same : (a b : Aboard) → ((cell : Cell) → a.cells cell ≡ b.cells cell) 
 same a b h k = λ i. record { cells = λ cell. h cell i; tanks = λ tank. k tank i }
 
 -- tables whose entries are as they were hold what they held
-pub unchanged : (s t : Stowage) → t.cells.entries ≡ s.cells.entries → t.tanks.entries ≡ s.tanks.entries → held t ≡ held s
+pub unchanged : (s t : Stowage) → t.cells.entries ≡ s.cells.entries → t.tanks.entries ≡ s.tanks.entries → cargo_in t ≡ cargo_in s
 unchanged s t h k = λ i. record { cells = λ cell. lookup (cell_eq cell) (h i); tanks = λ tank. lookup (nat_eq tank) (k i) }
 
 -- a container that is put back where it was
@@ -107,14 +107,14 @@ module _ (ship : ProfileRecord) where
   fills_pass xs i n x all inside at so_far legal = so_far ∙ ap (fills_fault ship (n + 1)) (front xs i x inside at) ∙ passed (n + 1) _ _ legal
 
   pub items_pass : (now next : Aboard) (xs : List Item) (i n : ℕ) (x : Item) (all : Option SeqFault) → i < length xs → x ≡ get_or xs i x
-      → all ≡ items_fault ship now (n + 1) (drop i xs) → stand_fault ship now.cells x.cell ≡ None → next ≡ with_cell now x.cell (Some (container_of x))
+      → all ≡ items_fault ship now (n + 1) (drop i xs) → stand_fault ship now x.cell ≡ None → next ≡ with_cell now x.cell (Some (container_of x))
       → all ≡ items_fault ship next (n + 1 + 1) (drop (i + 1) xs)
   items_pass now next xs i n x all inside at so_far legal moves =
       so_far ∙ ap (items_fault ship now (n + 1)) (front xs i x inside at) ∙ passed (n + 1) _ _ legal
       ∙ ap (λ (a : Aboard). items_fault ship a (n + 1 + 1) (drop (i + 1) xs)) (sym moves)
 
   pub items_stop : (now : Aboard) (xs : List Item) (i n : ℕ) (x : Item) (all : Option SeqFault) (e : SeqCode) → i < length xs → x ≡ get_or xs i x
-      → all ≡ items_fault ship now (n + 1) (drop i xs) → stand_fault ship now.cells x.cell ≡ Some e → all ≡ Some (fault_at (n + 1) e)
+      → all ≡ items_fault ship now (n + 1) (drop i xs) → stand_fault ship now x.cell ≡ Some e → all ≡ Some (fault_at (n + 1) e)
   items_stop now xs i n x all e inside at so_far fault = so_far ∙ ap (items_fault ship now (n + 1)) (front xs i x inside at) ∙ stopped (n + 1) _ e _ fault
 
 -- a restow that can be done, and one that can't
@@ -127,10 +127,10 @@ restow_refused a b e h k = rw (h, k) refl
 -- each order is one step
 pub as_many : (ship : ProfileRecord) (at : Aboard) (ops : List Op) → length (steps_of ship at ops) ≡ length ops
 as_many ship at [] = refl
-as_many ship at (op ∷ ops) = ap (λ n. suc n) (as_many ship (moved ship at op) ops)
+as_many ship at (op ∷ ops) = ap (λ n. suc n) (as_many ship (after_step ship at op) ops)
 
 -- step k is what op k does to what is aboard after those before it
 pub each_step : (ship : ProfileRecord) (at : Aboard) (ops : List Op) → AreSteps ship at ops (steps_of ship at ops)
 each_step ship at [] k = refl
 each_step ship at (op ∷ ops) zero = refl
-each_step ship at (op ∷ ops) (suc k) = each_step ship (moved ship at op) ops k
+each_step ship at (op ∷ ops) (suc k) = each_step ship (after_step ship at op) ops k

@@ -2,7 +2,7 @@
 use Rattle.std.proofs.Common.{◌≡◌, List, [], ◌∷◌, ◌++◌, map, flat_map, length, Option, None, Some, Bool, true, false, cond, ℤ, pos, ◌+ℤ◌, refl, sym, ap, ◌∙◌, subst, arith}
 use Rattle.std.specs.Prelude.{find}
 use Rattle.std.specs.List.{IsDistinct, AllByRecursion}
-use Rattle.std.specs.Map.{keys_of, lookup, update}
+use Rattle.std.specs.Map.{update}
 use Rattle.std.proofs.lemmas.Int.{ints}
 use Rattle.lift_sequence.specs.Totals.{total}
 
@@ -78,26 +78,3 @@ module _ {E K V B : Type 0} (key : E → K) (eq : K → K → Bool) (same : (a b
   one_more f at k v es free apart =
       let both = changed f at k (Some v) es apart in
       omega (arith, ints, both, ap (total f) (nothing_given (element es k) (at k) free), ap (total f) (given_is (element es k) v))
-
-  absent : (k : K) (es : List (K × V)) → AllByRecursion (λ y. eq k y ≡ false) (keys_of es) → lookup (eq k) es ≡ None
-  absent k [] apart = refl
-  absent k (e ∷ es) apart = ap (λ b. cond b (Some e.1) (lookup (eq k) es)) apart.0 ∙ absent k es apart.1
-
-  -- a list of what stands where, in any order, adds up to what the table's elements give
-  pub listed : (f : B → ℤ) → ((a b : K) → eq a b ≡ eq b a) → (table : List E) → IsDistinct eq (map key table) → (es : List (K × V)) → IsDistinct eq (keys_of es)
-      → total f (rows (λ q. lookup (eq q) es) table) ≡ total f (flat_map (λ (e : K × V). given (element table e.0) e.1) es)
-  unfolding IsDistinct
-  listed f turn table tidy [] apart = ap (total f) (empty_rows table)
-  listed f turn table tidy (e ∷ es) apart =
-      let at : K → Option V = λ q. lookup (eq q) es in
-      let is : ◌≡◌ {A = K → Option V} (λ q. lookup (eq q) (e ∷ es)) (update eq at e.0 (Some e.1)) = λ i q. cond (turn q e.0 i) (Some e.1) (lookup (eq q) es) in
-      let one = one_more f at e.0 e.1 table (absent e.0 es apart.0) tidy in
-      let rest = listed f turn table tidy es apart.1 in
-      omega (
-        arith,
-        ints,
-        ap (λ v. total f (rows v table)) is,
-        one,
-        rest,
-        total-append f (given (element table e.0) e.1) (flat_map (λ (e : K × V). given (element table e.0) e.1) es),
-      )

@@ -21,8 +21,8 @@ abbrev pub nothing : Aboard
 nothing = record { cells = λ cell. None; tanks = λ tank. None }
 
 -- what the code's tables hold
-abbrev pub held : Stowage → Aboard
-held s = record { cells = get cell_eq s.cells; tanks = get nat_eq s.tanks }
+abbrev pub cargo_in : Stowage → Aboard
+cargo_in s = record { cells = get cell_eq s.cells; tanks = get nat_eq s.tanks }
 
 abbrev pub container_of : Item → Container
 container_of item = record { id = item.id; kg = item.kg }
@@ -35,15 +35,22 @@ abbrev pub with_tank : Aboard → Option ℕ → ℕ → Aboard
 with_tank at None kg = at
 with_tank at (Some tank) kg = record { cells = at.cells; tanks = update nat_eq at.tanks tank (Some kg) }
 
+-- with an item in its cell, and with what stands in one cell in another
+abbrev pub with_item : Aboard → Item → Aboard
+with_item at item = with_cell at item.cell (Some (container_of item))
+
+abbrev pub with_restow : Aboard → Cell → Cell → Aboard
+with_restow at from to = with_cell (with_cell at from None) to (at.cells from)
+
 -- What is aboard after a step: a load puts its container into its cell, a discharge empties its cell, a fill leaves so many kg in its
 -- tank, and a restow takes what stands in the one cell to the other.
-abbrev pub moved : ProfileRecord → Aboard → operation.Op → Aboard
-moved ship at (Lift (Load item)) = with_cell at item.cell (Some (container_of item))
-moved ship at (Lift (Discharge cell id)) = with_cell at cell None
-moved ship at (Fill name kg) = with_tank at (tank_of ship name.items) kg
-moved ship at (Restow from to id) = with_cell (with_cell at from None) to (at.cells from)
+abbrev pub after_step : ProfileRecord → Aboard → operation.Op → Aboard
+after_step ship at (Lift (Load item)) = with_item at item
+after_step ship at (Lift (Discharge cell id)) = with_cell at cell None
+after_step ship at (Fill name kg) = with_tank at (tank_of ship name.items) kg
+after_step ship at (Restow from to id) = with_restow at from to
 
 -- what is aboard after some steps, one after another
 abbrev pub after_all : ProfileRecord → Aboard → List operation.Op → Aboard
 after_all ship at [] = at
-after_all ship at (op ∷ more) = after_all ship (moved ship at op) more
+after_all ship at (op ∷ more) = after_all ship (after_step ship at op) more

@@ -1,20 +1,23 @@
 -- What is aboard on arrival: the items of the bay plan, in their order, and then the fills of the ship's tanks.
-use Rattle.std.specs.Prelude.{ℕ, ◌+◌, List, [], ◌∷◌, ◌++◌, Option, None, Some, option_map, filter_map}
+use Rattle.std.specs.Prelude.{◌≡◌, ◌≢◌, ℕ, ◌+◌, ℤ, nat_eq, List, [], ◌∷◌, ◌++◌, map, Option, None, Some, option_map, filter_map}
+use Rattle.std.specs.List.{IsDistinct}
 use Rattle.std.specs.Option.{option_or}
 use Rattle.units_core.specs.Bodies.{Mass}
 use Rattle.stow_messages.specs.declared.items.Item.{Item}
 use Rattle.ship_profile.specs.declared.fills.TankFill.{TankFill}
-use Rattle.ship_profile.specs.Record.{ProfileRecord, place_of, tank_body}
+use Rattle.ship_profile.specs.Record.{ProfileRecord}
 use Rattle.lift_sequence.specs.declared.faults.SeqCode.{SeqCode}
+use Rattle.lift_sequence.specs.declared.faults.SeqCode.TheVariants.{NoMemory}
 use Rattle.lift_sequence.specs.declared.faults.SeqFault.{SeqFault}
-use Rattle.lift_sequence.specs.Aboard.{Aboard, nothing, container_of, with_cell, with_tank}
-use Rattle.lift_sequence.specs.Bodies.{body_in}
+use Rattle.lift_sequence.specs.Aboard.{Aboard, nothing, with_item, with_tank}
+use Rattle.lift_sequence.specs.Bodies.{bodies, fill_body, item_body}
 use Rattle.lift_sequence.specs.Legal.{stand_fault, over_fault}
+use Rattle.lift_sequence.specs.Totals.{total}
 
 -- what is aboard once the items stand in their cells, and the tanks are filled
 abbrev pub with_items : Aboard → List Item → Aboard
 with_items at [] = at
-with_items at (item ∷ more) = with_items (with_cell at item.cell (Some (container_of item))) more
+with_items at (item ∷ more) = with_items (with_item at item) more
 
 abbrev pub with_fills : Aboard → List TankFill → Aboard
 with_fills at [] = at
@@ -31,25 +34,46 @@ fault_at number code = record { code = code; at = number }
 abbrev pub items_fault : ProfileRecord → Aboard → ℕ → List Item → Option SeqFault
 items_fault ship at number [] = None
 items_fault ship at number (item ∷ more) =
-    option_or (option_map (fault_at number) (stand_fault ship at.cells item.cell))
-    (items_fault ship (with_cell at item.cell (Some (container_of item))) (number + 1) more)
+    option_or (option_map (fault_at number) (stand_fault ship at item.cell))
+    (items_fault ship (with_item at item) (number + 1) more)
 
 abbrev pub fills_fault : ProfileRecord → ℕ → List TankFill → Option SeqFault
 fills_fault ship number [] = None
 fills_fault ship number (fill ∷ more) =
-    option_or (option_map (fault_at number) (over_fault (tank_body ship fill.tank fill.kg))) (fills_fault ship (number + 1) more)
+    option_or (option_map (fault_at number) (over_fault (fill_body ship fill))) (fills_fault ship (number + 1) more)
 
 abbrev pub arrival_fault : ProfileRecord → List Item → List TankFill → Option SeqFault
 arrival_fault ship items fills = option_or (items_fault ship nothing 1 items) (fills_fault ship 1 fills)
 
+-- a refusal tells the fault, unless it is for want of memory
+abbrev pub TellsAt : Option SeqFault → SeqFault → Type 0
+TellsAt fault f = f.code ≢ NoMemory → fault ≡ Some f
+
+-- the bodies of items and of fills
+abbrev pub item_bodies : ProfileRecord → List Item → List Mass
+item_bodies ship items = filter_map (item_body ship) items
+
+abbrev pub fill_bodies : ProfileRecord → List TankFill → List Mass
+fill_bodies ship fills = filter_map (fill_body ship) fills
+
 -- the bodies aboard, one by one: the blocks, the fillings, the items
 abbrev pub arrival_bodies : ProfileRecord → List Item → List TankFill → List Mass
-arrival_bodies ship items fills =
-    ship.ship.blocks ++ (filter_map (λ fill. tank_body ship fill.tank fill.kg) fills
-    ++ filter_map (λ item. body_in (place_of ship item.cell) (Some (container_of item))) items)
+arrival_bodies ship items fills = ship.ship.blocks ++ (fill_bodies ship fills ++ item_bodies ship items)
+
+-- no tank is filled twice
+abbrev pub AreFilledOnce : List TankFill → Type 0
+AreFilledOnce fills = IsDistinct nat_eq (map (λ fill. fill.tank) fills)
+
+-- bodies add up, in every value, to those of what is aboard
+abbrev pub AddUpTo : ProfileRecord → Aboard → List Mass → Type 0
+AddUpTo ship at listed = (f : Mass → ℤ) → total f listed ≡ total f (bodies ship at)
 
 -- what an arrival is
 pub record ArrivalRecord : Type 0 where
   pub items : List Item
   pub fills : List TankFill
   pub bodies : List Mass
+
+-- what is aboard on it
+abbrev pub cargo_on : ArrivalRecord → Aboard
+cargo_on arrival = on_arrival arrival.items arrival.fills

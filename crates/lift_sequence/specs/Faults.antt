@@ -4,21 +4,22 @@ use Rattle.std.specs.Prelude.{◌≡◌, ◌⊎◌, ℕ, zero, suc, ◌<◌, ◌
 use Rattle.std.specs.Option.{option_and_then}
 use Rattle.stow_messages.specs.declared.items.Item.{Item}
 use Rattle.ship_profile.specs.declared.fills.TankFill.{TankFill}
-use Rattle.ship_profile.specs.Record.{ProfileRecord, tank_body}
+use Rattle.ship_profile.specs.Record.{ProfileRecord}
 use Rattle.lift_sequence.specs.declared.faults.SeqCode.{SeqCode}
 use Rattle.lift_sequence.specs.declared.faults.SeqCode.TheVariants.{TooManySteps}
 use Rattle.lift_sequence.specs.declared.faults.SeqFault.{SeqFault}
 use Rattle.lift_sequence.specs.declared.operations.Op.{Op}
 use Rattle.lift_sequence.specs.Aboard.{Aboard, after_all, nothing}
 use Rattle.lift_sequence.specs.Arrival.{with_items}
+use Rattle.lift_sequence.specs.Bodies.{fill_body}
 use Rattle.lift_sequence.specs.Legal.{fault_of, over_fault, stand_fault}
 
 -- what is wrong with an item where those before it stand in their cells, with a fill of a tank, and with a step after those before it
 abbrev pub fault_of_item : ProfileRecord → List Item → Item → Option SeqCode
-fault_of_item ship before item = stand_fault ship (with_items nothing before).cells item.cell
+fault_of_item ship before item = stand_fault ship (with_items nothing before) item.cell
 
 abbrev pub fault_of_fill : ProfileRecord → List TankFill → TankFill → Option SeqCode
-fault_of_fill ship before fill = over_fault (tank_body ship fill.tank fill.kg)
+fault_of_fill ship before fill = over_fault (fill_body ship fill)
 
 abbrev pub fault_of_step : ProfileRecord → Aboard → List Op → Op → Option SeqCode
 fault_of_step ship at before op = fault_of ship (after_all ship at before) op

@@ -1,5 +1,5 @@
 -- What is aboard has its place in the ship, and how many bodies that makes.
-use Rattle.std.specs.Prelude.{◌≡◌, ◌≤◌, ℕ, List, All, length, Option, Some, true}
+use Rattle.std.specs.Prelude.{◌≡◌, ◌≤◌, ℕ, List, length, Some, true}
 use Rattle.std.specs.List.{filter, range_with_len}
 use Rattle.std.specs.Map.{keys_of}
 use Rattle.std.specs.Option.{is_some}

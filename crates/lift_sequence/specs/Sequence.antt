@@ -11,7 +11,7 @@ use Rattle.lift_sequence.specs.declared.operations.Op as operation
 use Rattle.lift_sequence.specs.declared.operations.Op.TheVariants.{Lift, Fill, Restow}
 use Rattle.lift_sequence.specs.declared.steps.Step.{Step}
 use Rattle.units_core.specs.Bodies.{Mass}
-use Rattle.lift_sequence.specs.Aboard.{Aboard, after_all, moved}
+use Rattle.lift_sequence.specs.Aboard.{Aboard, after_all, after_step}
 use Rattle.lift_sequence.specs.Arrival.{ArrivalRecord, arrival_fault, arrival_bodies, fault_at}
 use Rattle.lift_sequence.specs.Bodies.{bodies, step_of}
 use Rattle.lift_sequence.specs.Legal.{fault_of}
@@ -37,7 +37,7 @@ ops_of lifts (Some rows) = filter_map (op_of lifts) rows
 abbrev pub first_fault : ProfileRecord → Aboard → ℕ → List operation.Op → Option SeqFault
 first_fault ship at number [] = None
 first_fault ship at number (op ∷ more) =
-    option_or (option_map (fault_at number) (fault_of ship at op)) (first_fault ship (moved ship at op) (number + 1) more)
+    option_or (option_map (fault_at number) (fault_of ship at op)) (first_fault ship (after_step ship at op) (number + 1) more)
 
 -- a sequence has at most 120,000 steps
 abbrev pub sequence_fault : ProfileRecord → Aboard → List operation.Op → Option SeqFault

@@ -1,13 +1,10 @@
-ghost use Rattle.std.specs.Prelude.{◌≡◌, ◌≢◌, ◌≤◌, ◌^◌, ◌++◌, ℤ, [], length, map, filter_map, nat_eq, OnOk, IfOk, IfErr, Some, None};
-ghost use Rattle.std.specs.List.{IsDistinct};
-ghost use Rattle.units_core.specs.Bodies.{Mass};
-ghost use Rattle.ship_profile.specs.Record.{IsSound, place_of, tank_body};
-ghost use Rattle.lift_sequence.specs.Aboard.{held, nothing, with_cell, container_of};
-ghost use Rattle.lift_sequence.specs.Arrival.{arrival_bodies, arrival_fault, fills_fault, items_fault, with_items, with_fills, on_arrival};
-ghost use Rattle.lift_sequence.specs.Bodies.{bodies, body_in};
-ghost use Rattle.lift_sequence.specs.Legal.{stand_fault};
+ghost use Rattle.std.specs.Prelude.{◌≡◌, ◌≤◌, ◌++◌, [], length, OnOk, IfOk, IfErr, Some, None};
+ghost use Rattle.ship_profile.specs.Record.{IsSound};
+ghost use Rattle.lift_sequence.specs.Aboard.{cargo_in, nothing, with_item, container_of};
+ghost use Rattle.lift_sequence.specs.Arrival.{AddUpTo, AreFilledOnce, TellsAt, arrival_bodies, arrival_fault, cargo_on, fill_bodies, fills_fault, item_bodies, items_fault, on_arrival, with_fills, with_items};
+ghost use Rattle.lift_sequence.specs.Bodies.{item_body};
+ghost use Rattle.lift_sequence.specs.Legal.{Tells, stand_fault};
 ghost use Rattle.lift_sequence.specs.Sequence.{IsOf};
-ghost use Rattle.lift_sequence.specs.Totals.{total};
 
 use crate::containers::container_of;
 use crate::faults::{NO_MEMORY, SeqCode, SeqFault, fault_at};
@@ -36,10 +33,13 @@ impl Model for Arrival {
 
 /// Puts an item aboard, where it can stand.
 fn stow_item(stowage: &mut Stowage, profile: &Profile, item: &Item) -> Result<Body, SeqCode>
-    ensures legal { OnOk result (stand_fault profile.now (held stowage.old).cells item.now.cell ≡ None) }
-    ensures moved { OnOk result (held stowage.new ≡ with_cell (held stowage.old) item.now.cell (Some (container_of item.now))) }
-    ensures body { IfOk result (λ b. body_in (place_of profile.now item.now.cell) (Some (container_of item.now)) ≡ Some b) }
-    ensures refused { IfErr result (λ e. e ≢ SeqCode.NoMemory → stand_fault profile.now (held stowage.old).cells item.now.cell ≡ Some e) }
+    ensures legal { OnOk result
+        (stand_fault profile.now (cargo_in stowage.old) item.now.cell ≡ None) }
+    ensures aboard { OnOk result
+        (cargo_in stowage.new ≡ with_item (cargo_in stowage.old) item.now) }
+    ensures body { IfOk result (λ b. item_body profile.now item.now ≡ Some b) }
+    ensures refused { IfErr result
+        (Tells (stand_fault profile.now (cargo_in stowage.old) item.now.cell)) }
 {
     stowage.stow(profile, item.cell, container_of(item))
 }
@@ -52,12 +52,12 @@ fn stow_items(
     bodies: &mut Vec<Body>,
 ) -> Result<(), SeqFault>
     requires sound { IsSound profile.now }
-    requires nothing { held stowage.old ≡ nothing }
+    requires nothing { cargo_in stowage.old ≡ nothing }
     requires none { bodies.old.items ≡ [] }
     ensures legal { OnOk result (items_fault profile.now nothing 1 items.now ≡ None) }
-    ensures bodies { OnOk result (bodies.new.items ≡ filter_map (λ item. body_in (place_of profile.now item.cell) (Some (container_of item))) items.now) }
+    ensures bodies { OnOk result (bodies.new.items ≡ item_bodies profile.now items.now) }
     ensures few { OnOk result (length items.now ≤ 30000) }
-    ensures refused { IfErr result (λ e. e.code ≢ SeqCode.NoMemory → items_fault profile.now nothing 1 items.now ≡ Some e) }
+    ensures refused { IfErr result (TellsAt (items_fault profile.now nothing 1 items.now)) }
     ensures memory { IfErr result (λ e. e.code ≡ SeqCode.NoMemory → e.at ≡ 0) }
 {
     let mut number = 0;
@@ -78,9 +78,9 @@ fn stow_items(
 fn item_bodies(alloc: Global, profile: &Profile, items: &[Item]) -> Result<Vec<Body>, SeqFault>
     requires { IsSound profile.now }
     ensures legal { OnOk result (items_fault profile.now nothing 1 items.now ≡ None) }
-    ensures bodies { IfOk result (λ b. b.items ≡ filter_map (λ item. body_in (place_of profile.now item.cell) (Some (container_of item))) items.now) }
+    ensures bodies { IfOk result (λ b. b.items ≡ item_bodies profile.now items.now) }
     ensures few { OnOk result (length items.now ≤ 30000) }
-    ensures refused { IfErr result (λ e. e.code ≢ SeqCode.NoMemory → items_fault profile.now nothing 1 items.now ≡ Some e) }
+    ensures refused { IfErr result (TellsAt (items_fault profile.now nothing 1 items.now)) }
     ensures memory { IfErr result (λ e. e.code ≡ SeqCode.NoMemory → e.at ≡ 0) }
 {
     let mut stowage = Stowage::empty(alloc);
@@ -93,8 +93,8 @@ fn item_bodies(alloc: Global, profile: &Profile, items: &[Item]) -> Result<Vec<B
 fn fill_bodies(alloc: Global, profile: &Profile, fills: &[TankFill]) -> Result<Vec<Body>, SeqFault>
     requires { length fills.now ≤ 200 }
     ensures legal { OnOk result (fills_fault profile.now 1 fills.now ≡ None) }
-    ensures bodies { IfOk result (λ b. b.items ≡ filter_map (λ fill. tank_body profile.now fill.tank fill.kg) fills.now) }
-    ensures refused { IfErr result (λ e. e.code ≢ SeqCode.NoMemory → fills_fault profile.now 1 fills.now ≡ Some e) }
+    ensures bodies { IfOk result (λ b. b.items ≡ fill_bodies profile.now fills.now) }
+    ensures refused { IfErr result (TellsAt (fills_fault profile.now 1 fills.now)) }
     ensures memory { IfErr result (λ e. e.code ≡ SeqCode.NoMemory → e.at ≡ 0) }
 {
     let mut bodies = Vec::new(alloc);
@@ -141,12 +141,13 @@ impl Arrival {
         ensures legal { OnOk result (arrival_fault profile.now items.items fills.now ≡ None) }
         ensures items { IfOk result (λ a. a.items ≡ items.items) }
         ensures fills { IfOk result (λ a. a.fills ≡ fills.now) }
-        ensures bodies { IfOk result (λ a. a.bodies ≡ arrival_bodies profile.now items.items fills.now) }
+        ensures bodies { IfOk result (λ a.
+            a.bodies ≡ arrival_bodies profile.now items.items fills.now) }
         ensures few { IfOk result (λ a. length a.bodies ≤ 30400) }
         ensures of { IfOk result (λ a. IsOf profile.now a) }
-        ensures sums { IfOk result (λ a. IsDistinct nat_eq (map (λ fill. fill.tank) fills.now) → (f : Mass → ℤ)
-            → total f a.bodies ≡ total f (bodies profile.now (on_arrival items.items fills.now))) }
-        ensures refused { IfErr result (λ e. e.code ≢ SeqCode.NoMemory → arrival_fault profile.now items.items fills.now ≡ Some e) }
+        ensures sums { IfOk result (λ a. AreFilledOnce fills.now →
+            AddUpTo profile.now (on_arrival items.items fills.now) a.bodies) }
+        ensures refused { IfErr result (TellsAt (arrival_fault profile.now items.items fills.now)) }
         ensures memory { IfErr result (λ e. e.code ≡ SeqCode.NoMemory → e.at ≡ 0) }
     {
         let blocks = profile.blocks();
@@ -174,7 +175,7 @@ impl Arrival {
 
     /// What is aboard, to go on from.
     pub(crate) fn stowage(&self, alloc: Global) -> Result<Stowage, AllocError>
-        ensures { IfOk result (λ s. held s ≡ on_arrival self.now.items self.now.fills) }
+        ensures { IfOk result (λ s. cargo_in s ≡ cargo_on self.now) }
     {
         let mut stowage = Stowage::empty(alloc);
         stow_all(&mut stowage, &self.items)?;
@@ -185,7 +186,7 @@ impl Arrival {
 
 /// Puts items into their cells.
 fn stow_all(stowage: &mut Stowage, items: &[Item]) -> Result<(), AllocError>
-    ensures { OnOk result (held stowage.new ≡ with_items (held stowage.old) items.now) }
+    ensures { OnOk result (cargo_in stowage.new ≡ with_items (cargo_in stowage.old) items.now) }
 {
     for item in items {
         stowage.cells.insert(item.cell, container_of(item))?;
@@ -195,7 +196,7 @@ fn stow_all(stowage: &mut Stowage, items: &[Item]) -> Result<(), AllocError>
 
 /// Puts fills into their tanks.
 fn fill_all(stowage: &mut Stowage, fills: &[TankFill]) -> Result<(), AllocError>
-    ensures { OnOk result (held stowage.new ≡ with_fills (held stowage.old) fills.now) }
+    ensures { OnOk result (cargo_in stowage.new ≡ with_fills (cargo_in stowage.old) fills.now) }
 {
     for fill in fills {
         stowage.tanks.insert(fill.tank, fill.kg)?;

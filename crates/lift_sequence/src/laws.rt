@@ -22,8 +22,9 @@ ghost use Rattle.lift_sequence.specs.Sequence.{ops_of, sequence_fault};
 /// An arrival has one answer: nothing is wrong with it, or it has a fault, and one only. What is so by the definitions
 /// (`specs/Faults.antt`) is what [`Arrival::new`](crate::Arrival::new) answers.
 pub fn arrivals_have_one_answer()
-    ensures fault { (ship : ProfileRecord) (items : List Item) (fills : List TankFill) (f : SeqFault) →
-        IsArrivalFault ship items fills f → arrival_fault ship items fills ≡ Some f }
+    ensures fault { (ship : ProfileRecord) (items : List Item) (fills : List TankFill)
+        (f : SeqFault) → IsArrivalFault ship items fills f →
+        arrival_fault ship items fills ≡ Some f }
     ensures legal { (ship : ProfileRecord) (items : List Item) (fills : List TankFill) →
         IsLegalArrival ship items fills → arrival_fault ship items fills ≡ None }
     ensures either { (ship : ProfileRecord) (items : List Item) (fills : List TankFill) →
@@ -60,8 +61,9 @@ pub fn overlaps_are_least()
 pub fn cargo_has_places()
     ensures arrival { (ship : ProfileRecord) (items : List Item) (fills : List TankFill) →
         arrival_fault ship items fills ≡ None → HasPlaces ship (on_arrival items fills) }
-    ensures steps { (ship : ProfileRecord) (at : Aboard) (ops : List Op) (k : ℕ) → HasPlaces ship at →
-        sequence_fault ship at ops ≡ None → HasPlaces ship (after_all ship at (take k ops)) }
+    ensures steps { (ship : ProfileRecord) (at : Aboard) (ops : List Op) (k : ℕ) →
+        HasPlaces ship at → sequence_fault ship at ops ≡ None →
+        HasPlaces ship (after_all ship at (take k ops)) }
     ensures emptied { (ship : ProfileRecord) (at : Aboard) (cell : Cell) →
         HasPlaces ship at → HasPlaces ship (with_cell at cell None) }
 {}

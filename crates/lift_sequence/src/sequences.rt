@@ -1,6 +1,6 @@
-ghost use Rattle.std.specs.Prelude.{◌≡◌, ◌≢◌, ◌≤◌, ◌<◌, ◌-◌, ◌++◌, ◌∷◌, [], length, slice_get, option_map, OnOk, IfOk, IfErr, Some, None};
-ghost use Rattle.lift_sequence.specs.Arrival.{fault_at, on_arrival};
-ghost use Rattle.lift_sequence.specs.Aboard.{held, moved};
+ghost use Rattle.std.specs.Prelude.{◌≡◌, ◌≤◌, ◌<◌, ◌-◌, ◌++◌, ◌∷◌, [], length, slice_get, option_map, OnOk, IfOk, IfErr, Some, None};
+ghost use Rattle.lift_sequence.specs.Arrival.{TellsAt, cargo_on, fault_at};
+ghost use Rattle.lift_sequence.specs.Aboard.{cargo_in, after_step};
 ghost use Rattle.lift_sequence.specs.Bodies.{step_of, steps_of};
 ghost use Rattle.lift_sequence.specs.Legal.{fault_of};
 ghost use Rattle.lift_sequence.specs.Sequence.{AreSteps, IsOf, StepsAddUp, first_fault, sequence_fault};
@@ -43,15 +43,18 @@ fn make_all(
     ops: &[Op],
 ) -> Result<Vec<Step>, SeqFault>
     requires { length ops.now ≤ 120000 }
-    ensures legal { OnOk result (first_fault profile.now (held stowage.old) 1 ops.now ≡ None) }
-    ensures steps { IfOk result (λ s. s.items ≡ steps_of profile.now (held stowage.old) ops.now) }
-    ensures refused { IfErr result (λ e. e.code ≢ SeqCode.NoMemory → first_fault profile.now (held stowage.old) 1 ops.now ≡ Some e) }
+    ensures legal { OnOk result (first_fault profile.now (cargo_in stowage.old) 1 ops.now ≡ None) }
+    ensures steps { IfOk result (λ s.
+        s.items ≡ steps_of profile.now (cargo_in stowage.old) ops.now) }
+    ensures refused { IfErr result
+        (TellsAt (first_fault profile.now (cargo_in stowage.old) 1 ops.now)) }
     ensures memory { IfErr result (λ e. e.code ≡ SeqCode.NoMemory → e.at ≡ 0) }
 {
     let mut steps = Vec::new(alloc);
     let mut number = 0;
     for op in ops {
         number += 1;
+        // moved whole, it isn't covered
         let Step { out, put } = match stowage.make(profile, op) {
             Ok(step) => step,
             Err(code) => return Err(fault_at(number, code)),
@@ -76,14 +79,18 @@ impl Sequence {
         ops: Vec<Op>,
     ) -> Result<Sequence, SeqFault>
         requires { IsOf profile.now arrival.now }
-        ensures legal { OnOk result (sequence_fault profile.now (on_arrival arrival.now.items arrival.now.fills) ops.items ≡ None) }
+        ensures legal { OnOk result
+            (sequence_fault profile.now (cargo_on arrival.now) ops.items ≡ None) }
         ensures ops { IfOk result (λ s. s.ops ≡ ops.items) }
         ensures few { IfOk result (λ s. length s.ops ≤ 120000) }
-        ensures steps { IfOk result (λ s. s.steps ≡ steps_of profile.now (on_arrival arrival.now.items arrival.now.fills) ops.items) }
-        ensures each { IfOk result (λ s. AreSteps profile.now (on_arrival arrival.now.items arrival.now.fills) ops.items s.steps) }
-        ensures sums { IfOk result (λ s. StepsAddUp profile.now (on_arrival arrival.now.items arrival.now.fills) ops.items s.steps) }
-        ensures refused { IfErr result (λ e. e.code ≢ SeqCode.NoMemory →
-            sequence_fault profile.now (on_arrival arrival.now.items arrival.now.fills) ops.items ≡ Some e) }
+        ensures steps { IfOk result (λ s.
+            s.steps ≡ steps_of profile.now (cargo_on arrival.now) ops.items) }
+        ensures each { IfOk result (λ s.
+            AreSteps profile.now (cargo_on arrival.now) ops.items s.steps) }
+        ensures sums { IfOk result (λ s.
+            StepsAddUp profile.now (cargo_on arrival.now) ops.items s.steps) }
+        ensures refused { IfErr result (TellsAt
+            (sequence_fault profile.now (cargo_on arrival.now) ops.items)) }
         ensures memory { IfErr result (λ e. e.code ≡ SeqCode.NoMemory → e.at ≡ 0) }
     {
         if ops.len() > MAX_STEPS {

@@ -1,10 +1,10 @@
-ghost use Rattle.std.specs.Prelude.{◌≡◌, ◌≢◌, ◌<◌, ◌≤◌, OnOk, OnErr, IfOk, IfErr, Some, None, pos};
-ghost use Rattle.std.specs.Option.{is_some, option_or};
+ghost use Rattle.std.specs.Prelude.{◌≡◌, ◌<◌, ◌≤◌, OnOk, OnErr, IfOk, IfErr, Some, None, pos};
+ghost use Rattle.std.specs.Option.{is_some};
 ghost use Rattle.indexmap.specs.IndexMap.{spare};
 ghost use Rattle.ship_profile.specs.Record.{place_of, tank_of};
-ghost use Rattle.lift_sequence.specs.Aboard.{held, moved, nothing, with_cell, with_tank};
-ghost use Rattle.lift_sequence.specs.Bodies.{body_of, body_in, filling_step, step_of};
-ghost use Rattle.lift_sequence.specs.Legal.{fault_of, fill_fault, in_bay, is_rival, overlap, stand_fault, take_fault};
+ghost use Rattle.lift_sequence.specs.Aboard.{after_step, cargo_in, nothing, with_cell, with_restow, with_tank};
+ghost use Rattle.lift_sequence.specs.Bodies.{body_of, body_in, cell_body, filling_step, restow_step, step_of};
+ghost use Rattle.lift_sequence.specs.Legal.{Tells, fault_of, fill_fault, in_bay, is_rival, overlap, restow_fault, stand_fault, take_fault};
 
 use crate::containers::{Container, container_of, differ};
 use crate::faults::SeqCode;
@@ -47,7 +47,7 @@ fn body_of(place: Place, kg: Kg) -> Body
 impl Stowage {
     /// Nothing is aboard.
     pub(crate) fn empty(alloc: Global) -> Stowage
-        ensures { held result ≡ nothing }
+        ensures { cargo_in result ≡ nothing }
     {
         Stowage {
             cells: IndexMap::new(alloc),
@@ -57,7 +57,7 @@ impl Stowage {
 
     /// Whether the cell of another bay is taken, and wants the room of a cell.
     fn is_rival(&self, cell: Cell, bay: u16) -> bool
-        ensures { result ≡ is_rival (held self.now).cells cell bay }
+        ensures { result ≡ is_rival (cargo_in self.now).cells cell bay }
     {
         let other = in_bay(cell, bay);
         self.cells.contains_key(&other) && conflicts(other, cell)
@@ -65,7 +65,7 @@ impl Stowage {
 
     /// The taken cell that wants the room of a cell, the one of least bay: no bay that is more than two away does.
     fn overlap(&self, cell: Cell) -> Option<Cell>
-        ensures { result ≡ overlap (held self.now).cells cell }
+        ensures { result ≡ overlap (cargo_in self.now).cells cell }
     {
         let first = cell.bay.saturating_sub(2);
         let end = cell.bay.saturating_add(3).min(BAYS);
@@ -79,7 +79,7 @@ impl Stowage {
 
     /// Whether a container stands in a cell.
     fn is_taken(&self, cell: Cell) -> bool
-        ensures { result ≡ is_some ((held self.now).cells cell) }
+        ensures { result ≡ is_some ((cargo_in self.now).cells cell) }
     {
         self.cells.contains_key(&cell)
     }
@@ -87,8 +87,9 @@ impl Stowage {
     /// The place of a cell into which a container can be put, or why none can.
     fn free_place(&self, profile: &Profile, cell: Cell) -> Result<Place, SeqCode>
         ensures place { IfOk result (λ p. place_of profile.now cell ≡ Some p) }
-        ensures legal { OnOk result (stand_fault profile.now (held self.now).cells cell ≡ None) }
-        ensures refused { IfErr result (λ e. stand_fault profile.now (held self.now).cells cell ≡ Some e) }
+        ensures legal { OnOk result (stand_fault profile.now (cargo_in self.now) cell ≡ None) }
+        ensures refused { IfErr result (λ e.
+            stand_fault profile.now (cargo_in self.now) cell ≡ Some e) }
     {
         let Some(place) = profile.cell(cell) else {
             return Err(SeqCode::UnknownCell);
@@ -109,11 +110,13 @@ impl Stowage {
         cell: Cell,
         container: Container,
     ) -> Result<Body, SeqCode>
-        ensures legal { OnOk result (stand_fault profile.now (held self.old).cells cell ≡ None) }
-        ensures moved { OnOk result (held self.new ≡ with_cell (held self.old) cell (Some container)) }
-        ensures body { IfOk result (λ b. body_in (place_of profile.now cell) (Some container) ≡ Some b) }
-        ensures refused { IfErr result (λ e. e ≢ SeqCode.NoMemory → stand_fault profile.now (held self.old).cells cell ≡ Some e) }
-        ensures same { OnErr result (held self.new ≡ held self.old) }
+        ensures legal { OnOk result (stand_fault profile.now (cargo_in self.old) cell ≡ None) }
+        ensures aboard { OnOk result
+            (cargo_in self.new ≡ with_cell (cargo_in self.old) cell (Some container)) }
+        ensures body { IfOk result (λ b.
+            body_in (place_of profile.now cell) (Some container) ≡ Some b) }
+        ensures refused { IfErr result (Tells (stand_fault profile.now (cargo_in self.old) cell)) }
+        ensures same { OnErr result (cargo_in self.new ≡ cargo_in self.old) }
     {
         let place = self.free_place(profile, cell)?;
         let body = body_of(place, container.kg);
@@ -125,7 +128,7 @@ impl Stowage {
 
     /// Makes room in the table for one container more, so that the next one needs no memory.
     fn make_room(&mut self) -> Result<(), SeqCode>
-        ensures same { held self.new ≡ held self.old }
+        ensures same { cargo_in self.new ≡ cargo_in self.old }
         ensures room { OnOk result (0 < spare self.new.cells) }
         ensures memory { IfErr result (λ e. e ≡ SeqCode.NoMemory) }
     {
@@ -138,7 +141,7 @@ impl Stowage {
     /// Puts a container into a cell, where the table has room.
     fn put(&mut self, cell: Cell, container: Container)
         requires { 0 < spare self.old.cells }
-        ensures { held self.new ≡ with_cell (held self.old) cell (Some container) }
+        ensures { cargo_in self.new ≡ with_cell (cargo_in self.old) cell (Some container) }
     {
         match self.cells.insert(cell, container) {
             Ok(_) => {}
@@ -153,12 +156,15 @@ impl Stowage {
         cell: Cell,
         id: &[u8],
     ) -> Result<(Body, Container), SeqCode>
-        ensures legal { OnOk result (take_fault profile.now (held self.old).cells cell id.now ≡ None) }
-        ensures moved { OnOk result (held self.new ≡ with_cell (held self.old) cell None) }
-        ensures container { IfOk result (λ r. (held self.old).cells cell ≡ Some r.1) }
-        ensures body { IfOk result (λ r. body_in (place_of profile.now cell) ((held self.old).cells cell) ≡ Some r.0) }
-        ensures refused { IfErr result (λ e. take_fault profile.now (held self.old).cells cell id.now ≡ Some e) }
-        ensures same { OnErr result (held self.new ≡ held self.old) }
+        ensures legal { OnOk result
+            (take_fault profile.now (cargo_in self.old) cell id.now ≡ None) }
+        ensures aboard { OnOk result (cargo_in self.new ≡ with_cell (cargo_in self.old) cell None) }
+        ensures container { IfOk result (λ r. (cargo_in self.old).cells cell ≡ Some r.1) }
+        ensures body { IfOk result (λ r.
+            cell_body profile.now (cargo_in self.old) cell ≡ Some r.0) }
+        ensures refused { IfErr result (λ e.
+            take_fault profile.now (cargo_in self.old) cell id.now ≡ Some e) }
+        ensures same { OnErr result (cargo_in self.new ≡ cargo_in self.old) }
         ensures room { spare self.old.cells ≤ spare self.new.cells }
     {
         let Some(place) = profile.cell(cell) else {
@@ -176,11 +182,15 @@ impl Stowage {
 
     /// Leaves so many kg in a tank. Where it can't, nothing changes.
     fn fill(&mut self, profile: &Profile, name: &[u8], kg: u32) -> Result<Step, SeqCode>
-        ensures legal { OnOk result (fill_fault profile.now (tank_of profile.now name.now) kg ≡ None) }
-        ensures moved { OnOk result (held self.new ≡ with_tank (held self.old) (tank_of profile.now name.now) kg) }
-        ensures step { IfOk result (λ s. s ≡ filling_step profile.now (held self.old) (tank_of profile.now name.now) kg) }
-        ensures refused { IfErr result (λ e. e ≢ SeqCode.NoMemory → fill_fault profile.now (tank_of profile.now name.now) kg ≡ Some e) }
-        ensures same { OnErr result (held self.new ≡ held self.old) }
+        ensures legal { OnOk result
+            (fill_fault profile.now (tank_of profile.now name.now) kg ≡ None) }
+        ensures aboard { OnOk result
+            (cargo_in self.new ≡ with_tank (cargo_in self.old) (tank_of profile.now name.now) kg) }
+        ensures step { IfOk result (λ s. s
+            ≡ filling_step profile.now (cargo_in self.old) (tank_of profile.now name.now) kg) }
+        ensures refused { IfErr result
+            (Tells (fill_fault profile.now (tank_of profile.now name.now) kg)) }
+        ensures same { OnErr result (cargo_in self.new ≡ cargo_in self.old) }
     {
         let Some(tank) = profile.tank(name) else {
             return Err(SeqCode::UnknownTank);
@@ -209,16 +219,14 @@ impl Stowage {
         to: Cell,
         id: &[u8],
     ) -> Result<Step, SeqCode>
-        ensures legal { OnOk result (option_or (take_fault profile.now (held self.old).cells from id.now)
-            (stand_fault profile.now (with_cell (held self.old) from None).cells to) ≡ None) }
-        ensures moved { OnOk result (held self.new ≡ with_cell (with_cell (held self.old) from None) to ((held self.old).cells from)) }
-        ensures step { IfOk result (λ s. s ≡ record {
-          out = body_in (place_of profile.now from) ((held self.old).cells from);
-          put = body_in (place_of profile.now to) ((held self.old).cells from);
-        }) }
-        ensures refused { IfErr result (λ e. e ≢ SeqCode.NoMemory → option_or (take_fault profile.now (held self.old).cells from id.now)
-            (stand_fault profile.now (with_cell (held self.old) from None).cells to) ≡ Some e) }
-        ensures same { OnErr result (held self.new ≡ held self.old) }
+        ensures legal { OnOk result
+            (restow_fault profile.now (cargo_in self.old) from to id.now ≡ None) }
+        ensures aboard { OnOk result (cargo_in self.new ≡ with_restow (cargo_in self.old) from to) }
+        ensures step { IfOk result (λ s.
+            s ≡ restow_step profile.now (cargo_in self.old) from to) }
+        ensures refused { IfErr result
+            (Tells (restow_fault profile.now (cargo_in self.old) from to id.now)) }
+        ensures same { OnErr result (cargo_in self.new ≡ cargo_in self.old) }
     {
         self.make_room()?;
         let (out, container) = self.take(profile, from, id)?;
@@ -240,11 +248,12 @@ impl Stowage {
 
     /// Does one step, and tells the bodies that it takes out and puts in; or why it can't be done, and then nothing changes.
     pub(crate) fn make(&mut self, profile: &Profile, op: &Op) -> Result<Step, SeqCode>
-        ensures legal { OnOk result (fault_of profile.now (held self.old) op.now ≡ None) }
-        ensures moved { OnOk result (held self.new ≡ moved profile.now (held self.old) op.now) }
-        ensures step { IfOk result (λ s. s ≡ step_of profile.now (held self.old) op.now) }
-        ensures refused { IfErr result (λ e. e ≢ SeqCode.NoMemory → fault_of profile.now (held self.old) op.now ≡ Some e) }
-        ensures same { OnErr result (held self.new ≡ held self.old) }
+        ensures legal { OnOk result (fault_of profile.now (cargo_in self.old) op.now ≡ None) }
+        ensures aboard { OnOk result
+            (cargo_in self.new ≡ after_step profile.now (cargo_in self.old) op.now) }
+        ensures step { IfOk result (λ s. s ≡ step_of profile.now (cargo_in self.old) op.now) }
+        ensures refused { IfErr result (Tells (fault_of profile.now (cargo_in self.old) op.now)) }
+        ensures same { OnErr result (cargo_in self.new ≡ cargo_in self.old) }
     {
         match op {
             Op::Lift(Lift::Load(item)) => {

@@ -11,7 +11,7 @@ use Rattle.ship_profile.specs.Record.{ProfileRecord, tank_of}
 use Rattle.lift_sequence.specs.declared.containers.Container.{Container}
 use Rattle.lift_sequence.specs.declared.operations.Op as operation
 use Rattle.lift_sequence.specs.declared.operations.Op.TheVariants.{Lift, Fill, Restow}
-use Rattle.lift_sequence.specs.Aboard.{Aboard, after_all, moved, nothing, with_cell, with_tank}
+use Rattle.lift_sequence.specs.Aboard.{Aboard, after_all, after_step, nothing, with_cell, with_tank}
 use Rattle.lift_sequence.specs.Arrival.{on_arrival, with_fills, with_items}
 use Rattle.moment_sums.specs.Bounded.{AreLight, IsLight, SequencesAreBounded}
 use Rattle.moment_sums.proofs.AboardBounds.{bounded}
@@ -26,7 +26,7 @@ light_tank : (at : Aboard) (o : Option ℕ) (kg : ℕ) → AreLight at → AreLi
 light_tank at None kg l = l
 light_tank at (Some tank) kg l = l
 
-light_moved : (ship : ProfileRecord) (at : Aboard) (op : operation.Op) → AreLight at → IsLight op → AreLight (moved ship at op)
+light_moved : (ship : ProfileRecord) (at : Aboard) (op : operation.Op) → AreLight at → IsLight op → AreLight (after_step ship at op)
 light_moved ship at (Lift (Load item)) l h = light_cell at item.cell (Some (record { id = item.id; kg = item.kg })) l h
 light_moved ship at (Lift (Discharge cell id)) l h = light_cell at cell None l tt
 light_moved ship at (Fill name kg) l h = light_tank at (tank_of ship name.items) kg l
@@ -36,7 +36,7 @@ light_after : (ship : ProfileRecord) (at : Aboard) (ops : List operation.Op) (k 
 light_after ship at [] zero l h = l
 light_after ship at [] (suc k) l h = l
 light_after ship at (op ∷ more) zero l h = l
-light_after ship at (op ∷ more) (suc k) l h = light_after ship (moved ship at op) more k (light_moved ship at op l h.0) h.1
+light_after ship at (op ∷ more) (suc k) l h = light_after ship (after_step ship at op) more k (light_moved ship at op l h.0) h.1
 
 light_items : (at : Aboard) (items : List Item) → AreLight at → AllByRecursion (λ (item : Item). item.kg ≤ 10 ^ 9) items → AreLight (with_items at items)
 light_items at [] l h = l

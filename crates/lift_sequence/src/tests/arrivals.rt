@@ -36,6 +36,7 @@ fn masses_on_arrival(
     kg: u32,
 ) -> Result<Vec<u32>, Fail> {
     let items = items(alloc, cells)?;
+    // `?` is longer to prove
     match Arrival::new(alloc, profile, items, &[TankFill { tank: 0, kg }]) {
         Ok(arrival) => Ok(masses(alloc, arrival.bodies())?),
         Err(fault) => Err(fault)?,

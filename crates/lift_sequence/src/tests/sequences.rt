@@ -24,6 +24,7 @@ fn length_from(
     let Ok(ops) = ops(alloc, orders) else {
         return Err(NO_MEMORY);
     };
+    // `?` is longer to prove
     match Sequence::new(alloc, profile, arrival, ops) {
         Ok(sequence) => Ok(sequence.len()),
         Err(fault) => Err(fault),
@@ -40,6 +41,7 @@ fn length_of(
     let Ok(items) = items(alloc, aboard) else {
         return Err(NO_MEMORY);
     };
+    // `?` is longer to prove
     match Arrival::new(alloc, profile, items, &[]) {
         Ok(arrival) => length_from(alloc, profile, &arrival, orders),
         Err(fault) => Err(fault),
@@ -298,6 +300,7 @@ fn last_step_from(
     let Ok(ops) = ops(alloc, orders) else {
         return Err(NO_MEMORY);
     };
+    // `?` is longer to prove
     match Sequence::new(alloc, profile, arrival, ops) {
         Ok(sequence) => Ok(last_step(&sequence)),
         Err(fault) => Err(fault),
@@ -306,6 +309,7 @@ fn last_step_from(
 
 /// The last of these orders as a step where nothing is aboard on arrival, or why they can't be carried out.
 fn last_step_of(alloc: Global, profile: &Profile, orders: &[Order]) -> Result<Last, SeqFault> {
+    // `?` is longer to prove
     match Arrival::new(alloc, profile, Vec::new(alloc), &[]) {
         Ok(arrival) => last_step_from(alloc, profile, &arrival, orders),
         Err(fault) => Err(fault),

@@ -1,5 +1,5 @@
 use Rattle.std.proofs.Common.{◌≡◌, ◌∙◌, None, ap, length, subst, sym}
-use Rattle.lift_sequence.specs.Aboard.{held}
+use Rattle.lift_sequence.specs.Aboard.{cargo_in}
 use Rattle.lift_sequence.specs.Arrival.{on_arrival}
 use Rattle.lift_sequence.specs.Bodies.{steps_of}
 use Rattle.lift_sequence.specs.Sequence.{AreSteps, first_fault}
@@ -9,7 +9,7 @@ use Rattle.lift_sequence.proofs.sequences.Sequence.new.Goals as goal
 
 pub invariant_of-result : goal.invariant_of-result
 invariant_of-result c =
-    ap (λ steps. length steps) c.in_ok-steps.ensures.steps ∙ as_many c.args.profile.now (held c.in-Ok.stowage) c.deref.result.now
+    ap (λ steps. length steps) c.in_ok-steps.ensures.steps ∙ as_many c.args.profile.now (cargo_in c.in-Ok.stowage) c.deref.result.now
     ∙ ap (λ ops. length ops) c.deref.ensures.value
 
 pub returns-clause-each : goal.returns-clause-each

@@ -1,4 +1,4 @@
-use Rattle.std.proofs.Common.{◌≡◌, ◌∙◌, Option, None, Some, ap, cond, refl, sym}
+use Rattle.std.proofs.Common.{◌≡◌, ◌∙◌, None, Some, ap, cond, refl, sym}
 use Rattle.std.proofs.lemmas.Map.Made.{lookup_key_passes}
 use Rattle.std.proofs.lemmas.Option.{same_Some}
 use Rattle.indexmap.specs.IndexMap.{get}
@@ -10,8 +10,8 @@ use Rattle.lift_sequence.proofs.States.{same}
 use Rattle.lift_sequence.proofs.stowage.Stowage.take.Goals as goal
 
 -- the entry that is removed by its index is the one that was found, whose key is the cell
-pub returns-clause-moved : goal.returns-clause-moved
-returns-clause-moved c =
+pub returns-clause-aboard : goal.returns-clause-aboard
+returns-clause-aboard c =
     let cells = c.args.self.now.cells in
     let key = c.in-Some-get_full.field-0-1.now in
     let found : c.args.cell ≡ key = cells_same c.args.cell key (lookup_key_passes (cell_eq c.args.cell) cells.entries key (sym c.in-Some-get_full.ensures.key)) in
