@@ -4,7 +4,7 @@ use Rattle.std.proofs.lemmas.Bool.Decides.{nat_tests}
 use Rattle.toml.specs.Data.{Data, as_array}
 use Rattle.toml.specs.View.{items_view}
 use Rattle.toml.specs.declared.value.Value.{Value}
-use Rattle.ship_profile.specs.declared.faults.File.TheVariants as file
+use Rattle.ship_tables.specs.declared.faults.File.TheVariants as file
 use Rattle.ship_profile.specs.declared.faults.Key.{Key}
 use Rattle.ship_profile.specs.declared.faults.ProfileFault.{ProfileFault}
 use Rattle.ship_profile.specs.declared.faults.ProfileFault.TheVariants.{OutOfLimits, TooFewRows}

@@ -2,7 +2,7 @@
 use Rattle.std.proofs.Common.{◌≡◌, codes, pos, [], ◌∷◌, Ok, Err, refl}
 use Rattle.toml.proofs.OnLiterals.{toml_on_literals}
 use Rattle.toml.specs.Parse.{parse_document}
-use Rattle.ship_profile.specs.declared.faults.File.TheVariants as file
+use Rattle.ship_tables.specs.declared.faults.File.TheVariants as file
 use Rattle.ship_profile.specs.declared.faults.Key.TheVariants as key
 use Rattle.ship_profile.specs.declared.faults.ProfileFault.TheVariants.{BadToml, MissingKey, NotRising, FrameNotStation, OutsideStations, Downflooding, TooFewRows}
 use Rattle.units_core.specs.Outcome.{◌>>=◌, or_fault}

@@ -11,7 +11,7 @@ use Rattle.units_core.specs.Interpolation.{IsRising}
 use Rattle.ship_tables.specs.declared.extents.Extent.{Extent}
 use Rattle.ship_tables.specs.Extents.{holds}
 use Rattle.ship_tables.specs.Record.{IsPlace}
-use Rattle.ship_profile.specs.declared.faults.File.TheVariants as file
+use Rattle.ship_tables.specs.declared.faults.File.TheVariants as file
 use Rattle.ship_profile.specs.declared.faults.Key.{Key}
 use Rattle.ship_profile.specs.declared.faults.Key.TheVariants as key
 use Rattle.ship_profile.specs.declared.faults.ProfileFault.{ProfileFault}

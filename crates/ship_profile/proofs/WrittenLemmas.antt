@@ -9,7 +9,7 @@ use Rattle.ship_tables.specs.Extents.{holds}
 use Rattle.ship_tables.specs.declared.faults.TableFault.{TableFault}
 use Rattle.ship_tables.specs.Record.{TablesRecord, tank_of, tables_of}
 use Rattle.ship_tables.proofs.WrittenLemmas.{tables-written}
-use Rattle.ship_profile.specs.declared.faults.File.TheVariants as file
+use Rattle.ship_tables.specs.declared.faults.File.TheVariants as file
 use Rattle.ship_profile.specs.declared.faults.Key.{Key}
 use Rattle.ship_profile.specs.declared.faults.Key.TheVariants as key
 use Rattle.ship_profile.specs.declared.faults.ProfileFault.{ProfileFault}

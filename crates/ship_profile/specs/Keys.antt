@@ -3,7 +3,7 @@ use Rattle.std.specs.Prelude.{codes, ℕ, ℤ, pos, neg_ℤ, List, [], ◌∷◌
 use Rattle.std.specs.Str.{is_utf8}
 use Rattle.toml.specs.Data.{Data, Items, no_items, item, Members, get_member, as_integer, as_str, as_array, as_table}
 use Rattle.toml.specs.Parse.{parse_document}
-use Rattle.ship_profile.specs.declared.faults.File.TheVariants as file
+use Rattle.ship_tables.specs.declared.faults.File.TheVariants as file
 use Rattle.ship_profile.specs.declared.faults.Key.{Key}
 use Rattle.ship_profile.specs.declared.faults.Key.TheVariants as key
 use Rattle.ship_profile.specs.declared.faults.ProfileFault.{ProfileFault}

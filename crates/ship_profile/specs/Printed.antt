@@ -1,25 +1,10 @@
--- What a file and a fault of the profile print as; a key prints as it is written.
+-- What a fault of the profile prints as; a key prints as it is written.
 use Rattle.std.specs.Prelude.{ℕ, List, ◌++◌, codes}
 use Rattle.std.specs.Fmt.{decimal}
-use Rattle.ship_profile.specs.declared.faults.File.{File}
-use Rattle.ship_profile.specs.declared.faults.File.TheVariants as file
+use Rattle.ship_tables.specs.Printed.{file_text, record_text}
 use Rattle.ship_profile.specs.declared.faults.ProfileFault.{ProfileFault}
 use Rattle.ship_profile.specs.declared.faults.ProfileFault.TheVariants as fault
 use Rattle.ship_profile.specs.Keys.{name_of}
-
--- the name of a file
-abbrev pub file_text : File → List ℕ
-file_text file.Ship = codes "ship.toml"
-file_text file.Cells = codes "cells.csv"
-file_text file.Hydro = codes "hydro.csv"
-file_text file.Levers = codes "kn.csv"
-file_text file.Bonjean = codes "bonjean.csv"
-file_text file.Tanks = codes "tanks.csv"
-file_text file.LeastGm = codes "gm.csv"
-
--- a record of a file: the file's name and the record's number
-abbrev pub record_text : File → ℕ → List ℕ
-record_text f line = file_text f ++ (codes " " ++ decimal line)
 
 -- a fault: its code and its place
 abbrev pub profile_fault_text : ProfileFault → List ℕ

@@ -9,7 +9,7 @@ use Rattle.ship_tables.specs.Extents.{holds}
 use Rattle.ship_tables.specs.Record.{IsPlace}
 use Rattle.units_core.specs.Bodies.{Mass}
 use Rattle.units_core.specs.Interpolation.{at, IsRising, IsWithin}
-use Rattle.ship_profile.specs.declared.faults.File.TheVariants as file
+use Rattle.ship_tables.specs.declared.faults.File.TheVariants as file
 use Rattle.ship_profile.specs.declared.faults.Key.TheVariants as key
 use Rattle.ship_profile.specs.declared.faults.ProfileFault.{ProfileFault}
 use Rattle.ship_profile.specs.declared.faults.ProfileFault.TheVariants.{NotRising, FrameNotStation, OutsideStations, Downflooding}

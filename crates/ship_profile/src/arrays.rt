@@ -5,7 +5,8 @@ ghost use Rattle.ship_profile.specs.Keys.{items_in, elements_of, elements_at};
 ghost use Rattle.ship_profile.specs.Outcome.{one_by_one};
 ghost use Rattle.ship_profile.specs.declared.faults.ProfileFault.{ProfileFault as Fault};
 
-use crate::faults::{File, Key, ProfileFault};
+use crate::faults::{Key, ProfileFault};
+use ship_tables::File;
 use crate::keys::value_at;
 use std::alloc::Global;
 use toml::{Table, Value};
@@ -45,9 +46,7 @@ fn read_each<E: Element>(
     let mut items = Vec::new(alloc);
     for value in values {
         let item = element.read(alloc, items.as_slice(), value)?;
-        if items.push(item).is_err() {
-            return Err(ProfileFault::NoMemory);
-        }
+        items.push(item)?;
     }
     Ok(items)
 }

@@ -3,9 +3,9 @@ ghost use Rattle.toml.specs.View.{table_view};
 ghost use Rattle.ship_profile.specs.Ship.{block_in, block_of, blocks_of, AreBlocks};
 
 use crate::arrays::{Element, elements_at};
-use crate::faults::{File, Key, ProfileFault};
+use crate::faults::{Key, ProfileFault};
 use crate::keys::{MAX_KG, MAX_MM, length_in_table, number_in_table, table_of};
-use ship_tables::Extent;
+use ship_tables::{Extent, File};
 use std::alloc::Global;
 use toml::{Table, Value};
 use units_core::{Body, Mm, Place};

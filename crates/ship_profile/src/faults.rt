@@ -1,46 +1,12 @@
 ghost use Rattle.std.specs.Prelude.{◌≡◌, Some};
 ghost use Rattle.ship_profile.specs.Keys.{name_of};
-ghost use Rattle.ship_profile.specs.Printed.{file_text, profile_fault_text};
-ghost use Rattle.ship_profile.specs.TableFaults.{as_file, as_profile_fault};
+ghost use Rattle.ship_profile.specs.Printed.{profile_fault_text};
+ghost use Rattle.ship_profile.specs.TableFaults.{as_profile_fault};
 
-use ship_tables::TableFault;
+use ship_tables::{File, TableFault};
+use std::alloc::{AllocError, AllocFailed};
 use std::error::Error;
 use std::fmt;
-
-/// A file of the profile. It prints as its name.
-#[derive(Clone, Copy, Debug, PartialEq, Eq)]
-pub enum File {
-    /// `ship.toml`: the limits, stations, blocks, frames and fills.
-    Ship,
-    /// `cells.csv`: the cells, and where a container in each stands.
-    Cells,
-    /// `hydro.csv`: the hydrostatic table.
-    Hydro,
-    /// `kn.csv`: the righting levers.
-    Levers,
-    /// `bonjean.csv`: the immersed areas at the stations.
-    Bonjean,
-    /// `tanks.csv`: the fillings of the tanks.
-    Tanks,
-    /// `gm.csv`: the least metacentric heights.
-    LeastGm,
-}
-
-impl fmt::Display for File {
-    ghost output = { λ f. Some (file_text f) };
-
-    fn fmt<W: fmt::Write>(&self, f: &mut fmt::Formatter<W>) -> fmt::Result {
-        match self {
-            File::Ship => f.write_str("ship.toml"),
-            File::Cells => f.write_str("cells.csv"),
-            File::Hydro => f.write_str("hydro.csv"),
-            File::Levers => f.write_str("kn.csv"),
-            File::Bonjean => f.write_str("bonjean.csv"),
-            File::Tanks => f.write_str("tanks.csv"),
-            File::LeastGm => f.write_str("gm.csv"),
-        }
-    }
-}
 
 /// A key of `ship.toml`. It prints as it is written there.
 #[derive(Clone, Copy, Debug, PartialEq, Eq)]
@@ -155,18 +121,23 @@ impl fmt::Display for ProfileFault {
 
 impl Error for ProfileFault {}
 
-impl From<ship_tables::File> for File {
-    ghost from_gives = { λ f g. g ≡ as_file f };
+impl From<AllocError> for ProfileFault {
+    ghost use Rattle.ship_profile.specs.declared.faults.ProfileFault.TheVariants.{NoMemory};
 
-    fn from(file: ship_tables::File) -> File {
-        match file {
-            ship_tables::File::Cells => File::Cells,
-            ship_tables::File::Hydro => File::Hydro,
-            ship_tables::File::Levers => File::Levers,
-            ship_tables::File::Bonjean => File::Bonjean,
-            ship_tables::File::Tanks => File::Tanks,
-            ship_tables::File::LeastGm => File::LeastGm,
-        }
+    ghost from_gives = { λ _ fault. fault ≡ NoMemory };
+
+    fn from(_: AllocError) -> ProfileFault {
+        ProfileFault::NoMemory
+    }
+}
+
+impl<T: Drop> From<AllocFailed<T>> for ProfileFault {
+    ghost use Rattle.ship_profile.specs.declared.faults.ProfileFault.TheVariants.{NoMemory};
+
+    ghost from_gives = { λ _ fault. fault ≡ NoMemory };
+
+    fn from(_: AllocFailed<T>) -> ProfileFault {
+        ProfileFault::NoMemory
     }
 }
 
@@ -175,15 +146,13 @@ impl From<TableFault> for ProfileFault {
 
     fn from(fault: TableFault) -> ProfileFault {
         match fault {
-            TableFault::BadCsv(file, line) => ProfileFault::BadCsv(file.into(), line),
-            TableFault::BadNumber(file, line) => ProfileFault::BadNumber(file.into(), line),
-            TableFault::OutOfLimits(file, line) => ProfileFault::OutOfLimits(file.into(), line),
-            TableFault::NotRising(file, line) => ProfileFault::NotRising(file.into(), line),
+            TableFault::BadCsv(file, line) => ProfileFault::BadCsv(file, line),
+            TableFault::BadNumber(file, line) => ProfileFault::BadNumber(file, line),
+            TableFault::OutOfLimits(file, line) => ProfileFault::OutOfLimits(file, line),
+            TableFault::NotRising(file, line) => ProfileFault::NotRising(file, line),
             TableFault::DoubleCell(line) => ProfileFault::DoubleCell(line),
-            TableFault::OutsideStations(file, line) => {
-                ProfileFault::OutsideStations(file.into(), line)
-            }
-            TableFault::TooFewRows(file) => ProfileFault::TooFewRows(file.into()),
+            TableFault::OutsideStations(file, line) => ProfileFault::OutsideStations(file, line),
+            TableFault::TooFewRows(file) => ProfileFault::TooFewRows(file),
             TableFault::NoMemory => ProfileFault::NoMemory,
         }
     }

@@ -60,9 +60,7 @@ impl Element for FillRule {
         let table = table_of(value, Key::Fills)?;
         let name = text_in_table(table, Key::Fills, "tank")?;
         let kg = number_in_table(table, Key::Fills, "kg", 0, MAX_KG)?;
-        let Ok(tank) = Vec::from_slice(alloc, name.as_bytes()) else {
-            return Err(ProfileFault::NoMemory);
-        };
+        let tank = Vec::from_slice(alloc, name.as_bytes())?;
         Ok(NamedFill {
             tank,
             kg: kg as u32,
@@ -134,9 +132,7 @@ pub fn fill_tanks(
     let mut fills = Vec::new(alloc);
     for fill in named {
         let filled = fill_in(tables, fills.as_slice(), fill)?;
-        if fills.push(filled).is_err() {
-            return Err(ProfileFault::NoMemory);
-        }
+        fills.push(filled)?;
     }
     Ok(fills)
 }

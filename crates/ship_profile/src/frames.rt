@@ -3,7 +3,8 @@ ghost use Rattle.toml.specs.View.{view, table_view};
 ghost use Rattle.ship_profile.specs.Ship.{frame_in, frame_of, frames_of, is_one_of, AreFrames};
 
 use crate::arrays::{Element, elements_at};
-use crate::faults::{File, Key, ProfileFault};
+use crate::faults::{Key, ProfileFault};
+use ship_tables::File;
 use crate::keys::{MAX_KG, length_in_table, number_in_table, table_of};
 use crate::stations::is_above;
 use std::alloc::Global;

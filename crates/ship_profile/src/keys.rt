@@ -3,7 +3,8 @@ ghost use Rattle.toml.specs.Data.{get_member};
 ghost use Rattle.toml.specs.View.{view, table_view};
 ghost use Rattle.ship_profile.specs.Keys.{document_in, number_of, number_in_table, length_in_table, text_in_table, table_of, number_at};
 
-use crate::faults::{File, Key, ProfileFault};
+use crate::faults::{Key, ProfileFault};
+use ship_tables::File;
 use std::alloc::Global;
 use toml::{Table, Value};
 use units_core::Mm;

@@ -15,8 +15,8 @@ mod stations;
 #[cfg(test)]
 mod tests;
 
-pub use faults::{File, Key, ProfileFault};
+pub use faults::{Key, ProfileFault};
 pub use fills::TankFill;
 pub use frames::{Frame, Frames};
 pub use profiles::{Profile, ProfileBytes};
-pub use ship_tables::{Curves, Hydro};
+pub use ship_tables::{Curves, File, Hydro};

@@ -3,7 +3,8 @@ ghost use Rattle.toml.specs.View.{table_view};
 ghost use Rattle.ship_profile.specs.Ship.{station_of, stations_of, AreStations, is_above};
 
 use crate::arrays::{Element, elements_at};
-use crate::faults::{File, Key, ProfileFault};
+use crate::faults::{Key, ProfileFault};
+use ship_tables::File;
 use crate::keys::{MAX_MM, number_of};
 use std::alloc::Global;
 use toml::{Table, Value};

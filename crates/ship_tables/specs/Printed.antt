@@ -1,4 +1,4 @@
--- What a file and a fault of the tables print as.
+-- What a file of a profile and a fault of its tables print as.
 use Rattle.std.specs.Prelude.{ℕ, List, ◌++◌, codes}
 use Rattle.std.specs.Fmt.{decimal}
 use Rattle.ship_tables.specs.declared.faults.File.{File}
@@ -8,6 +8,7 @@ use Rattle.ship_tables.specs.declared.faults.TableFault.TheVariants as fault
 
 -- the name of a file
 abbrev pub file_text : File → List ℕ
+file_text file.Ship = codes "ship.toml"
 file_text file.Cells = codes "cells.csv"
 file_text file.Hydro = codes "hydro.csv"
 file_text file.Levers = codes "kn.csv"

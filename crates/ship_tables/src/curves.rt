@@ -70,9 +70,7 @@ pub fn numbers(alloc: Global, rows: &[Row], column: usize) -> Result<Vec<i128>, 
 {
     let mut numbers = Vec::new(alloc);
     for row in rows {
-        if numbers.push(i128::from(row.number(column))).is_err() {
-            return Err(TableFault::NoMemory);
-        }
+        numbers.push(i128::from(row.number(column)))?;
     }
     Ok(numbers)
 }
@@ -86,9 +84,7 @@ fn gather(alloc: Global, rows: &[Row], curves: usize) -> Result<Curves, TableFau
     let mut columns = Vec::new(alloc);
     for curve in 0..curves {
         let column = numbers(alloc, rows, curve + 1)?;
-        if columns.push(column).is_err() {
-            return Err(TableFault::NoMemory);
-        }
+        columns.push(column)?;
     }
     Ok(Curves { arguments, columns })
 }
@@ -114,13 +110,9 @@ fn bonjean_columns(alloc: Global, stations: usize) -> Result<Vec<Column>, TableF
     ensures memory { IfErr result (λ e. e ≡ TableFault.NoMemory) }
 {
     let mut columns = Vec::new(alloc);
-    if columns.push(DRAUGHT).is_err() {
-        return Err(TableFault::NoMemory);
-    }
+    columns.push(DRAUGHT)?;
     for _ in 0..stations {
-        if columns.push(AREA).is_err() {
-            return Err(TableFault::NoMemory);
-        }
+        columns.push(AREA)?;
     }
     Ok(columns)
 }

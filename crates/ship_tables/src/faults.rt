@@ -1,12 +1,15 @@
 ghost use Rattle.std.specs.Prelude.{Some};
 ghost use Rattle.ship_tables.specs.Printed.{file_text, table_fault_text};
 
+use std::alloc::{AllocError, AllocFailed};
 use std::error::Error;
 use std::fmt;
 
-/// A file of tables. It prints as its name.
+/// A file of a ship's profile. It prints as its name.
 #[derive(Clone, Copy, Debug, PartialEq, Eq)]
 pub enum File {
+    /// `ship.toml`: the limits, stations, blocks, frames and fills. It holds no table, so no [`TableFault`] names it.
+    Ship,
     /// `cells.csv`: the cells, and where a container in each stands.
     Cells,
     /// `hydro.csv`: the hydrostatic table.
@@ -26,6 +29,7 @@ impl fmt::Display for File {
 
     fn fmt<W: fmt::Write>(&self, f: &mut fmt::Formatter<W>) -> fmt::Result {
         match self {
+            File::Ship => f.write_str("ship.toml"),
             File::Cells => f.write_str("cells.csv"),
             File::Hydro => f.write_str("hydro.csv"),
             File::Levers => f.write_str("kn.csv"),
@@ -77,3 +81,25 @@ impl fmt::Display for TableFault {
 }
 
 impl Error for TableFault {}
+
+impl From<AllocError> for TableFault {
+    ghost use Rattle.std.specs.Prelude.{◌≡◌};
+    ghost use Rattle.ship_tables.specs.declared.faults.TableFault.TheVariants.{NoMemory};
+
+    ghost from_gives = { λ _ fault. fault ≡ NoMemory };
+
+    fn from(_: AllocError) -> TableFault {
+        TableFault::NoMemory
+    }
+}
+
+impl<T: Drop> From<AllocFailed<T>> for TableFault {
+    ghost use Rattle.std.specs.Prelude.{◌≡◌};
+    ghost use Rattle.ship_tables.specs.declared.faults.TableFault.TheVariants.{NoMemory};
+
+    ghost from_gives = { λ _ fault. fault ≡ NoMemory };
+
+    fn from(_: AllocFailed<T>) -> TableFault {
+        TableFault::NoMemory
+    }
+}

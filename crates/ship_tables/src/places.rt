@@ -72,9 +72,7 @@ fn places(alloc: Global, rows: &[Row]) -> Result<Vec<Place>, TableFault>
 {
     let mut places = Vec::new(alloc);
     for row in rows {
-        if places.push(place_at(row)).is_err() {
-            return Err(TableFault::NoMemory);
-        }
+        places.push(place_at(row))?;
     }
     Ok(places)
 }

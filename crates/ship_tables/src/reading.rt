@@ -252,9 +252,7 @@ fn remember(rule: Rule, seen: &mut IndexSet<Cell>, cell: Option<Cell>) -> Result
 {
     match (rule, cell) {
         (Rule::Distinct, Some(cell)) => {
-            if seen.insert(cell).is_err() {
-                return Err(TableFault::NoMemory);
-            }
+            seen.insert(cell)?;
             Ok(())
         }
         _ => Ok(()),
@@ -272,12 +270,8 @@ fn remember_name(
         (map (λ v. v.items) names.new.keys ≡ map (λ v. v.items) names.old.keys ++ name.now ∷ []) }
     ensures memory { IfErr result (λ e. e ≡ TableFault.NoMemory) }
 {
-    let Ok(name) = Vec::from_slice(alloc, name) else {
-        return Err(TableFault::NoMemory);
-    };
-    if names.insert(name).is_err() {
-        return Err(TableFault::NoMemory);
-    }
+    let name = Vec::from_slice(alloc, name)?;
+    names.insert(name)?;
     Ok(())
 }
 
@@ -295,9 +289,7 @@ pub fn end_table(
     if rows.is_empty() {
         return Ok(());
     }
-    if ended.push(Table { rows }).is_err() {
-        return Err(TableFault::NoMemory);
-    }
+    ended.push(Table { rows })?;
     Ok(())
 }
 
@@ -314,9 +306,7 @@ fn keep_in_table(layout: &Layout<'_>, gathered: &mut Gathered, row: Row) -> Resu
     ensures memory { IfErr result (λ e. e ≡ TableFault.NoMemory) }
 {
     remember(layout.rule, &mut gathered.cells, row.cell())?;
-    if gathered.rows.push(row).is_err() {
-        return Err(TableFault::NoMemory);
-    }
+    gathered.rows.push(row)?;
     gathered.line += 1;
     Ok(())
 }
@@ -340,9 +330,7 @@ fn keep_in_next(
 {
     remember_name(alloc, &mut gathered.names, row.name())?;
     end_table(alloc, &mut gathered.ended, &mut gathered.rows)?;
-    if gathered.rows.push(row).is_err() {
-        return Err(TableFault::NoMemory);
-    }
+    gathered.rows.push(row)?;
     gathered.line += 1;
     Ok(())
 }

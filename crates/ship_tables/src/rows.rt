@@ -102,14 +102,10 @@ pub fn read_row(
     if fields.len() != layout.columns.len() {
         return Err(TableFault::BadCsv(layout.file, line));
     }
-    let Ok(mut read) = Vec::with_capacity(alloc, layout.columns.len()) else {
-        return Err(TableFault::NoMemory);
-    };
+    let mut read = Vec::with_capacity(alloc, layout.columns.len())?;
     for (place, column) in layout.columns.iter().enumerate() {
         let field = read_field(layout.file, line, *column, text_at(fields, place))?;
-        if read.push(field).is_err() {
-            return Err(TableFault::NoMemory);
-        }
+        read.push(field)?;
     }
     Ok(Row { fields: read })
 }

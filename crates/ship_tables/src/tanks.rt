@@ -210,9 +210,7 @@ fn gather_all(alloc: Global, tables: &[Table]) -> Result<Vec<TankRows>, TableFau
     let mut gathered = Vec::new(alloc);
     for table in tables {
         let rows = gather(alloc, table.rows.as_slice())?;
-        if gathered.push(rows).is_err() {
-            return Err(TableFault::NoMemory);
-        }
+        gathered.push(rows)?;
     }
     Ok(gathered)
 }
