@@ -1,4 +1,4 @@
--- The condition that the code's numbers are.
+-- Bookkeeping: the condition that the code's numbers are.
 use Rattle.std.specs.Prelude.{◌≡◌, ℕ, Bool, Option, option_map}
 use Rattle.units_core.specs.declared.fractions.Frac.{Frac}
 use Rattle.units_core.specs.Interpolation.{at}

@@ -1,4 +1,4 @@
--- What is decided of any ordinates that the numbers are.
+-- Bookkeeping: what is decided of any ordinates that the numbers are.
 use Rattle.std.specs.Prelude.{◌≡◌, ℕ, ℤ, List, Bool}
 use Rattle.units_core.specs.Ratio.{Ratio, is_at_least}
 use Rattle.righting.specs.Levers.{AreOrdinates, area_of, greatest_of, simpson}

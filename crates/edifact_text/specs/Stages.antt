@@ -1,4 +1,4 @@
--- The reading stage by stage, as the functions of this crate share it out.
+-- Bookkeeping: the reading stage by stage, as the functions of this crate share it out.
 use Rattle.std.specs.Prelude.{◌≡◌, ℕ, ◌+◌, ◌-◌, List, [], ◌∷◌, length, take, map, Result}
 use Rattle.std.specs.Prelude.{Ok, Err, Bool, nat_lt, ◌&&◌, ◌||◌, not, if◌then◌else◌, codes, ⊤, slice_index_or}
 use Rattle.std.specs.List.{list_any}

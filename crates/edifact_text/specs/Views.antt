@@ -1,4 +1,4 @@
--- The code's values, as contracts see them.
+-- Bookkeeping: the code's values, as contracts see them.
 use Rattle.std.specs.Prelude.{ℕ, ◌-◌, List, [], ◌∷◌, length, take, map, Option, Some, None}
 use Rattle.std.specs.Borrow.{Bor}
 use Rattle.edifact_text.specs.declared.raw.Raw.{Raw}

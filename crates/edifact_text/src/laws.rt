@@ -16,13 +16,14 @@ pub fn one_reading()
     ensures fault { (kind : Kind) (text : List ℕ) (f : EdiFault) → IsFault kind text f
         → opened kind text ≡ Err f }
     ensures either { (kind : Kind) (text : List ℕ) →
-        ((mark : ℕ) × (segments : List Numbered) × IsMessage kind text mark segments) ⊎ ((f : EdiFault) × IsFault kind text f) }
+        ((mark : ℕ) × (segments : List Numbered) × IsMessage kind text mark segments)
+        ⊎ ((f : EdiFault) × IsFault kind text f) }
     ensures not_both { (kind : Kind) (text : List ℕ) (mark : ℕ) (segments : List Numbered)
-        (f : EdiFault) →
-        IsMessage kind text mark segments → IsFault kind text f → ⊥ }
-    ensures spelt { (sv : Service) (s : Parts) (bytes behind : List ℕ) → Apart sv
-        → Segment sv s bytes →
-        (cut_text sv (terminated sv bytes behind) ≡ bytes ∷ cut_text sv behind) × (segment_of sv bytes ≡ s) }
+        (f : EdiFault) → IsMessage kind text mark segments → IsFault kind text f → ⊥ }
+    ensures spelt { (sv : Service) (s : Parts) (bytes behind : List ℕ) →
+        Apart sv → Segment sv s bytes →
+        (cut_text sv (terminated sv bytes behind) ≡ bytes ∷ cut_text sv behind)
+        × (segment_of sv bytes ≡ s) }
     ensures read { (sv : Service) (text bytes next : List ℕ) (more : List (List ℕ)) →
         cut_text sv text ≡ bytes ∷ next ∷ more → Segment sv (segment_of sv bytes) bytes }
 {}

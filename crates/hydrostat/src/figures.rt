@@ -62,7 +62,8 @@ fn figures(afloat: &Afloat) -> Floating
 /// How the ship floats with this aboard; [`Outside::Hydro`] where the displacement lies outside of her hydrostatic table.
 pub fn floating_of(profile: &Profile, totals: &Totals) -> Result<Floating, Outside>
     requires bounded { IsBounded (values totals.now) }
-    ensures { IsFloatingOf result (hydrostatics_at profile.now.tables.hydro (values totals.now Weight))
+    ensures { IsFloatingOf result
+        (hydrostatics_at profile.now.tables.hydro (values totals.now Weight))
         (load_of (values totals.now)) profile.now.ship.lbp }
 {
     match on_waterline(profile, totals, &mut 0) {

@@ -1,4 +1,4 @@
--- A sum as the code keeps it: plain numbers, with 16 places for frames, and how many bodies were added or taken.
+-- Bookkeeping: a sum as the code keeps it: plain numbers, with 16 places for frames, and how many bodies were added or taken.
 use Rattle.std.specs.Prelude.{◌≡◌, ℕ, ◌+◌, ◌*◌, ◌^◌, ◌≤◌, ℤ, pos, ◌+ℤ◌, ◌*ℤ◌, neg_ℤ, int_le, List, [], ◌∷◌, length, replicate, unsigned_abs, Bool, ◌&&◌, nat_eq, if◌then◌else◌}
 use Rattle.std.specs.List.{list_all}
 use Rattle.units_core.specs.Interpolation.{at, IsWithin}

@@ -1,4 +1,4 @@
--- Sums are a monoid: nothing added changes nothing, and sums may be grouped in any way. A proof, which the impl of `Monoid` hands over.
+-- Bookkeeping: sums are a monoid: nothing added changes nothing, and sums may be grouped in any way. A proof, which the impl of `Monoid` hands over.
 use Rattle.std.specs.Prelude.{◌≡◌, ℕ, zero, suc, ◌+◌, ◌≤◌, ℤ, pos, ◌+ℤ◌, List, [], ◌∷◌, length, replicate, Bool, true, false, ◌&&◌, nat_eq, if◌then◌else◌, refl}
 use Rattle.std.proofs.Common.{arith, ap, eqb-true}
 use Rattle.std.proofs.lemmas.Int.{ints}

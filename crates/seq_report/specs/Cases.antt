@@ -1,9 +1,9 @@
--- A ship, what is aboard of her on arrival, and the steps from there, all of which can be done.
+-- Bookkeeping: a ship, what is aboard of her on arrival, and the steps from there, all of which can be done.
 use Rattle.std.specs.Prelude.{◌≡◌, ℕ, ◌≤◌, ℤ, ◌+ℤ◌, length, take}
 use Rattle.units_core.specs.Bodies.{Mass}
 use Rattle.lift_sequence.specs.Aboard.{Aboard, after_all}
 use Rattle.ship_profile.specs.Record.{ProfileRecord}
-use Rattle.lift_sequence.specs.Arrival.{ArrivalRecord, on_arrival}
+use Rattle.lift_sequence.specs.Arrival.{ArrivalRecord, cargo_on}
 use Rattle.lift_sequence.specs.Bodies.{bodies}
 use Rattle.lift_sequence.specs.Sequence.{IsOf}
 use Rattle.lift_sequence.specs.Totals.{change, total}
@@ -14,12 +14,8 @@ use Rattle.seq_report.specs.Chunks.{sum_before}
 use Rattle.seq_report.specs.Refusal.{Outcome, outcome_on}
 use Rattle.seq_report.specs.Report.{Line, line_at, lines_of, sum_at}
 
--- what is aboard on arrival
-abbrev pub aboard_of : ArrivalRecord → Aboard
-aboard_of arrival = on_arrival arrival.items arrival.fills
-
 abbrev pub aboard_first : Case → Aboard
-aboard_first case = aboard_of case.arrival
+aboard_first case = cargo_on case.arrival
 
 abbrev pub line_in : Case → ℕ → Line
 line_in case k = line_at case.profile (aboard_first case) case.sequence.ops k
@@ -35,7 +31,7 @@ before case k = sum_before case.profile.ship.frames case.arrival.bodies case.seq
 pub record HasArrived (ship : ProfileRecord) (arrival : ArrivalRecord) : Type 0 where
   pub of : IsOf ship arrival
   pub few : length arrival.bodies ≤ 30400
-  pub adds_up : (f : Mass → ℤ) → total f arrival.bodies ≡ total f (bodies ship (aboard_of arrival))
+  pub adds_up : (f : Mass → ℤ) → total f arrival.bodies ≡ total f (bodies ship (cargo_on arrival))
 
 -- Few enough bodies and steps for every sum; and whatever value is added up, what is aboard after k steps is what is aboard on arrival with
 -- what these steps change.

@@ -1,4 +1,4 @@
--- How a report is made chunk by chunk: what each line changes of the sum before it, and the lines of a chunk.
+-- Bookkeeping: how a report is made chunk by chunk: what each line changes of the sum before it, and the lines of a chunk.
 use Rattle.std.specs.Prelude.{◌≡◌, ℕ, zero, suc, ◌+◌, ◌-◌, ◌*◌, ◌<◌, ◌≤◌, List, [], ◌∷◌, length, flat_map, slice_index, slice_index_or, slice_get, Option, None, Some}
 use Rattle.std.specs.List.{range_with_len}
 use Rattle.std.specs.Option.{option_or}

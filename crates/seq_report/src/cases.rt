@@ -1,6 +1,7 @@
 ghost use Rattle.std.specs.List.{AllByRecursion};
 ghost use Rattle.std.specs.Prelude.{◌≡◌, ◌≢◌, ◌+◌, ◌^◌, ◌≤◌, length, option_map, false, IfOk, IfErr, Ok, Err};
-ghost use Rattle.seq_report.specs.Cases.{HasArrived, aboard_of, IsReady, outcome_in};
+ghost use Rattle.lift_sequence.specs.Arrival.{cargo_on};
+ghost use Rattle.seq_report.specs.Cases.{HasArrived, IsReady, outcome_in};
 ghost use Rattle.seq_report.specs.Refusal.{TellsMemory, outcome_for, outcome_from, outcome_of, outcome_with, is_cut, is_write};
 ghost use Rattle.seq_report.specs.Report.{lift_to};
 
@@ -50,10 +51,10 @@ fn case_on_ops(
     requires arrived { HasArrived profile arrival }
     requires light { AllByRecursion (λ item. item.kg ≤ 10 ^ 9) arrival.items }
     ensures ok { IfOk result
-        (λ case. outcome_with profile (aboard_of arrival) ops.items ≡ Ok (outcome_in case)) }
+        (λ case. outcome_with profile (cargo_on arrival) ops.items ≡ Ok (outcome_in case)) }
     ensures ready { IfOk result IsReady }
     ensures refused { IfErr result
-        (λ e. e ≢ RunFault.NoMemory → outcome_with profile (aboard_of arrival) ops.items ≡ Err e) }
+        (λ e. e ≢ RunFault.NoMemory → outcome_with profile (cargo_on arrival) ops.items ≡ Err e) }
     ensures memory { IfErr result TellsMemory }
     ensures silent { is_write result ≡ false }
     ensures uncut { is_cut result ≡ false }
@@ -77,10 +78,10 @@ fn case_from_arrival(
     requires arrived { HasArrived profile arrival }
     requires light { AllByRecursion (λ item. item.kg ≤ 10 ^ 9) arrival.items }
     ensures ok { IfOk result
-        (λ case. outcome_from profile (aboard_of arrival) inputs.now ≡ Ok (outcome_in case)) }
+        (λ case. outcome_from profile (cargo_on arrival) inputs.now ≡ Ok (outcome_in case)) }
     ensures ready { IfOk result IsReady }
     ensures refused { IfErr result
-        (λ e. e ≢ RunFault.NoMemory → outcome_from profile (aboard_of arrival) inputs.now ≡ Err e) }
+        (λ e. e ≢ RunFault.NoMemory → outcome_from profile (cargo_on arrival) inputs.now ≡ Err e) }
     ensures memory { IfErr result TellsMemory }
     ensures silent { is_write result ≡ false }
     ensures uncut { is_cut result ≡ false }

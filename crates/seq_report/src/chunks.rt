@@ -75,8 +75,8 @@ fn chunk_totals(alloc: Global, case: &Case, cuts: &Cuts) -> Result<Vec<Totals>, 
 pub fn sums_before(alloc: Global, case: &Case, cuts: &Cuts) -> Result<Vec<Totals>, AllocError>
     requires ready { IsReady case.now }
     requires cut { Divides cuts.now (length case.now.sequence.ops + 1) }
-    ensures { IfOk result
-        (λ sums. AreOffsets case.now.profile.ship.frames case.now.arrival.bodies case.now.sequence.steps cuts.now sums.items) }
+    ensures { IfOk result (λ sums. AreOffsets case.now.profile.ship.frames
+        case.now.arrival.bodies case.now.sequence.steps cuts.now sums.items) }
 {
     let totals = chunk_totals(alloc, case, cuts)?;
     offsets(alloc, &totals)

@@ -1,6 +1,7 @@
 ghost use Rattle.std.specs.Prelude.{◌≡◌, ◌≢◌, ◌≤◌, length, option_map, false, IfOk, IfErr, Ok, Err};
 ghost use Rattle.lift_sequence.specs.Sequence.{IsOf, StepsAddUp};
-ghost use Rattle.seq_report.specs.Cases.{HasArrived, aboard_of};
+ghost use Rattle.lift_sequence.specs.Arrival.{cargo_on};
+ghost use Rattle.seq_report.specs.Cases.{HasArrived};
 ghost use Rattle.seq_report.specs.Refusal.{TellsMemory, arrival_in, is_cut, is_write, items_in, lifts_in, orders_in, orders_on, rows_of, sequence_in, ship_in};
 
 use crate::faults::RunFault;
@@ -56,7 +57,7 @@ pub fn items(alloc: Global, inputs: &Inputs<'_>) -> Result<Vec<Item>, RunFault>
 
 /// The condition of the ship on arrival with these items.
 pub fn arrival(alloc: Global, profile: &Profile, items: Vec<Item>) -> Result<Arrival, RunFault>
-    ensures ok { IfOk result (λ a. arrival_in profile.now items.items ≡ Ok (aboard_of a)) }
+    ensures ok { IfOk result (λ a. arrival_in profile.now items.items ≡ Ok (cargo_on a)) }
     ensures arrived { IfOk result (λ a. HasArrived profile.now a) }
     ensures items { IfOk result (λ a. a.items ≡ items.items) }
     ensures refused { IfErr result
@@ -143,12 +144,12 @@ pub fn sequence(
 ) -> Result<Sequence, RunFault>
     requires { IsOf profile.now arrival.now }
     ensures ok { IfOk result
-        (λ s. sequence_in profile.now (aboard_of arrival.now) ops.items ≡ Ok s.ops) }
+        (λ s. sequence_in profile.now (cargo_on arrival.now) ops.items ≡ Ok s.ops) }
     ensures ops { IfOk result (λ s. s.ops ≡ ops.items) }
-    ensures sums { IfOk result (λ s. StepsAddUp profile.now (aboard_of arrival.now) s.ops s.steps) }
+    ensures sums { IfOk result (λ s. StepsAddUp profile.now (cargo_on arrival.now) s.ops s.steps) }
     ensures few { IfOk result (λ s. length s.ops ≤ 120000) }
     ensures refused { IfErr result (λ e. e ≢ RunFault.NoMemory
-        → sequence_in profile.now (aboard_of arrival.now) ops.items ≡ Err e) }
+        → sequence_in profile.now (cargo_on arrival.now) ops.items ≡ Err e) }
     ensures memory { IfErr result TellsMemory }
     ensures silent { is_write result ≡ false }
     ensures uncut { is_cut result ≡ false }

@@ -112,7 +112,8 @@ pub fn sections(
 ) -> Result<Vec<Section>, AllocError>
     requires ready { IsReady case.now }
     requires cut { Divides cuts.now (length case.now.sequence.ops + 1) }
-    requires sums { AreOffsets case.now.profile.ship.frames case.now.arrival.bodies case.now.sequence.steps cuts.now sums.now }
+    requires sums { AreOffsets case.now.profile.ship.frames
+        case.now.arrival.bodies case.now.sequence.steps cuts.now sums.now }
     ensures { IfOk result (λ made. made.items ≡ map (λ chunk. part_of
         (map (line_in case.now) (chunk_of cuts.now chunk))) (range_with_len 0 (length cuts.now))) }
 {

@@ -1,4 +1,4 @@
--- What the loads take of a ship's profile alone.
+-- Bookkeeping: what the loads take of a ship's profile alone.
 use Rattle.std.specs.Prelude.{◌≡◌, ℕ, ◌^◌, ◌<◌, ◌≤◌, ℤ, List, length, get_or, slice_get, IfSome}
 use Rattle.units_core.specs.Interpolation.{at, IsWithin}
 use Rattle.ship_profile.specs.Ship.{ShipRecord}
