@@ -1,3 +1,4 @@
+pub mod CountLemmas
 pub mod EntryLemmas
 pub mod MessageLemmas
 pub mod StepLemmas

@@ -47,7 +47,8 @@ plan_fault text f (inr h) =
 pub plan_either : (text : List ℕ) → ((items : List Item) × AreItems text items) ⊎ ((f : StowFault) × IsPlanFault text f)
 plan_either text = go (opened Baplie text) refl
   where
-    go : (r : Result Opened EdiFault) → opened Baplie text ≡ r → ((items : List Item) × AreItems text items) ⊎ ((f : StowFault) × IsPlanFault text f)
+    go : (r : Result Opened EdiFault) → opened Baplie text ≡ r
+        → ((items : List Item) × AreItems text items) ⊎ ((f : StowFault) × IsPlanFault text f)
     go (Err e) h = inr (_, inl (e, fault_is Baplie text e h, refl))
     go (Ok m) h =
         let is = message_is Baplie text m h in
@@ -65,12 +66,14 @@ lift_walk mark lifts parts = walk 200000 (λ (p : HandledPart). location_of p.pa
 
 -- a handling that is understood is the last one for the parts behind it
 module _ (mark : ℕ) (lifts : List Lift) (s : Numbered) (more : List Part) (handling : Option Handling) (last : Option Numbered) where
-  by_handling : (r : Result Handling StowFault) → handling_at s ≡ r → ((next : Handling) → handling_at s ≡ Ok next → lifts_from mark (Some next) lifts more ≡ lift_walk mark lifts (handled_parts (Some s) more))
+  by_handling : (r : Result Handling StowFault) → handling_at s ≡ r
+      → ((next : Handling) → handling_at s ≡ Ok next → lifts_from mark (Some next) lifts more ≡ lift_walk mark lifts (handled_parts (Some s) more))
       → lifts_from mark handling lifts (Handled s ∷ more) ≡ lift_walk mark lifts (handled_parts last (Handled s ∷ more))
   by_handling (Ok next) is on = rw is (on next is)
   by_handling (Err e) is on = rw is refl
 
-lifts_walk : (mark : ℕ) (last : Option Numbered) (handling : Option Handling) (lifts : List Lift) (parts : List Part) → handling_of last ≡ Ok handling
+lifts_walk : (mark : ℕ) (last : Option Numbered) (handling : Option Handling) (lifts : List Lift) (parts : List Part)
+    → handling_of last ≡ Ok handling
     → lifts_from mark handling lifts parts ≡ lift_walk mark lifts (handled_parts last parts)
 lifts_walk mark last handling lifts [] known = refl
 lifts_walk mark last handling lifts (Handled s ∷ more) known =
@@ -81,7 +84,8 @@ lifts_walk mark last handling lifts (Located f ∷ more) known =
     (λ longer. lifts_walk mark last handling longer more known)
     ∙ ap (λ (r : Result (List Lift) StowFault). r >>= λ longer. lift_walk mark longer (handled_parts last more)) same
 
-instruction_walks : (text : List ℕ) (m : Opened) → opened Movins text ≡ Ok m → movement_instruction text ≡ lift_walk m.mark [] (lift_parts m)
+instruction_walks : (text : List ℕ) (m : Opened) → opened Movins text ≡ Ok m
+    → movement_instruction text ≡ lift_walk m.mark [] (lift_parts m)
 instruction_walks text m h = ap lifts_behind h ∙ lifts_walk m.mark None None [] (parts_of true m.segments) refl
 
 pub instruction_sound : (text : List ℕ) (lifts : List Lift) → AreLifts text lifts → movement_instruction text ≡ Ok lifts
@@ -98,7 +102,8 @@ instruction_fault text f (inr h) =
 pub instruction_either : (text : List ℕ) → ((lifts : List Lift) × AreLifts text lifts) ⊎ ((f : StowFault) × IsInstructionFault text f)
 instruction_either text = go (opened Movins text) refl
   where
-    go : (r : Result Opened EdiFault) → opened Movins text ≡ r → ((lifts : List Lift) × AreLifts text lifts) ⊎ ((f : StowFault) × IsInstructionFault text f)
+    go : (r : Result Opened EdiFault) → opened Movins text ≡ r
+        → ((lifts : List Lift) × AreLifts text lifts) ⊎ ((f : StowFault) × IsInstructionFault text f)
     go (Err e) h = inr (_, inl (e, fault_is Movins text e h, refl))
     go (Ok m) h =
         let is = message_is Movins text m h in

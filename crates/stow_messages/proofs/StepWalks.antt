@@ -39,7 +39,8 @@ lift_written lifts (Some (pos n)) = go (nat_le 1 n && nat_le n lifts) refl
     go true e = let bounds = and_parts _ _ e in rw e (leb-true _ _ bounds.0, leb-true _ _ bounds.1)
     go false e = rw e (λ at. refl)
 
-tank_written : (lifts : ℕ) (name : Option (ArrayVec ℕ)) (kg : Option ℕ) (third : List ℕ) → IsWritten lifts (or_fault BadField (tank_of name kg third))
+tank_written : (lifts : ℕ) (name : Option (ArrayVec ℕ)) (kg : Option ℕ) (third : List ℕ)
+    → IsWritten lifts (or_fault BadField (tank_of name kg third))
 tank_written lifts (Some name) (Some kg) [] = tt
 tank_written lifts name kg third = λ at. refl
 
@@ -121,7 +122,8 @@ repeated rows (Tank name kg) h = cc h
 repeated rows (Restow from to id) h = cc h
 
 -- records that write their rows
-rows_on : (lifts : ℕ) (start rows : List StepRow) (records : List Fields) → map (row_of lifts) records ≡ map Ok rows → NoLiftTwice (start ++ rows)
+rows_on : (lifts : ℕ) (start rows : List StepRow) (records : List Fields) → map (row_of lifts) records ≡ map Ok rows
+    → NoLiftTwice (start ++ rows)
     → length (start ++ rows) ≤ 200000 → rows_from lifts start records ≡ Ok (start ++ rows)
 rows_on lifts start [] [] written once few = ap Ok (sym (append-nil start))
 rows_on lifts start [] (fields ∷ records) written once few = cc written
@@ -135,7 +137,8 @@ rows_on lifts start (row ∷ rows) (fields ∷ records) written once few =
     rw (test, here, fresh) (rows_on lifts (start ++ row ∷ []) rows records rest (subst NoLiftTwice (sym grouped) once)
     (subst (λ (l : List StepRow). length l ≤ 200000) (sym grouped) few) ∙ ap Ok grouped)
 
-rows_past : (lifts : ℕ) (start rows : List StepRow) (before rest : List Fields) → rows_from lifts start before ≡ Ok rows → rows_from lifts start (before ++ rest) ≡ rows_from lifts rows rest
+rows_past : (lifts : ℕ) (start rows : List StepRow) (before rest : List Fields) → rows_from lifts start before ≡ Ok rows
+    → rows_from lifts start (before ++ rest) ≡ rows_from lifts rows rest
 rows_past lifts start rows [] rest h = let same : start ≡ rows = cc in rw same refl
 rows_past lifts start rows (fields ∷ before) rest h =
     followed (at_record (length start + 2) (with_record lifts start fields)) (λ longer. rows_from lifts longer before) rows
@@ -156,14 +159,16 @@ refused_code lifts rows fields code (inr (inr h)) =
     let test : nat_lt (length rows) 200000 ≡ true = grind (arith, nat_tests, h.1) in
     rw (h.4, test, h.2, h.3) (refl, λ at. refl)
 
-row_stops : (lifts : ℕ) (rows : List StepRow) (fields : Fields) (behind : List Fields) (f : StepsFault) → IsRefused lifts rows fields f.code → f.at ≡ length rows + 2
+row_stops : (lifts : ℕ) (rows : List StepRow) (fields : Fields) (behind : List Fields) (f : StepsFault)
+    → IsRefused lifts rows fields f.code → f.at ≡ length rows + 2
     → rows_from lifts rows (fields ∷ behind) ≡ Err f
 row_stops lifts rows fields behind f h at =
     let code = refused_code lifts rows fields f.code h in
     let same : ◌≡◌ {A = StepsFault} (record { code = f.code; at = length rows + 2 }) f = λ i. record { code = f.code; at = sym at i } in
     rw code.0 (ap Err (code.1 (length rows + 2) ∙ same))
 
-as_many : (lifts : ℕ) (records : List Fields) (rows : List StepRow) → map (row_of lifts) records ≡ map Ok rows → length records ≡ length rows
+as_many : (lifts : ℕ) (records : List Fields) (rows : List StepRow) → map (row_of lifts) records ≡ map Ok rows
+    → length records ≡ length rows
 as_many lifts records rows written = sym (length-map records (row_of lifts)) ∙ ap length written ∙ length-map rows Ok
 
 -- behind some rows, the rows of the records, or the first record that is refused
@@ -189,7 +194,8 @@ module _ (lifts : ℕ) (start : List StepRow) where
   none_yet : NoLiftTwice start → length start ≤ 200000 → AreOn lifts start [] []
   none_yet once few = record { written = refl; once = subst NoLiftTwice (sym (append-nil start)) once; few = rw append-nil few }
 
-  stopped_here : (fields : Fields) (behind : List Fields) (code : StepsCode) → NoLiftTwice start → length start ≤ 200000 → IsRefused lifts start fields code
+  stopped_here : (fields : Fields) (behind : List Fields) (code : StepsCode) → NoLiftTwice start → length start ≤ 200000
+      → IsRefused lifts start fields code
       → AreStopped lifts start (fields ∷ behind)
   stopped_here fields behind code once few refused = record {
     code = code;
@@ -202,7 +208,8 @@ module _ (lifts : ℕ) (start : List StepRow) where
     refused = subst (λ (l : List StepRow). IsRefused lifts l fields code) (sym (append-nil start)) refused;
   }
 
-  one_more : (fields : Fields) (row : StepRow) (records : List Fields) (rows : List StepRow) → row_of lifts fields ≡ Ok row → AreOn lifts (start ++ row ∷ []) records rows
+  one_more : (fields : Fields) (row : StepRow) (records : List Fields) (rows : List StepRow) → row_of lifts fields ≡ Ok row
+      → AreOn lifts (start ++ row ∷ []) records rows
       → AreOn lifts start (fields ∷ records) (row ∷ rows)
   one_more fields row records rows is h = record {
     written = λ i. is i ∷ h.written i;
@@ -210,7 +217,8 @@ module _ (lifts : ℕ) (start : List StepRow) where
     few = subst (λ (l : List StepRow). length l ≤ 200000) (append_assoc start (row ∷ []) rows) h.few;
   }
 
-  stopped_behind : (fields : Fields) (row : StepRow) (records : List Fields) → row_of lifts fields ≡ Ok row → AreStopped lifts (start ++ row ∷ []) records
+  stopped_behind : (fields : Fields) (row : StepRow) (records : List Fields) → row_of lifts fields ≡ Ok row
+      → AreStopped lifts (start ++ row ∷ []) records
       → AreStopped lifts start (fields ∷ records)
   stopped_behind fields row records is h = record {
     code = h.code;
@@ -225,7 +233,8 @@ module _ (lifts : ℕ) (start : List StepRow) where
 
 -- a record behind fewer than 200,000 rows
 module _ (lifts : ℕ) (start : List StepRow) (fields : Fields) (behind : List Fields) (once : NoLiftTwice start) (low : length start < 200000) where
-  by_row : (row : StepRow) → row_of lifts fields ≡ Ok row → (NoLiftTwice (start ++ row ∷ []) → length (start ++ row ∷ []) ≤ 200000 → EitherOn lifts (start ++ row ∷ []) behind)
+  by_row : (row : StepRow) → row_of lifts fields ≡ Ok row
+      → (NoLiftTwice (start ++ row ∷ []) → length (start ++ row ∷ []) ≤ 200000 → EitherOn lifts (start ++ row ∷ []) behind)
       → (b : Bool) → repeats start row ≡ b → EitherOn lifts start (fields ∷ behind)
   by_row row is on true e =
       let at = repeated start row e in
@@ -237,15 +246,18 @@ module _ (lifts : ℕ) (start : List StepRow) (fields : Fields) (behind : List F
       ]
 
   by_record : (r : Result StepRow StepsCode) → row_of lifts fields ≡ r
-      → ((longer : List StepRow) → NoLiftTwice longer → length longer ≤ 200000 → EitherOn lifts longer behind) → EitherOn lifts start (fields ∷ behind)
+      → ((longer : List StepRow) → NoLiftTwice longer → length longer ≤ 200000 → EitherOn lifts longer behind)
+      → EitherOn lifts start (fields ∷ behind)
   by_record (Err code) is on = inr (stopped_here lifts start fields behind code once (omega arith) (inr (inl (low, is))))
   by_record (Ok row) is on = by_row row is (on (start ++ row ∷ [])) (repeats start row) refl
 
-either_on : (lifts : ℕ) (start : List StepRow) (records : List Fields) → NoLiftTwice start → length start ≤ 200000 → EitherOn lifts start records
+either_on : (lifts : ℕ) (start : List StepRow) (records : List Fields) → NoLiftTwice start → length start ≤ 200000
+    → EitherOn lifts start records
 either_on lifts start [] once few = inl ([], none_yet lifts start once few)
 either_on lifts start (fields ∷ behind) once few = go (cases_lt (length start) 200000) (λ longer. either_on lifts longer behind)
   where
-    go : (length start < 200000) ⊎ (200000 ≤ length start) → ((longer : List StepRow) → NoLiftTwice longer → length longer ≤ 200000 → EitherOn lifts longer behind)
+    go : (length start < 200000) ⊎ (200000 ≤ length start)
+        → ((longer : List StepRow) → NoLiftTwice longer → length longer ≤ 200000 → EitherOn lifts longer behind)
         → EitherOn lifts start (fields ∷ behind)
     go (inl low) on = by_record lifts start fields behind once low (row_of lifts fields) refl on
     go (inr full) on = inr (stopped_here lifts start fields behind TooMany once few (inl (omega (arith, few, full), refl)))
@@ -277,7 +289,8 @@ no_other lifts n (Lift m) h e = grind (arith, nat_tests, h.0, h.1)
 no_other lifts n (Tank name kg) h e = refl
 no_other lifts n (Restow from to id) h e = refl
 
-none_beyond : (lifts n : ℕ) (records : List Fields) (rows : List StepRow) → map (row_of lifts) records ≡ map Ok rows → (nat_le 1 n && nat_le n lifts) ≡ false → times n rows ≡ 0
+none_beyond : (lifts n : ℕ) (records : List Fields) (rows : List StepRow) → map (row_of lifts) records ≡ map Ok rows
+    → (nat_le 1 n && nat_le n lifts) ≡ false → times n rows ≡ 0
 none_beyond lifts n records [] written e = refl
 none_beyond lifts n [] (row ∷ rows) written e = cc written
 none_beyond lifts n (fields ∷ records) (row ∷ rows) written e =
@@ -286,7 +299,8 @@ none_beyond lifts n (fields ∷ records) (row ∷ rows) written e =
     let inside : IsWithin lifts row = rw here at (row_written lifts fields) in
     rw (no_other lifts n row inside e) (none_beyond lifts n records rows rest e)
 
-each_once : (lifts : ℕ) (records : List Fields) (rows : List StepRow) → map (row_of lifts) records ≡ map Ok rows → NoLiftTwice rows → missing_from rows 1 lifts ≡ None → EachLiftOnce lifts rows
+each_once : (lifts : ℕ) (records : List Fields) (rows : List StepRow) → map (row_of lifts) records ≡ map Ok rows → NoLiftTwice rows
+    → missing_from rows 1 lifts ≡ None → EachLiftOnce lifts rows
 each_once lifts records rows written once none n = go (nat_le 1 n && nat_le n lifts) refl
   where
     go : (b : Bool) → (nat_le 1 n && nat_le n lifts) ≡ b → times n rows ≡ cond (nat_le 1 n && nat_le n lifts) 1 0
@@ -311,13 +325,15 @@ none_missing lifts rows once = missing-none rows 1 lifts (λ j low high.
     stands_if_once j rows (rw test at (once j)))
 
 -- the heading
-under_is : (lifts : ℕ) (text : List ℕ) (records : List Fields) → AreUnderHeading text records → rows_under lifts (records_of text) ≡ rows_from lifts [] records
+under_is : (lifts : ℕ) (text : List ℕ) (records : List Fields) → AreUnderHeading text records
+    → rows_under lifts (records_of text) ≡ rows_from lifts [] records
 under_is lifts text records (inl h) =
     let test : (length h.0 == 4) ≡ true = grind (arith, nat_tests, h.2) in
     ap (rows_under lifts) h.1 ∙ (rw test refl)
 under_is lifts text records (inr h) = ap (rows_under lifts) h.0 ∙ (rw h.1 refl)
 
-rows_are : (lifts : ℕ) (text : List ℕ) (records : List Fields) (rows : List StepRow) → AreUnderHeading text records → AreRows lifts records rows → NoLiftTwice rows
+rows_are : (lifts : ℕ) (text : List ℕ) (records : List Fields) (rows : List StepRow) → AreUnderHeading text records
+    → AreRows lifts records rows → NoLiftTwice rows
     → rows_under lifts (records_of text) ≡ Ok rows
 rows_are lifts text records rows under are once = under_is lifts text records under ∙ rows_on lifts [] rows records are.written once are.few
 
@@ -355,7 +371,8 @@ steps_fault lifts text f (inr (inr h)) =
 abbrev EitherSteps : ℕ → List ℕ → Type 0
 EitherSteps lifts text = ((rows : List StepRow) × AreSteps lifts text rows) ⊎ ((f : StepsFault) × IsStepsFault lifts text f)
 
-by_missing : (lifts : ℕ) (text : List ℕ) (records : List Fields) (rows : List StepRow) → AreUnderHeading text records → AreOn lifts [] records rows
+by_missing : (lifts : ℕ) (text : List ℕ) (records : List Fields) (rows : List StepRow) → AreUnderHeading text records
+    → AreOn lifts [] records rows
     → (o : Option ℕ) → missing_from rows 1 lifts ≡ o → EitherSteps lifts text
 by_missing lifts text records rows under on None e = inl (
   rows,
@@ -384,7 +401,8 @@ by_missing lifts text records rows under on (Some m) e =
       })),
     )
 
-by_records : (lifts : ℕ) (text : List ℕ) (records : List Fields) → AreUnderHeading text records → EitherOn lifts [] records → EitherSteps lifts text
+by_records : (lifts : ℕ) (text : List ℕ) (records : List Fields) → AreUnderHeading text records → EitherOn lifts [] records
+    → EitherSteps lifts text
 by_records lifts text records under (inl h) = by_missing lifts text records h.0 under h.1 (missing_from h.0 1 lifts) refl
 by_records lifts text records under (inr h) =
     inr (
@@ -402,7 +420,8 @@ by_records lifts text records under (inr h) =
       })),
     )
 
-pub steps_either : (lifts : ℕ) (text : List ℕ) → ((rows : List StepRow) × AreSteps lifts text rows) ⊎ ((f : StepsFault) × IsStepsFault lifts text f)
+pub steps_either : (lifts : ℕ) (text : List ℕ)
+    → ((rows : List StepRow) × AreSteps lifts text rows) ⊎ ((f : StepsFault) × IsStepsFault lifts text f)
 steps_either lifts text = go (records_of text) refl
   where
     go : (all : List Fields) → records_of text ≡ all → EitherSteps lifts text
@@ -410,7 +429,16 @@ steps_either lifts text = go (records_of text) refl
     go (heading ∷ records) e =
         elim (cases_eq (length heading) 4) [
           | inl four ↦ by_records lifts text records (inl (heading, e, four)) (either_on lifts [] records (λ n. omega arith) (omega arith))
-          | inr other ↦ inr (record { code = BadCsv; at = 1 }, inl (record { heading = heading; records = records; records_are = e; not_four = other; fault_is = refl }))
+          | inr other ↦ inr (
+            record { code = BadCsv; at = 1 },
+            inl (record {
+              heading = heading;
+              records = records;
+              records_are = e;
+              not_four = other;
+              fault_is = refl;
+            }),
+          )
         ]
 
 pub are_steps : (lifts : ℕ) (text : List ℕ) (rows : List StepRow) → steps_of lifts text ≡ Ok rows → AreSteps lifts text rows

@@ -60,7 +60,8 @@ item_of mark f cell id = item_by mark f cell id (measure_of f)
 -- the entries with one more, if there is one, of which this is at most the last
 abbrev pub with_entry : {X : Type 0} → ℕ → List X → Numbered → Option X → Result (List X) StowFault
 with_entry most entries location None = Ok entries
-with_entry most entries location (Some entry) = if nat_lt (length entries) most then Ok (entries ++ entry ∷ []) else Err (fault_at TooMany location)
+with_entry most entries location (Some entry) =
+    if nat_lt (length entries) most then Ok (entries ++ entry ∷ []) else Err (fault_at TooMany location)
 
 -- what a part gives: an entry, or none
 abbrev pub entries_of : {X : Type 0} → Result (Option X) StowFault → List X

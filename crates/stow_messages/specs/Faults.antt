@@ -19,7 +19,8 @@ IsRefused {X} most entries location gives f =
     ⊎ ((entry : X) × (gives ≡ Ok (Some entry)) × (length entries ≡ most) × (f ≡ fault_at TooMany location))
 
 -- A part of the message is refused with this fault, and none before it is.
-pub record IsFirstFault {X P : Type 0} (most : ℕ) (location : P → Numbered) (gives : P → Result (Option X) StowFault) (parts : List P) (f : StowFault) : Type 0 where
+pub record IsFirstFault {X P : Type 0} (most : ℕ) (location : P → Numbered) (gives : P → Result (Option X) StowFault)
+    (parts : List P) (f : StowFault) : Type 0 where
   pub before : List P
   pub part : P
   pub behind : List P

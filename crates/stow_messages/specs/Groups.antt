@@ -1,7 +1,7 @@
 -- How the segments of a message are cut into parts: a location of a cell (LOC+147) begins a group, and in a movement
 -- instruction a handling (HAN) is a part by itself. A group runs to the next part or to the end of the message.
-use Rattle.std.specs.Prelude.{List, [], ◌∷◌, Option, Some, None, Bool, true, ◌&&◌, if◌then◌else◌, find}
-use Rattle.std.specs.Option.{option_or}
+use Rattle.std.specs.Prelude.{List, [], ◌∷◌, Option, Some, None, Bool, true, ◌&&◌, ◌||◌, if◌then◌else◌, find}
+use Rattle.std.specs.Option.{option_or, is_some}
 use Rattle.edifact_text.specs.Interchange.{Numbered}
 use Rattle.stow_messages.specs.declared.groups.SegmentKind.TheVariants.{Location, Handling, Equipment, Verified, Gross}
 use Rattle.stow_messages.specs.Kinds.{has_kind}
@@ -20,6 +20,10 @@ found_in location behind = record {
   verified = find (has_kind Verified) behind;
   gross = find (has_kind Gross) behind;
 }
+
+-- the group has a container or a mass
+abbrev pub names_a_container : Found → Bool
+names_a_container f = is_some f.equipment || (is_some f.verified || is_some f.gross)
 
 -- a part of a message
 pub data Part : Type 0 where
@@ -40,7 +44,8 @@ part_at s behind = if has_kind Location s then Located (found_in s behind) else 
 
 abbrev pub parts_of : Bool → List Numbered → List Part
 parts_of handles [] = []
-parts_of handles (s ∷ more) = if begins handles s then part_at s (until_part handles more) ∷ parts_of handles more else parts_of handles more
+parts_of handles (s ∷ more) =
+    if begins handles s then part_at s (until_part handles more) ∷ parts_of handles more else parts_of handles more
 
 -- What is found where nothing stands behind the location yet, and with one more segment: the first of each kind counts.
 abbrev pub found_at : Numbered → Found

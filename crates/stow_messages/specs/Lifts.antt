@@ -1,8 +1,8 @@
 -- The lifts of a movement instruction (MOVINS, UN/EDIFACT D.95B): those of its groups in their order, each handled as the last
 -- handling before it says. The first fault in the order of the segments is the instruction's, and those of a group come before
 -- those of the segment that ends it.
-use Rattle.std.specs.Prelude.{ℕ, ◌≤◌, List, [], ◌∷◌, length, Option, Some, None, Result, Ok, Err, Bool, true, ◌||◌, if◌then◌else◌, codes}
-use Rattle.std.specs.Option.{is_some, option_map}
+use Rattle.std.specs.Prelude.{ℕ, ◌≤◌, List, [], ◌∷◌, length, Option, Some, None, Result, Ok, Err, true, if◌then◌else◌, codes}
+use Rattle.std.specs.Option.{option_map}
 use Rattle.arrayvec.specs.ArrayVec.{ArrayVec}
 use Rattle.units_core.specs.declared.cells.Cell.{Cell}
 use Rattle.edifact_text.specs.Faults.{IsMessage}
@@ -17,7 +17,7 @@ use Rattle.stow_messages.specs.declared.lifts.Handling.TheVariants.{Loading, Dis
 use Rattle.stow_messages.specs.declared.faults.StowFault.{StowFault}
 use Rattle.stow_messages.specs.declared.faults.StowCode.TheVariants.{Envelope, LiftWithoutHandling, UnknownHandling}
 use Rattle.stow_messages.specs.Entries.{◌>>=◌, fault_at, or_fault_at, cell_at, id_of, item_of, with_entry, AreEntries}
-use Rattle.stow_messages.specs.Groups.{Found, Part, Handled, Located, parts_of, HandledPart, handled_parts}
+use Rattle.stow_messages.specs.Groups.{Found, Part, Handled, Located, names_a_container, parts_of, groups_in, HandledPart, handled_parts}
 use Rattle.stow_messages.specs.Kinds.{has}
 
 -- what a handling says: LOA to load, DIS to discharge, and no other code
@@ -27,10 +27,7 @@ handling_at s =
     else if has s 1 0 (codes "DIS") then Ok Discharging
     else Err (fault_at UnknownHandling s)
 
--- A group under DIS is a discharge where it names a container or has a mass, which isn't read.
-abbrev pub names_a_container : Found → Bool
-names_a_container f = is_some f.equipment || (is_some f.verified || is_some f.gross)
-
+-- A group under DIS is a discharge where it has a container or a mass, which isn't read.
 abbrev pub lift_of : ℕ → Found → Cell → Handling → ArrayVec ℕ → Result (Option Lift) StowFault
 lift_of mark f cell Loading id = item_of mark f cell id >>= (λ item. Ok (option_map Load item))
 lift_of mark f cell Discharging id = Ok (if names_a_container f then Some (Discharge cell id) else None)
@@ -77,7 +74,10 @@ lift_behind mark last (Located f) = handling_of last >>= (λ handling. lift_in m
 abbrev pub lift_under : ℕ → HandledPart → Result (Option Lift) StowFault
 lift_under mark p = lift_behind mark p.handling p.part
 
--- the parts of a message, each with the last handling before it
+-- the groups of a message, and its parts, each with the last handling before it
+abbrev pub lift_groups : Opened → List Found
+lift_groups m = groups_in (parts_of true m.segments)
+
 abbrev pub lift_parts : Opened → List HandledPart
 lift_parts m = handled_parts None (parts_of true m.segments)
 

@@ -102,7 +102,8 @@ at_record line (Err code) = Err (fault_at code line)
 -- the rows of records behind these rows: the heading is record 1, and each record gives a row
 abbrev pub rows_from : ℕ → List StepRow → List Fields → Result (List StepRow) StepsFault
 rows_from lifts rows [] = Ok rows
-rows_from lifts rows (fields ∷ more) = at_record (length rows + 2) (with_record lifts rows fields) >>= (λ longer. rows_from lifts longer more)
+rows_from lifts rows (fields ∷ more) =
+    at_record (length rows + 2) (with_record lifts rows fields) >>= (λ longer. rows_from lifts longer more)
 
 abbrev pub rows_under : ℕ → List Fields → Result (List StepRow) StepsFault
 rows_under lifts [] = Ok []

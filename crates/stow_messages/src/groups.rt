@@ -2,9 +2,8 @@ ghost use Rattle.std.specs.Prelude.{◌≡◌, ◌≢◌, Ok, Err, IfErr, OnOk};
 ghost use Rattle.std.specs.Str.{bytes_eq};
 ghost use Rattle.edifact_text.specs.Views.{meant, numbered_view};
 ghost use Rattle.stow_messages.specs.Entries.{IsFaultOf, cell_at, fault_at, id_at, id_of, kg_at, item_of, with_entry};
-ghost use Rattle.stow_messages.specs.Groups.{with_segment, found_at};
+ghost use Rattle.stow_messages.specs.Groups.{found_at, names_a_container, with_segment};
 ghost use Rattle.stow_messages.specs.Kinds.{has, kind_of, measurement_of};
-ghost use Rattle.stow_messages.specs.Lifts.{names_a_container};
 ghost use Rattle.stow_messages.specs.Views.{found_view};
 
 use crate::faults::{NO_MEMORY, StowCode, StowFault};

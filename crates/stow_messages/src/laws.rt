@@ -1,4 +1,8 @@
 ghost use Rattle.std.specs.Prelude.{◌≡◌, ◌⊎◌, ℕ, ◌-◌, List, length, Ok, Err};
+ghost use Rattle.std.specs.List.{filter};
+ghost use Rattle.edifact_text.specs.declared.faults.Kind.TheVariants.{Baplie, Movins};
+ghost use Rattle.edifact_text.specs.Faults.{IsMessage};
+ghost use Rattle.edifact_text.specs.Interchange.{Opened};
 ghost use Rattle.csv_text.specs.Reading.{records_of};
 ghost use Rattle.stow_messages.specs.declared.faults.StowFault.{StowFault};
 ghost use Rattle.stow_messages.specs.declared.items.Item.{Item};
@@ -6,13 +10,15 @@ ghost use Rattle.stow_messages.specs.declared.lifts.Lift.{Lift};
 ghost use Rattle.stow_messages.specs.declared.step_faults.StepsFault.{StepsFault};
 ghost use Rattle.stow_messages.specs.declared.step_rows.StepRow.{StepRow};
 ghost use Rattle.stow_messages.specs.Faults.{IsPlanFault, IsInstructionFault};
-ghost use Rattle.stow_messages.specs.Items.{AreItems, bay_plan};
-ghost use Rattle.stow_messages.specs.Lifts.{AreLifts, movement_instruction};
+ghost use Rattle.stow_messages.specs.Groups.{names_a_container};
+ghost use Rattle.stow_messages.specs.Items.{AreItems, bay_plan, item_groups};
+ghost use Rattle.stow_messages.specs.Lifts.{AreLifts, lift_groups, movement_instruction};
 ghost use Rattle.stow_messages.specs.StepFaults.{AreSteps, IsStepsFault};
 ghost use Rattle.stow_messages.specs.Steps.{steps_of};
 
 /// A text is a bay plan with its items, or it has a fault, and one only: that of its envelope, or of the first group that is
-/// refused (`specs/Items.antt`, `specs/Faults.antt`). What is so is what [`baplie`](crate::baplie) answers.
+/// refused (`specs/Items.antt`, `specs/Faults.antt`). No container is lost: there are as many items as groups with a container or
+/// a mass. What is so is what [`baplie`](crate::baplie) answers.
 pub fn one_bay_plan()
     ensures sound { (text : List ℕ) (items : List Item) →
         AreItems text items → bay_plan text ≡ Ok items }
@@ -22,11 +28,14 @@ pub fn one_bay_plan()
         ((items : List Item) × AreItems text items) ⊎ ((f : StowFault) × IsPlanFault text f) }
     ensures not_both { (text : List ℕ) (items : List Item) (f : StowFault) →
         AreItems text items → IsPlanFault text f → ⊥ }
+    ensures as_many { (text : List ℕ) (m : Opened) (items : List Item) →
+        IsMessage Baplie text m.mark m.segments → bay_plan text ≡ Ok items →
+        length items ≡ length (filter names_a_container (item_groups m)) }
 {}
 
 /// A text is a movement instruction with its lifts, or it has a fault, and one only: that of its envelope, or of the first part,
-/// a handling or a group, that is refused (`specs/Lifts.antt`, `specs/Faults.antt`). What is so is what
-/// [`movins`](crate::movins) answers.
+/// a handling or a group, that is refused (`specs/Lifts.antt`, `specs/Faults.antt`). No container is lost: there are as many lifts
+/// as groups with a container or a mass. What is so is what [`movins`](crate::movins) answers.
 pub fn one_movement_instruction()
     ensures sound { (text : List ℕ) (lifts : List Lift) →
         AreLifts text lifts → movement_instruction text ≡ Ok lifts }
@@ -37,6 +46,9 @@ pub fn one_movement_instruction()
         ⊎ ((f : StowFault) × IsInstructionFault text f) }
     ensures not_both { (text : List ℕ) (lifts : List Lift) (f : StowFault) →
         AreLifts text lifts → IsInstructionFault text f → ⊥ }
+    ensures as_many { (text : List ℕ) (m : Opened) (lifts : List Lift) →
+        IsMessage Movins text m.mark m.segments → movement_instruction text ≡ Ok lifts →
+        length lifts ≡ length (filter names_a_container (lift_groups m)) }
 {}
 
 /// A text is a steps file with its rows, each lift of the instruction in one of them, or it has a fault, and one only: that of

@@ -1,4 +1,5 @@
 use Rattle.stow_messages.proofs.MessageLemmas.{plan_sound, plan_fault, plan_either}
+use Rattle.stow_messages.proofs.CountLemmas.{plan_as_many}
 use Rattle.stow_messages.proofs.laws.one_bay_plan.Goals as goal
 
 pub returns : goal.returns
@@ -10,4 +11,5 @@ returns c = record {
       let a = plan_sound text items h in
       let b = plan_fault text f g in
       cc;
+  as_many = λ text m items is h. plan_as_many text m items is h;
 }

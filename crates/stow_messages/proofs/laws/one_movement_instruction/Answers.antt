@@ -1,4 +1,5 @@
 use Rattle.stow_messages.proofs.MessageLemmas.{instruction_sound, instruction_fault, instruction_either}
+use Rattle.stow_messages.proofs.CountLemmas.{instruction_as_many}
 use Rattle.stow_messages.proofs.laws.one_movement_instruction.Goals as goal
 
 pub returns : goal.returns
@@ -10,4 +11,5 @@ returns c = record {
       let a = instruction_sound text lifts h in
       let b = instruction_fault text f g in
       cc;
+  as_many = λ text m lifts is h. instruction_as_many text m lifts is h;
 }
