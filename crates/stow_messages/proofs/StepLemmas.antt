@@ -1,9 +1,7 @@
 -- The rows of a steps file: their flags, and the lifts that are missing.
-use Rattle.std.proofs.Common.{◌≡◌, ◌≢◌, ◌∙◌, ℕ, zero, suc, ◌+◌, ◌<◌, ◌≤◌, ◌==◌, ◌-◌, ◌&&◌, nat_lt, nat_le, Bool, true, false, cond, ◌||◌, List, [], ◌∷◌, ◌++◌, length, length-append, get_or, set, Option, Some, None, Ok, Err, refl, ap, sym, arith, add-one}
-use Rattle.std.specs.List.{filter}
+use Rattle.std.proofs.Common.{◌≡◌, ◌≢◌, ◌∙◌, ℕ, zero, suc, ◌+◌, ◌<◌, ◌≤◌, ◌==◌, ◌-◌, nat_lt, Bool, true, false, ◌||◌, List, [], ◌∷◌, ◌++◌, length, get_or, set, Option, Some, None, Ok, Err, refl, ap, sym, arith}
 use Rattle.std.proofs.lemmas.Bool.Decides.{nat_tests}
 use Rattle.std.proofs.lemmas.List.{length-set, get_or-set_other}
-use Rattle.std.proofs.lemmas.List.Elements.{filter-append}
 use Rattle.std.proofs.lemmas.List.Folds.{list_any-append}
 use Rattle.std.proofs.lemmas.Grind.{get_or-set_at}
 use Rattle.csv.specs.Records.{field_at}
@@ -13,7 +11,7 @@ use Rattle.stow_messages.specs.declared.step_rows.StepRow.TheVariants.{Lift, Tan
 use Rattle.stow_messages.specs.declared.step_faults.StepsFault.{StepsFault}
 use Rattle.stow_messages.specs.declared.step_faults.StepsCode.TheVariants as code
 use Rattle.stow_messages.specs.StepsSoFar.{AreFlags, IsWithin}
-use Rattle.stow_messages.specs.Steps.{is_lift, stands, EachLiftOnce, missing_from, fault_at, at_record, with_record, rows_from, rows_under}
+use Rattle.stow_messages.specs.Steps.{is_lift, stands, missing_from, fault_at, at_record, with_record, rows_from, rows_under}
 
 -- a record of four fields
 pub four_fields : (fields : Fields) (kind first second third : List ℕ) → length fields ≡ 4 → field_at fields 0 ≡ Some kind
@@ -70,19 +68,9 @@ or_true : (b : Bool) → (b || true) ≡ true
 or_true true = refl
 or_true false = refl
 
--- one more row: what stands among the rows, and how often
+-- one more row
 stands-more : (n : ℕ) (rows : List StepRow) (row : StepRow) → stands n (rows ++ row ∷ []) ≡ (stands n rows || is_lift n row)
 stands-more n rows row = list_any-append (is_lift n) rows (row ∷ []) ∙ ap (λ b. stands n rows || b) (or_false (is_lift n row))
-
-one_if : (b : Bool) (row : StepRow) → length (cond b (row ∷ []) []) ≡ cond b 1 0
-one_if true row = refl
-one_if false row = refl
-
-pub times-more : (n : ℕ) (rows : List StepRow) (row : StepRow) → length (filter (is_lift n) (rows ++ row ∷ [])) ≡ length (filter (is_lift n) rows) + cond (is_lift n row) 1 0
-times-more n rows row =
-    ap length (filter-append (is_lift n) rows (row ∷ []))
-    ∙ length-append (filter (is_lift n) rows) (filter (is_lift n) (row ∷ []))
-    ∙ ap (λ k. length (filter (is_lift n) rows) + k) (one_if (is_lift n row) row)
 
 module _ (lifts : ℕ) (rows : List StepRow) (flags : List Bool) (are : AreFlags lifts rows flags) where
   stays : (row : StepRow) (n : ℕ) → is_lift n row ≡ false → stands n (rows ++ row ∷ []) ≡ stands n rows
@@ -91,24 +79,10 @@ module _ (lifts : ℕ) (rows : List StepRow) (flags : List Bool) (are : AreFlags
   comes : (row : StepRow) (n : ℕ) → is_lift n row ≡ true → stands n (rows ++ row ∷ []) ≡ true
   comes row n e = stands-more n rows row ∙ ap (λ b. stands n rows || b) e ∙ or_true (stands n rows)
 
-  -- a row that is no lift, or a lift for the first time, leaves each lift once
-  once-more : (row : StepRow) (n : ℕ) → (is_lift n row ≡ true → stands n rows ≡ false) → length (filter (is_lift n) (rows ++ row ∷ [])) ≡ cond (stands n (rows ++ row ∷ [])) 1 0
-  once-more row n fresh = go (is_lift n row) refl
-    where
-      go : (b : Bool) → is_lift n row ≡ b → length (filter (is_lift n) (rows ++ row ∷ [])) ≡ cond (stands n (rows ++ row ∷ [])) 1 0
-      go true e =
-          let none = fresh e in
-          let before : length (filter (is_lift n) rows) ≡ 0 = rw none at (are.once n) in
-          times-more n rows row ∙ (rw (before, e, comes row n e) refl)
-      go false e =
-          times-more n rows row ∙ (rw (are.once n, e, stays row n e) (omega arith))
-
   pub flags-other : (next : StepRow) → ((n : ℕ) → is_lift n next ≡ false) → AreFlags lifts (rows ++ next ∷ []) flags
   flags-other next other = record {
     size = are.size;
     each = λ i. are.each i ∙ sym (stays next (i + 1) (other (i + 1)));
-    none = stays next 0 (other 0) ∙ are.none;
-    once = λ n. once-more next n (λ e. let f = other n in cc);
   }
 
   flag-set : (n : ℕ) → 1 ≤ n → n ≤ lifts → (i : ℕ) → get_or (set flags (n - 1) true) i false ≡ stands (i + 1) (rows ++ Lift n ∷ [])
@@ -122,45 +96,18 @@ module _ (lifts : ℕ) (rows : List StepRow) (flags : List Bool) (are : AreFlags
           let other : i ≢ n - 1 = grind (arith, nat_tests) in
           get_or-set_other flags (n - 1) i true false other ∙ are.each i ∙ sym (stays (Lift n) (i + 1) e)
 
-  pub flags-lift : (n : ℕ) → 1 ≤ n → n ≤ lifts → get_or flags (n - 1) false ≡ false → AreFlags lifts (rows ++ Lift n ∷ []) (set flags (n - 1) true)
-  flags-lift n low high unset =
-      let fresh : stands n rows ≡ false = rw (sub-add-one n low) at (sym (are.each (n - 1)) ∙ unset) in
-      record {
-        size = length-set flags (n - 1) true ∙ are.size;
-        each = flag-set n low high;
-        none = stays (Lift n) 0 (let test : (0 == n) ≡ false = grind (arith, nat_tests) in test) ∙ are.none;
-        once = λ j. once-more (Lift n) j (λ e. let same : j ≡ n = grind (arith, nat_tests) in rw same fresh);
-      }
-
-  past : (fs : List Bool) (i : ℕ) → length fs ≤ i → get_or fs i false ≡ false
-  past [] i h = refl
-  past (f ∷ fs) zero h = absurd (omega arith)
-  past (f ∷ fs) (suc i) h = past fs i (omega arith)
-
-  -- where no lift is missing, each stands once
-  pub each-once : missing_from rows 1 lifts ≡ None → EachLiftOnce lifts rows
-  each-once e zero = are.once zero ∙ (rw are.none refl)
-  each-once e (suc i) = are.once (suc i) ∙ go (nat_le (suc i) lifts) refl
-    where
-      one : nat_le 1 (suc i) ≡ true
-      one = grind (arith, nat_tests)
-
-      go : (b : Bool) → nat_le (suc i) lifts ≡ b → ◌≡◌ {A = ℕ} (cond (stands (suc i) rows) 1 0) (cond (nat_le 1 (suc i) && nat_le (suc i) lifts) 1 0)
-      go true b =
-          let all = missing-tells rows 1 lifts e (suc i) (omega arith) (grind (arith, nat_tests)) in rw (all, one, b) refl
-      go false b =
-          let none : stands (suc i) rows ≡ false = rw (add-one i) at (sym (are.each i) ∙ past flags i (grind (arith, nat_tests, are.size))) in
-          rw (none, one, b) refl
+  pub flags-lift : (n : ℕ) → 1 ≤ n → n ≤ lifts → AreFlags lifts (rows ++ Lift n ∷ []) (set flags (n - 1) true)
+  flags-lift n low high = record { size = length-set flags (n - 1) true ∙ are.size; each = flag-set n low high }
 
   -- the lifts whose flags were passed
   pub flag-before : (i : ℕ) → ((k : ℕ) → k < i → get_or flags k false ≡ true) → (j : ℕ) → 1 ≤ j → j < i + 1 → stands j rows ≡ true
   flag-before i all j low high = rw (sub-add-one j low) at (sym (are.each (j - 1)) ∙ all (j - 1) (omega arith))
 
 -- a row that was joined to the rows, by its kind
-pub flags-joined : (lifts n : ℕ) (rows items : List StepRow) (flags seen : List Bool) (row : StepRow) → AreFlags lifts rows flags → IsWithin lifts row → row ≡ Lift n
-    → get_or flags (n - 1) false ≡ false → items ≡ rows ++ row ∷ [] → seen ≡ set flags (n - 1) true → AreFlags lifts items seen
-flags-joined lifts n rows items flags seen row are in' is unset p q =
-    let bounds = rw is at in' in rw (p, q, is) (flags-lift lifts rows flags are n bounds.0 bounds.1 unset)
+pub flags-joined : (lifts n : ℕ) (rows items : List StepRow) (flags seen : List Bool) (row : StepRow) → AreFlags lifts rows flags
+    → IsWithin lifts row → row ≡ Lift n → items ≡ rows ++ row ∷ [] → seen ≡ set flags (n - 1) true → AreFlags lifts items seen
+flags-joined lifts n rows items flags seen row are in' is p q =
+    let bounds = rw is at in' in rw (p, q, is) (flags-lift lifts rows flags are n bounds.0 bounds.1)
 
 no_lift : (row : StepRow) → ((n : ℕ) → row ≢ Lift n) → (n : ℕ) → is_lift n row ≡ false
 no_lift (Lift m) other n = absurd (other m refl)

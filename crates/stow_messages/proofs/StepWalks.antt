@@ -19,7 +19,7 @@ use Rattle.stow_messages.specs.StepFaults.{AreUnderHeading, AreRows, NoLiftTwice
 use Rattle.stow_messages.specs.Steps.{or_fault, lift_number, lift_row, text_of, mass_of, tank_of, restow_of, row_of, is_lift, stands, repeats, with_record, fault_at, at_record, rows_from, rows_under, missing_from, steps_of, EachLiftOnce}
 use Rattle.stow_messages.specs.StepsSoFar.{IsWithin}
 use Rattle.stow_messages.proofs.EntryLemmas.{followed, told}
-use Rattle.stow_messages.proofs.StepLemmas.{missing-none, missing-at, missing-tells, times-more}
+use Rattle.stow_messages.proofs.StepLemmas.{missing-none, missing-at, missing-tells}
 
 -- What a record writes: a lift is one of the lifts, and a fault has a place.
 abbrev IsWritten : ℕ → Result StepRow StepsCode → Type 0
@@ -59,6 +59,10 @@ row_written lifts fields = λ at. refl
 abbrev times : ℕ → List StepRow → ℕ
 times n rows = length (filter (is_lift n) rows)
 
+times_append : (n : ℕ) (rows more : List StepRow) → times n (rows ++ more) ≡ times n rows + times n more
+times_append n rows more =
+    ap length (filter-append (is_lift n) rows more) ∙ length-append (filter (is_lift n) rows) (filter (is_lift n) more)
+
 never : (n : ℕ) (rows : List StepRow) → stands n rows ≡ false → times n rows ≡ 0
 never n [] h = refl
 never n (row ∷ rows) h = go (is_lift n row) refl (never n rows)
@@ -93,8 +97,7 @@ not_repeated rows more (Lift n) once = go (stands n rows) refl
     go true e =
         let self : (n == n) ≡ true = grind (arith, nat_tests) in
         let more_than_one : times n (Lift n ∷ more) ≡ suc (times n more) = rw self refl in
-        let both : times n (rows ++ Lift n ∷ more) ≡ times n rows + times n (Lift n ∷ more) =
-        ap length (filter-append (is_lift n) rows (Lift n ∷ more)) ∙ length-append (filter (is_lift n) rows) (filter (is_lift n) (Lift n ∷ more)) in
+        let both = times_append n rows (Lift n ∷ more) in
         absurd (omega (arith, once n, both, more_than_one, once_or_more n rows e))
 
 is_fresh : (n : ℕ) (rows : List StepRow) (row : StepRow) → repeats rows row ≡ false → is_lift n row ≡ true → stands n rows ≡ false
@@ -108,13 +111,11 @@ still_once rows row once fresh n = go (is_lift n row) refl
     go : (b : Bool) → is_lift n row ≡ b → times n (rows ++ row ∷ []) ≤ 1
     go true e =
         let before = never n rows (is_fresh n rows row fresh e) in
-        let all = times-more n rows row in
-        let one : ◌≡◌ {A = ℕ} (cond (is_lift n row) 1 0) 1 = rw e refl in
-        omega (arith, before, all, one)
+        let one : times n (row ∷ []) ≡ 1 = rw e refl in
+        omega (arith, before, times_append n rows (row ∷ []), one)
     go false e =
-        let all = times-more n rows row in
-        let none : ◌≡◌ {A = ℕ} (cond (is_lift n row) 1 0) 0 = rw e refl in
-        omega (arith, once n, all, none)
+        let none : times n (row ∷ []) ≡ 0 = rw e refl in
+        omega (arith, once n, times_append n rows (row ∷ []), none)
 
 repeated : (rows : List StepRow) (row : StepRow) → repeats rows row ≡ true → (n : ℕ) × (row ≡ Lift n) × (stands n rows ≡ true)
 repeated rows (Lift n) h = (n, refl, h)

@@ -1,22 +1,19 @@
 -- Bookkeeping: what the code that reads a steps file keeps while it reads, as its own functions hand it on. No definition of the
 -- format cites this.
-use Rattle.std.specs.Prelude.{◌≡◌, ◌≢◌, ℕ, ◌+◌, ◌≤◌, List, length, Result, Err, Bool, false, if◌then◌else◌, slice_index_or, ⊤}
+use Rattle.std.specs.Prelude.{◌≡◌, ◌≢◌, ℕ, ◌+◌, ◌≤◌, List, length, Result, Err, Bool, false, slice_index_or, ⊤}
 use Rattle.std.specs.Borrow.{Bor}
-use Rattle.std.specs.List.{filter}
 use Rattle.csv.specs.declared.reader.Reader.{Reader}
 use Rattle.csv_text.specs.Reading.{Fields, HasLeft}
 use Rattle.stow_messages.specs.declared.step_faults.StepsCode.{StepsCode}
 use Rattle.stow_messages.specs.declared.step_faults.StepsCode.TheVariants.{NoMemory}
 use Rattle.stow_messages.specs.declared.step_rows.StepRow.{StepRow}
 use Rattle.stow_messages.specs.declared.step_rows.StepRow.TheVariants.{Lift, Tank, Restow}
-use Rattle.stow_messages.specs.Steps.{is_lift, stands}
+use Rattle.stow_messages.specs.Steps.{stands}
 
--- One flag for each lift, which says whether the lift stands among the rows. No other lift stands there, and none twice.
+-- one flag for each lift, which says whether the lift stands among the rows
 pub record AreFlags (lifts : ℕ) (rows : List StepRow) (flags : List Bool) : Type 0 where
   pub size : length flags ≡ lifts
   pub each : (i : ℕ) → slice_index_or flags i false ≡ stands (i + 1) rows
-  pub none : stands 0 rows ≡ false
-  pub once : (n : ℕ) → length (filter (is_lift n) rows) ≡ (if stands n rows then 1 else 0)
 
 -- a row that is a lift is one of the lifts
 abbrev pub IsWithin : ℕ → StepRow → Type 0

@@ -186,7 +186,6 @@ fn complete(lifts: u32, gathered: Gathered) -> Result<Vec<StepRow>, StepsFault>
     ensures ok { IfOk result (λ rows. complete lifts gathered.rows.items ≡ Ok rows.items) }
     ensures refused { IfErr result (λ e. complete lifts gathered.rows.items ≡ Err e) }
     ensures same { IfOk result (λ rows. rows ≡ gathered.rows) }
-    ensures once { IfOk result (λ rows. EachLiftOnce lifts rows.items) }
 {
     match least_missing(gathered.seen.as_slice()) {
         Some(lift) => Err(fault_at(StepsCode::LiftMissing, lift)),
