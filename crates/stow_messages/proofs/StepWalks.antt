@@ -15,7 +15,7 @@ use Rattle.stow_messages.specs.declared.step_rows.StepRow.TheVariants.{Lift, Tan
 use Rattle.stow_messages.specs.declared.step_faults.StepsFault.{StepsFault}
 use Rattle.stow_messages.specs.declared.step_faults.StepsCode.{StepsCode}
 use Rattle.stow_messages.specs.declared.step_faults.StepsCode.TheVariants.{BadCsv, BadField, LiftTwice, LiftMissing, TooMany}
-use Rattle.stow_messages.specs.StepFaults.{AreUnderHeading, AreRows, NoLiftTwice, AreSteps, IsRefused, IsStepsFault}
+use Rattle.stow_messages.specs.StepFaults.{AreUnderHeading, AreRows, NoLiftTwice, AreSteps, IsRefusedRecord, IsStepsFault}
 use Rattle.stow_messages.specs.Steps.{or_fault, lift_number, lift_row, text_of, mass_of, tank_of, restow_of, row_of, is_lift, stands, repeats, with_record, fault_at, at_record, rows_from, rows_under, missing_from, steps_of, EachLiftOnce}
 use Rattle.stow_messages.specs.StepsSoFar.{IsWithin}
 use Rattle.stow_messages.proofs.EntryLemmas.{followed, told}
@@ -147,7 +147,7 @@ rows_past lifts start rows (fields ∷ before) rest h =
     (λ longer is on. rw is (rows_past lifts longer rows before rest on))
 
 -- a record that is refused
-refused_code : (lifts : ℕ) (rows : List StepRow) (fields : Fields) (code : StepsCode) → IsRefused lifts rows fields code
+refused_code : (lifts : ℕ) (rows : List StepRow) (fields : Fields) (code : StepsCode) → IsRefusedRecord lifts rows fields code
     → (with_record lifts rows fields ≡ Err code) × ((at : ℕ) → fault_at code at ≡ record { code = code; at = at })
 refused_code lifts rows fields code (inl h) =
     let test : nat_lt (length rows) 200000 ≡ false = grind (arith, nat_tests, h.0) in
@@ -161,7 +161,7 @@ refused_code lifts rows fields code (inr (inr h)) =
     rw (h.4, test, h.2, h.3) (refl, λ at. refl)
 
 row_stops : (lifts : ℕ) (rows : List StepRow) (fields : Fields) (behind : List Fields) (f : StepsFault)
-    → IsRefused lifts rows fields f.code → f.at ≡ length rows + 2
+    → IsRefusedRecord lifts rows fields f.code → f.at ≡ length rows + 2
     → rows_from lifts rows (fields ∷ behind) ≡ Err f
 row_stops lifts rows fields behind f h at =
     let code = refused_code lifts rows fields f.code h in
@@ -186,7 +186,7 @@ record AreStopped (lifts : ℕ) (start : List StepRow) (records : List Fields) :
   rows : List StepRow
   records_are : records ≡ before ++ fields ∷ behind
   on : AreOn lifts start before rows
-  refused : IsRefused lifts (start ++ rows) fields code
+  refused : IsRefusedRecord lifts (start ++ rows) fields code
 
 abbrev EitherOn : ℕ → List StepRow → List Fields → Type 0
 EitherOn lifts start records = ((rows : List StepRow) × AreOn lifts start records rows) ⊎ AreStopped lifts start records
@@ -196,7 +196,7 @@ module _ (lifts : ℕ) (start : List StepRow) where
   none_yet once few = record { written = refl; once = subst NoLiftTwice (sym (append-nil start)) once; few = rw append-nil few }
 
   stopped_here : (fields : Fields) (behind : List Fields) (code : StepsCode) → NoLiftTwice start → length start ≤ 200000
-      → IsRefused lifts start fields code
+      → IsRefusedRecord lifts start fields code
       → AreStopped lifts start (fields ∷ behind)
   stopped_here fields behind code once few refused = record {
     code = code;
@@ -206,7 +206,7 @@ module _ (lifts : ℕ) (start : List StepRow) where
     rows = [];
     records_are = refl;
     on = none_yet once few;
-    refused = subst (λ (l : List StepRow). IsRefused lifts l fields code) (sym (append-nil start)) refused;
+    refused = subst (λ (l : List StepRow). IsRefusedRecord lifts l fields code) (sym (append-nil start)) refused;
   }
 
   one_more : (fields : Fields) (row : StepRow) (records : List Fields) (rows : List StepRow) → row_of lifts fields ≡ Ok row
@@ -229,7 +229,7 @@ module _ (lifts : ℕ) (start : List StepRow) where
     rows = row ∷ h.rows;
     records_are = ap (λ (l : List Fields). fields ∷ l) h.records_are;
     on = one_more fields row h.before h.rows is h.on;
-    refused = subst (λ (l : List StepRow). IsRefused lifts l h.fields h.code) (append_assoc start (row ∷ []) h.rows) h.refused;
+    refused = subst (λ (l : List StepRow). IsRefusedRecord lifts l h.fields h.code) (append_assoc start (row ∷ []) h.rows) h.refused;
   }
 
 -- a record behind fewer than 200,000 rows

@@ -12,13 +12,13 @@ use Rattle.stow_messages.specs.Groups.{Found, HandledPart, location_of}
 use Rattle.stow_messages.specs.Items.{item_in, item_groups}
 use Rattle.stow_messages.specs.Lifts.{lift_under, lift_parts}
 
--- What a part gives is refused behind these entries: it is a fault, or an entry where as many stand as there may be.
+-- Behind these entries, what a part gives is refused: it is a fault, or one entry more than a message may have.
 abbrev pub IsRefused : {X : Type 0} → ℕ → List X → Numbered → Result (Option X) StowFault → StowFault → Type 0
 IsRefused {X} most entries location gives f =
     (gives ≡ Err f)
     ⊎ ((entry : X) × (gives ≡ Ok (Some entry)) × (length entries ≡ most) × (f ≡ fault_at TooMany location))
 
--- A part of the message is refused with this fault, and none before it is.
+-- A part of the message is refused with this fault, and none before it is refused.
 pub record IsFirstFault {X P : Type 0} (most : ℕ) (location : P → Numbered) (gives : P → Result (Option X) StowFault)
     (parts : List P) (f : StowFault) : Type 0 where
   pub before : List P
@@ -30,7 +30,7 @@ pub record IsFirstFault {X P : Type 0} (most : ℕ) (location : P → Numbered) 
   pub few : length entries ≤ most
   pub refused : IsRefused most entries (location part) (gives part) f
 
--- The text is no message of the kind. The fault stands for the message as a whole.
+-- The text is no message of the kind. The fault has the cause that the interchange has, and no segment.
 abbrev pub IsEnvelopeFault : Kind → List ℕ → StowFault → Type 0
 IsEnvelopeFault kind text f = (e : EdiFault) × IsFault kind text e × (f ≡ record { code = Envelope e; segment = 0 })
 

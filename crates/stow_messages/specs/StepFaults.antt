@@ -40,13 +40,13 @@ pub record IsHeadingFault (text : List ℕ) (f : StepsFault) : Type 0 where
   pub fault_is : f ≡ record { code = BadCsv; at = 1 }
 
 -- A record is refused behind these rows: it is one too many, or it writes no row, or its lift stands among them.
-abbrev pub IsRefused : ℕ → List StepRow → Fields → StepsCode → Type 0
-IsRefused lifts rows fields code =
+abbrev pub IsRefusedRecord : ℕ → List StepRow → Fields → StepsCode → Type 0
+IsRefusedRecord lifts rows fields code =
     ((length rows ≡ 200000) × (code ≡ TooMany))
     ⊎ (((length rows < 200000) × (row_of lifts fields ≡ Err code))
     ⊎ ((n : ℕ) × (length rows < 200000) × (row_of lifts fields ≡ Ok (Lift n)) × (stands n rows ≡ true) × (code ≡ LiftTwice)))
 
--- A record is refused, and none before it is. The heading is record 1.
+-- A record is refused, and none before it is refused. The heading is record 1.
 pub record IsRecordFault (lifts : ℕ) (text : List ℕ) (f : StepsFault) : Type 0 where
   pub before : List Fields
   pub fields : Fields
@@ -55,7 +55,7 @@ pub record IsRecordFault (lifts : ℕ) (text : List ℕ) (f : StepsFault) : Type
   pub under : AreUnderHeading text (before ++ fields ∷ behind)
   pub are_rows : AreRows lifts before rows
   pub none_twice : NoLiftTwice rows
-  pub refused : IsRefused lifts rows fields f.code
+  pub refused : IsRefusedRecord lifts rows fields f.code
   pub place_is : f.at ≡ length before + 2
 
 -- No record is refused, and this is the least lift that stands in none of the rows.
