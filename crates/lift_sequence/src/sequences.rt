@@ -68,10 +68,10 @@ fn make_all(
 
 impl Sequence {
     /// The sequence of these steps from the condition on arrival, which was made with the same profile. The first fault is answered:
-    /// [`SeqCode::TooManySteps`] at 120,001 where there are more than 120,000; then step by step, from 1, of a load `UnknownCell`, `CellTaken`,
-    /// `Overlap`; of a discharge `UnknownCell`, `CellEmpty`, `WrongContainer`; of a filling `UnknownTank`, `TankOver`; of a restow those of a
-    /// discharge, and then those of a load into the other cell. What the steps take out and put in is what changes each sum over the bodies
-    /// aboard.
+    /// [`SeqCode::TooManySteps`] at 120,001 where there are more than 120,000; then step by step, from 1, of a load `UnknownCell`,
+    /// `CellTaken`, `Overlap`; of a discharge `UnknownCell`, `CellEmpty`, `WrongContainer`; of a filling `UnknownTank`, `TankOver`; of a
+    /// restow those of a discharge, and then those of a load into the other cell. What the steps take out and put in is what changes each
+    /// sum over the bodies aboard.
     pub fn new(
         alloc: Global,
         profile: &Profile,

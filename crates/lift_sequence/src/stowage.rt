@@ -176,6 +176,7 @@ impl Stowage {
         if differ(id, container.id.as_slice()) {
             return Err(SeqCode::WrongContainer);
         }
+        // by its index, without a second search
         let (_, container) = self.cells.swap_remove_index(index).unwrap();
         Ok((body_of(place, container.kg), container))
     }
@@ -228,6 +229,7 @@ impl Stowage {
             (Tells (restow_fault profile.now (cargo_in self.old) from to id.now)) }
         ensures same { OnErr result (cargo_in self.new ≡ cargo_in self.old) }
     {
+        // for putting it back
         self.make_room()?;
         let (out, container) = self.take(profile, from, id)?;
         match self.free_place(profile, to) {
