@@ -10,7 +10,7 @@ use Rattle.lift_sequence.specs.declared.faults.SeqCode.{SeqCode}
 use Rattle.lift_sequence.specs.declared.faults.SeqCode.TheVariants.{TooManySteps}
 use Rattle.lift_sequence.specs.declared.faults.SeqFault.{SeqFault}
 use Rattle.lift_sequence.specs.declared.operations.Op.{Op}
-use Rattle.lift_sequence.specs.Aboard.{Aboard, container_of, after_step, nothing, with_cell}
+use Rattle.lift_sequence.specs.Aboard.{Aboard, after_step, nothing, with_item}
 use Rattle.lift_sequence.specs.Arrival.{arrival_fault, fault_at, fills_fault, items_fault, with_items}
 use Rattle.lift_sequence.specs.Faults.{AreLegal, IsArrivalFault, IsFirst, IsLegalArrival, IsLegalSequence, IsSequenceFault, fault_at_number, fault_of_fill, fault_of_item, fault_of_step}
 use Rattle.lift_sequence.specs.Legal.{stand_fault}
@@ -25,31 +25,33 @@ record Found {X : Type 0} (judge : List X → X → Option SeqCode) (xs : List X
   before : (k : ℕ) → k < suc place → fault_at_number judge xs k ≡ None
 
 -- A walk goes from element to element with a state, by which it judges each.
-module _ {S X : Type 0} (next : S → X → S) (judge : S → List X → X → Option SeqCode) (walk : S → ℕ → List X → Option SeqFault)
-    (ends : (s : S) (n : ℕ) → walk s n [] ≡ None)
-    (goes : (s : S) (n : ℕ) (x : X) (xs : List X) → walk s n (x ∷ xs) ≡ option_or (option_map (fault_at n) (judge s [] x)) (walk (next s x) (n + 1) xs))
-    (behind : (s : S) (x : X) (before : List X) (y : X) → judge s (x ∷ before) y ≡ judge (next s x) before y) where
+record Walks {S X : Type 0} (next : S → X → S) (judge : S → List X → X → Option SeqCode) (walk : S → ℕ → List X → Option SeqFault) : Type 0 where
+  ends : (s : S) (n : ℕ) → walk s n [] ≡ None
+  goes : (s : S) (n : ℕ) (x : X) (xs : List X) → walk s n (x ∷ xs) ≡ option_or (option_map (fault_at n) (judge s [] x)) (walk (next s x) (n + 1) xs)
+  behind : (s : S) (x : X) (before : List X) (y : X) → judge s (x ∷ before) y ≡ judge (next s x) before y
+
+module _ {S X : Type 0} {next : S → X → S} {judge : S → List X → X → Option SeqCode} {walk : S → ℕ → List X → Option SeqFault} (w : Walks next judge walk) where
   -- what is judged behind the first element is judged by the next state
   later : (s : S) (x : X) (xs : List X) (k : ℕ) → fault_at_number (judge s) (x ∷ xs) (suc (suc k)) ≡ fault_at_number (judge (next s x)) xs (suc k)
-  later s x xs k = λ i. option_and_then (λ y. behind s x (take k xs) y i) (slice_get xs k)
+  later s x xs k = λ i. option_and_then (λ y. w.behind s x (take k xs) y i) (slice_get xs k)
 
   none_here : (s : S) (n : ℕ) (x : X) (xs : List X) → walk s n (x ∷ xs) ≡ None → (judge s [] x ≡ None) × (walk (next s x) (n + 1) xs ≡ None)
-  none_here s n x xs h = none_first n (judge s [] x) (walk (next s x) (n + 1) xs) (sym (goes s n x xs) ∙ h)
+  none_here s n x xs h = none_first n (judge s [] x) (walk (next s x) (n + 1) xs) (sym (w.goes s n x xs) ∙ h)
 
   goes_by : (s : S) (n : ℕ) (x : X) (xs : List X) → judge s [] x ≡ None → walk s n (x ∷ xs) ≡ walk (next s x) (n + 1) xs
-  goes_by s n x xs h = goes s n x xs ∙ passed n (judge s [] x) (walk (next s x) (n + 1) xs) h
+  goes_by s n x xs h = w.goes s n x xs ∙ passed n (judge s [] x) (walk (next s x) (n + 1) xs) h
 
   stops_at : (s : S) (n : ℕ) (x : X) (xs : List X) (c : SeqCode) → judge s [] x ≡ Some c → walk s n (x ∷ xs) ≡ Some (fault_at n c)
-  stops_at s n x xs c h = goes s n x xs ∙ stopped n (judge s [] x) c (walk (next s x) (n + 1) xs) h
+  stops_at s n x xs c h = w.goes s n x xs ∙ stopped n (judge s [] x) c (walk (next s x) (n + 1) xs) h
 
-  pub none_walked : (s : S) (n : ℕ) (xs : List X) → walk s n xs ≡ None → AreLegal (judge s) xs
+  none_walked : (s : S) (n : ℕ) (xs : List X) → walk s n xs ≡ None → AreLegal (judge s) xs
   none_walked s n xs h zero = refl
   none_walked s n [] h (suc k) = refl
   none_walked s n (x ∷ xs) h (suc zero) = (none_here s n x xs h).0
   none_walked s n (x ∷ xs) h (suc (suc k)) = later s x xs k ∙ none_walked (next s x) (n + 1) xs (none_here s n x xs h).1 (suc k)
 
-  pub walks_none : (s : S) (n : ℕ) (xs : List X) → AreLegal (judge s) xs → walk s n xs ≡ None
-  walks_none s n [] h = ends s n
+  walks_none : (s : S) (n : ℕ) (xs : List X) → AreLegal (judge s) xs → walk s n xs ≡ None
+  walks_none s n [] h = w.ends s n
   walks_none s n (x ∷ xs) h = goes_by s n x xs (h (suc zero)) ∙ walks_none (next s x) (n + 1) xs rest where
     rest : AreLegal (judge (next s x)) xs
     rest zero = refl
@@ -67,7 +69,7 @@ module _ {S X : Type 0} (next : S → X → S) (judge : S → List X → X → O
         rest (suc k) low = sym (later s x xs k) ∙ before (suc (suc k)) (omega arith)
 
   walked_to : (s : S) (n : ℕ) (xs : List X) (f : SeqFault) → walk s n xs ≡ Some f → Found (judge s) xs n f
-  walked_to s n [] f h = absurd (none-some f (sym (ends s n) ∙ h))
+  walked_to s n [] f h = absurd (none-some f (sym (w.ends s n) ∙ h))
   walked_to s n (x ∷ xs) f h = by_first (judge s [] x) refl (walked_to (next s x) (n + 1) xs f) where
     none_before : (k : ℕ) → k < suc zero → fault_at_number (judge s) (x ∷ xs) k ≡ None
     none_before zero low = refl
@@ -98,13 +100,13 @@ module _ {S X : Type 0} (next : S → X → S) (judge : S → List X → X → O
           before = both_before r.place e r.before;
         }
 
-  pub first_walked : (s : S) (xs : List X) (f : SeqFault) → walk s 1 xs ≡ Some f → IsFirst (judge s) xs f
+  first_walked : (s : S) (xs : List X) (f : SeqFault) → walk s 1 xs ≡ Some f → IsFirst (judge s) xs f
   first_walked s xs f h =
       let r = walked_to s 1 xs f h in
       let at : f.at ≡ suc r.place = r.at ∙ omega arith in
       record { code = ap (fault_at_number (judge s) xs) at ∙ r.code; before = λ k low. r.before k (omega (arith, at)) }
 
-  pub walks_first : (s : S) (xs : List X) (f : SeqFault) → IsFirst (judge s) xs f → walk s 1 xs ≡ Some f
+  walks_first : (s : S) (xs : List X) (f : SeqFault) → IsFirst (judge s) xs f → walk s 1 xs ≡ Some f
   walks_first s xs f h = by_number f.at refl where
     by_number : (m : ℕ) → f.at ≡ m → walk s 1 xs ≡ Some f
     by_number zero e = absurd (none-some f.code (ap (fault_at_number (judge s) xs) (sym e) ∙ h.code))
@@ -114,50 +116,20 @@ module _ {S X : Type 0} (next : S → X → S) (judge : S → List X → X → O
 
 -- items, fills and steps
 module _ (ship : ProfileRecord) where
-  abbrev stowed : Aboard → Item → Aboard
-  stowed at item = with_cell at item.cell (Some (container_of item))
-
   abbrev judge_item : Aboard → List Item → Item → Option SeqCode
   judge_item at before item = stand_fault ship (with_items at before) item.cell
 
-  item_none : (items : List Item) → items_fault ship nothing 1 items ≡ None → AreLegal (fault_of_item ship) items
-  item_none items = none_walked stowed judge_item (items_fault ship) (λ s n. refl) (λ s n x xs. refl) (λ s x before y. refl) nothing 1 items
-
-  none_item : (items : List Item) → AreLegal (fault_of_item ship) items → items_fault ship nothing 1 items ≡ None
-  none_item items = walks_none stowed judge_item (items_fault ship) (λ s n. refl) (λ s n x xs. refl) (λ s x before y. refl) nothing 1 items
-
-  item_first : (items : List Item) (f : SeqFault) → items_fault ship nothing 1 items ≡ Some f → IsFirst (fault_of_item ship) items f
-  item_first items f = first_walked stowed judge_item (items_fault ship) (λ s n. refl) (λ s n x xs. refl) (λ s x before y. refl) nothing items f
-
-  first_item : (items : List Item) (f : SeqFault) → IsFirst (fault_of_item ship) items f → items_fault ship nothing 1 items ≡ Some f
-  first_item items f = walks_first stowed judge_item (items_fault ship) (λ s n. refl) (λ s n x xs. refl) (λ s x before y. refl) nothing items f
+  items_walk : Walks with_item judge_item (items_fault ship)
+  items_walk = record { ends = λ s n. refl; goes = λ s n x xs. refl; behind = λ s x before y. refl }
 
   abbrev walk_fills : Unit {0} → ℕ → List TankFill → Option SeqFault
   walk_fills s n fills = fills_fault ship n fills
 
-  fill_none : (fills : List TankFill) → fills_fault ship 1 fills ≡ None → AreLegal (fault_of_fill ship) fills
-  fill_none fills = none_walked (λ s x. s) (λ s. fault_of_fill ship) walk_fills (λ s n. refl) (λ s n x xs. refl) (λ s x before y. refl) tt 1 fills
+  fills_walk : Walks (λ s (x : TankFill). s) (λ s. fault_of_fill ship) walk_fills
+  fills_walk = record { ends = λ s n. refl; goes = λ s n x xs. refl; behind = λ s x before y. refl }
 
-  none_fill : (fills : List TankFill) → AreLegal (fault_of_fill ship) fills → fills_fault ship 1 fills ≡ None
-  none_fill fills = walks_none (λ s x. s) (λ s. fault_of_fill ship) walk_fills (λ s n. refl) (λ s n x xs. refl) (λ s x before y. refl) tt 1 fills
-
-  fill_first : (fills : List TankFill) (f : SeqFault) → fills_fault ship 1 fills ≡ Some f → IsFirst (fault_of_fill ship) fills f
-  fill_first fills f = first_walked (λ s x. s) (λ s. fault_of_fill ship) walk_fills (λ s n. refl) (λ s n x xs. refl) (λ s x before y. refl) tt fills f
-
-  first_fill : (fills : List TankFill) (f : SeqFault) → IsFirst (fault_of_fill ship) fills f → fills_fault ship 1 fills ≡ Some f
-  first_fill fills f = walks_first (λ s x. s) (λ s. fault_of_fill ship) walk_fills (λ s n. refl) (λ s n x xs. refl) (λ s x before y. refl) tt fills f
-
-  step_none : (at : Aboard) (ops : List Op) → first_fault ship at 1 ops ≡ None → AreLegal (fault_of_step ship at) ops
-  step_none at ops = none_walked (after_step ship) (fault_of_step ship) (first_fault ship) (λ s n. refl) (λ s n x xs. refl) (λ s x before y. refl) at 1 ops
-
-  none_step : (at : Aboard) (ops : List Op) → AreLegal (fault_of_step ship at) ops → first_fault ship at 1 ops ≡ None
-  none_step at ops = walks_none (after_step ship) (fault_of_step ship) (first_fault ship) (λ s n. refl) (λ s n x xs. refl) (λ s x before y. refl) at 1 ops
-
-  step_first : (at : Aboard) (ops : List Op) (f : SeqFault) → first_fault ship at 1 ops ≡ Some f → IsFirst (fault_of_step ship at) ops f
-  step_first at ops f = first_walked (after_step ship) (fault_of_step ship) (first_fault ship) (λ s n. refl) (λ s n x xs. refl) (λ s x before y. refl) at ops f
-
-  first_step : (at : Aboard) (ops : List Op) (f : SeqFault) → IsFirst (fault_of_step ship at) ops f → first_fault ship at 1 ops ≡ Some f
-  first_step at ops f = walks_first (after_step ship) (fault_of_step ship) (first_fault ship) (λ s n. refl) (λ s n x xs. refl) (λ s x before y. refl) at ops f
+  steps_walk : Walks (after_step ship) (fault_of_step ship) (first_fault ship)
+  steps_walk = record { ends = λ s n. refl; goes = λ s n x xs. refl; behind = λ s x before y. refl }
 
 -- the answer of an arrival
 module _ (ship : ProfileRecord) (items : List Item) (fills : List TankFill) where
@@ -165,19 +137,19 @@ module _ (ship : ProfileRecord) (items : List Item) (fills : List TankFill) wher
   no_item h = ap (λ o. option_or o (fills_fault ship 1 fills)) h
 
   pub arrival_faults : (f : SeqFault) → IsArrivalFault ship items fills f → arrival_fault ship items fills ≡ Some f
-  arrival_faults f (inl h) = ap (λ o. option_or o (fills_fault ship 1 fills)) (first_item ship items f h)
-  arrival_faults f (inr h) = no_item (none_item ship items h.0) ∙ first_fill ship fills f h.1
+  arrival_faults f (inl h) = ap (λ o. option_or o (fills_fault ship 1 fills)) (walks_first (items_walk ship) nothing items f h)
+  arrival_faults f (inr h) = no_item (walks_none (items_walk ship) nothing 1 items h.0) ∙ walks_first (fills_walk ship) tt fills f h.1
 
   pub arrival_legal : IsLegalArrival ship items fills → arrival_fault ship items fills ≡ None
-  arrival_legal h = no_item (none_item ship items h.each_item) ∙ none_fill ship fills h.each_fill
+  arrival_legal h = no_item (walks_none (items_walk ship) nothing 1 items h.each_item) ∙ walks_none (fills_walk ship) tt 1 fills h.each_fill
 
   pub arrival_either : IsLegalArrival ship items fills ⊎ ((f : SeqFault) × IsArrivalFault ship items fills f)
   arrival_either = by_items (items_fault ship nothing 1 items) (fills_fault ship 1 fills) refl refl where
     by_items : (o p : Option SeqFault) → items_fault ship nothing 1 items ≡ o → fills_fault ship 1 fills ≡ p
         → IsLegalArrival ship items fills ⊎ ((f : SeqFault) × IsArrivalFault ship items fills f)
-    by_items (Some f) p e e2 = inr (f, inl (item_first ship items f e))
-    by_items None (Some f) e e2 = inr (f, inr (item_none ship items e, fill_first ship fills f e2))
-    by_items None None e e2 = inl (record { each_item = item_none ship items e; each_fill = fill_none ship fills e2 })
+    by_items (Some f) p e e2 = inr (f, inl (first_walked (items_walk ship) nothing items f e))
+    by_items None (Some f) e e2 = inr (f, inr (none_walked (items_walk ship) nothing 1 items e, first_walked (fills_walk ship) tt fills f e2))
+    by_items None None e e2 = inl (record { each_item = none_walked (items_walk ship) nothing 1 items e; each_fill = none_walked (fills_walk ship) tt 1 fills e2 })
 
   pub arrival_not_both : (f : SeqFault) → IsLegalArrival ship items fills → IsArrivalFault ship items fills f → ⊥
   arrival_not_both f legal fault = none-some f (sym (arrival_legal legal) ∙ arrival_faults f fault)
@@ -204,18 +176,18 @@ module _ (ship : ProfileRecord) (at : Aboard) (ops : List Op) where
 
   pub sequence_faults : (f : SeqFault) → IsSequenceFault ship at ops f → sequence_fault ship at ops ≡ Some f
   sequence_faults f (inl h) = by_count true (above 120000 (length ops) h.0) ∙ ap (λ (g : SeqFault). Some g) (sym h.1)
-  sequence_faults f (inr h) = by_count false (not_above 120000 (length ops) h.0) ∙ first_step ship at ops f h.1
+  sequence_faults f (inr h) = by_count false (not_above 120000 (length ops) h.0) ∙ walks_first (steps_walk ship) at ops f h.1
 
   pub sequence_legal : IsLegalSequence ship at ops → sequence_fault ship at ops ≡ None
-  sequence_legal h = by_count false (not_above 120000 (length ops) h.few) ∙ none_step ship at ops h.steps
+  sequence_legal h = by_count false (not_above 120000 (length ops) h.few) ∙ walks_none (steps_walk ship) at 1 ops h.steps
 
   pub sequence_either : IsLegalSequence ship at ops ⊎ ((f : SeqFault) × IsSequenceFault ship at ops f)
   sequence_either = by_answer (nat_lt 120000 (length ops)) (first_fault ship at 1 ops) refl refl where
     by_answer : (b : Bool) (o : Option SeqFault) → nat_lt 120000 (length ops) ≡ b → first_fault ship at 1 ops ≡ o
         → IsLegalSequence ship at ops ⊎ ((f : SeqFault) × IsSequenceFault ship at ops f)
     by_answer true o e e2 = inr (too_many, inl (is_above 120000 (length ops) e, refl))
-    by_answer false (Some f) e e2 = inr (f, inr (isnt_above 120000 (length ops) e, step_first ship at ops f e2))
-    by_answer false None e e2 = inl (record { few = isnt_above 120000 (length ops) e; steps = step_none ship at ops e2 })
+    by_answer false (Some f) e e2 = inr (f, inr (isnt_above 120000 (length ops) e, first_walked (steps_walk ship) at ops f e2))
+    by_answer false None e e2 = inl (record { few = isnt_above 120000 (length ops) e; steps = none_walked (steps_walk ship) at 1 ops e2 })
 
   pub sequence_not_both : (f : SeqFault) → IsLegalSequence ship at ops → IsSequenceFault ship at ops f → ⊥
   sequence_not_both f legal fault = none-some f (sym (sequence_legal legal) ∙ sequence_faults f fault)
