@@ -17,7 +17,8 @@ use Rattle.stow_messages.specs.declared.lifts.Handling.{Handling}
 use Rattle.stow_messages.specs.declared.lifts.Handling.TheVariants.{Loading, Discharging}
 use Rattle.stow_messages.specs.declared.faults.StowFault.{StowFault}
 use Rattle.stow_messages.specs.declared.faults.StowCode.TheVariants.{LiftWithoutHandling}
-use Rattle.stow_messages.specs.Entries.{◌>>=◌, or_fault_at, cell_at, id_of, kg_at, item_of, entries_of}
+use Rattle.units_core.specs.Outcome.{◌>>=◌}
+use Rattle.stow_messages.specs.Entries.{or_fault_at, cell_at, id_of, kg_at, item_of, entries_of}
 use Rattle.stow_messages.specs.Groups.{Found, Part, Handled, Located, HandledPart, names_a_container, groups_in, handled_parts, parts_of}
 use Rattle.stow_messages.specs.Items.{item_in, item_groups, bay_plan}
 use Rattle.stow_messages.specs.Lifts.{handling_at, handling_of, lift_of, lift_in, lift_under, lift_behind, lift_parts, lift_groups, movement_instruction}

@@ -7,7 +7,8 @@ use Rattle.std.proofs.lemmas.Bool.Decides.{nat_tests}
 use Rattle.edifact_text.specs.Interchange.{Numbered}
 use Rattle.stow_messages.specs.declared.faults.StowFault.{StowFault}
 use Rattle.stow_messages.specs.declared.faults.StowCode.TheVariants.{TooMany}
-use Rattle.stow_messages.specs.Entries.{◌>>=◌, fault_at, with_entry, entries_of, AreEntries}
+use Rattle.units_core.specs.Outcome.{◌>>=◌}
+use Rattle.stow_messages.specs.Entries.{fault_at, with_entry, entries_of, AreEntries}
 use Rattle.stow_messages.specs.Faults.{IsRefused, IsFirstFault}
 
 -- what follows from one step of a chain, whatever the rest makes of it

@@ -9,11 +9,12 @@ use Rattle.stow_messages.specs.declared.items.Item.{Item}
 use Rattle.stow_messages.specs.declared.lifts.Lift.{Lift}
 use Rattle.stow_messages.specs.declared.lifts.Handling.{Handling}
 use Rattle.stow_messages.specs.declared.faults.StowFault.{StowFault}
-use Rattle.stow_messages.specs.Entries.{◌>>=◌, with_entry}
-use Rattle.stow_messages.specs.Faults.{IsPlanFault, IsInstructionFault}
+use Rattle.units_core.specs.Outcome.{◌>>=◌}
+use Rattle.stow_messages.specs.Entries.{with_entry}
+use Rattle.stow_messages.specs.Faults.{AreItems, AreLifts, IsPlanFault, IsInstructionFault}
 use Rattle.stow_messages.specs.Groups.{Found, Part, Handled, Located, HandledPart, groups_in, handled_parts, location_of, parts_of}
-use Rattle.stow_messages.specs.Items.{item_in, with_item_of, item_groups, items_from, items_behind, bay_plan, AreItems}
-use Rattle.stow_messages.specs.Lifts.{handling_at, handling_of, lift_under, lift_parts, with_lift_of, lifts_from, lifts_behind, movement_instruction, AreLifts}
+use Rattle.stow_messages.specs.Items.{item_in, with_item_of, item_groups, items_from, items_behind, bay_plan}
+use Rattle.stow_messages.specs.Lifts.{handling_at, handling_of, lift_under, lift_parts, with_lift_of, lifts_from, lifts_behind, movement_instruction}
 use Rattle.stow_messages.proofs.EntryLemmas.{told, walk, entries_walk, fault_walks, either_is}
 
 bind_same : {A B : Type 0} (r : Result A StowFault) (f g : A → Result B StowFault) → ((a : A) → f a ≡ g a) → (r >>= f) ≡ (r >>= g)

@@ -16,7 +16,8 @@ use Rattle.stow_messages.specs.declared.step_faults.StepsFault.{StepsFault}
 use Rattle.stow_messages.specs.declared.step_faults.StepsCode.{StepsCode}
 use Rattle.stow_messages.specs.declared.step_faults.StepsCode.TheVariants.{BadCsv, BadField, LiftTwice, LiftMissing, TooMany}
 use Rattle.stow_messages.specs.StepFaults.{AreUnderHeading, AreRows, NoLiftTwice, AreSteps, IsRefusedRecord, IsStepsFault}
-use Rattle.stow_messages.specs.Steps.{or_fault, lift_number, lift_row, text_of, mass_of, tank_of, restow_of, row_of, is_lift, stands, repeats, with_record, fault_at, at_record, rows_from, rows_under, missing_from, steps_of, EachLiftOnce}
+use Rattle.units_core.specs.Outcome.{or_fault}
+use Rattle.stow_messages.specs.Steps.{lift_number, lift_row, text_of, mass_of, tank_of, restow_of, row_of, is_lift, stands, repeats, with_record, fault_at, at_record, rows_from, rows_under, missing_from, steps_of, EachLiftOnce}
 use Rattle.stow_messages.specs.StepsSoFar.{IsWithin}
 use Rattle.stow_messages.proofs.EntryLemmas.{followed, told}
 use Rattle.stow_messages.proofs.StepLemmas.{missing-none, missing-at, missing-tells}

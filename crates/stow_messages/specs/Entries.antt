@@ -5,6 +5,7 @@ use Rattle.std.specs.Option.{option_or, is_some}
 use Rattle.arrayvec.specs.ArrayVec.{ArrayVec}
 use Rattle.units_core.specs.declared.cells.Cell.{Cell}
 use Rattle.units_core.specs.Cells.{cell_in}
+use Rattle.units_core.specs.Outcome.{◌>>=◌, or_fault}
 use Rattle.edifact_text.specs.Interchange.{Numbered, component}
 use Rattle.stow_messages.specs.declared.items.Item.{Item}
 use Rattle.stow_messages.specs.declared.faults.StowFault.{StowFault}
@@ -14,19 +15,12 @@ use Rattle.stow_messages.specs.Groups.{Found}
 use Rattle.stow_messages.specs.Kinds.{has}
 use Rattle.stow_messages.specs.Weights.{kg_in}
 
--- what follows where there was no fault
-infixl 10 ◌>>=◌
-abbrev pub ◌>>=◌ : {A B E : Type 0} → Result A E → (A → Result B E) → Result B E
-Ok a >>= f = f a
-Err e >>= f = Err e
-
 -- a fault found at a segment
 abbrev pub fault_at : StowCode → Numbered → StowFault
 fault_at code s = record { code = code; segment = s.number }
 
 abbrev pub or_fault_at : {A : Type 0} → StowCode → Numbered → Option A → Result A StowFault
-or_fault_at code s None = Err (fault_at code s)
-or_fault_at code s (Some a) = Ok a
+or_fault_at code s o = or_fault (fault_at code s) o
 
 -- the cell of a location
 abbrev pub cell_at : Numbered → Result Cell StowFault

@@ -1,16 +1,32 @@
--- The fault of a text that is no bay plan, or no movement instruction.
+-- A bay plan with its items, a movement instruction with its lifts, and the fault of a text that is none.
 use Rattle.std.specs.Prelude.{◌≡◌, ◌⊎◌, ℕ, ◌≤◌, List, ◌∷◌, ◌++◌, length, Option, Some, Result, Ok, Err}
 use Rattle.edifact_text.specs.Faults.{IsMessage, IsFault}
 use Rattle.edifact_text.specs.Interchange.{Numbered, Opened}
 use Rattle.edifact_text.specs.declared.faults.EdiFault.{EdiFault}
 use Rattle.edifact_text.specs.declared.faults.Kind.{Kind}
 use Rattle.edifact_text.specs.declared.faults.Kind.TheVariants.{Baplie, Movins}
+use Rattle.stow_messages.specs.declared.items.Item.{Item}
+use Rattle.stow_messages.specs.declared.lifts.Lift.{Lift}
 use Rattle.stow_messages.specs.declared.faults.StowFault.{StowFault}
 use Rattle.stow_messages.specs.declared.faults.StowCode.TheVariants.{Envelope, TooMany}
 use Rattle.stow_messages.specs.Entries.{fault_at, AreEntries}
 use Rattle.stow_messages.specs.Groups.{Found, HandledPart, location_of}
 use Rattle.stow_messages.specs.Items.{item_in, item_groups}
 use Rattle.stow_messages.specs.Lifts.{lift_under, lift_parts}
+
+-- What the items of a text come to: it is a message, no group of it has a fault, and the items are those that the groups give, in their
+-- order, at most 30,000.
+abbrev pub AreItems : List ℕ → List Item → Type 0
+AreItems text items =
+    (m : Opened) × IsMessage Baplie text m.mark m.segments × AreEntries (item_in m.mark) (item_groups m) items
+    × (length items ≤ 30000)
+
+-- What its lifts come to: it is a message, no part of it has a fault under the last handling before it, and the lifts are those that the
+-- parts give, in their order, at most 200,000.
+abbrev pub AreLifts : List ℕ → List Lift → Type 0
+AreLifts text lifts =
+    (m : Opened) × IsMessage Movins text m.mark m.segments × AreEntries (lift_under m.mark) (lift_parts m) lifts
+    × (length lifts ≤ 200000)
 
 -- Behind these entries, what a part gives is refused: it is a fault, or one entry more than a message may have.
 abbrev pub IsRefused : {X : Type 0} → ℕ → List X → Numbered → Result (Option X) StowFault → StowFault → Type 0

@@ -1,7 +1,6 @@
 -- The items of a bay plan (BAPLIE, UN/EDIFACT D.95B): those of its groups in their order. The first fault in the order of the
 -- groups is the plan's.
 use Rattle.std.specs.Prelude.{ℕ, ◌≤◌, List, [], ◌∷◌, length, Option, Result, Ok, Err, false}
-use Rattle.edifact_text.specs.Faults.{IsMessage}
 use Rattle.edifact_text.specs.Interchange.{Opened}
 use Rattle.edifact_text.specs.Reading.{opened}
 use Rattle.edifact_text.specs.declared.faults.EdiFault.{EdiFault}
@@ -9,7 +8,8 @@ use Rattle.edifact_text.specs.declared.faults.Kind.TheVariants.{Baplie}
 use Rattle.stow_messages.specs.declared.items.Item.{Item}
 use Rattle.stow_messages.specs.declared.faults.StowFault.{StowFault}
 use Rattle.stow_messages.specs.declared.faults.StowCode.TheVariants.{Envelope}
-use Rattle.stow_messages.specs.Entries.{◌>>=◌, cell_at, id_of, item_of, with_entry, AreEntries}
+use Rattle.units_core.specs.Outcome.{◌>>=◌}
+use Rattle.stow_messages.specs.Entries.{cell_at, id_of, item_of, with_entry}
 use Rattle.stow_messages.specs.Groups.{Found, Part, Handled, Located, parts_of, groups_in}
 
 abbrev pub item_in : ℕ → Found → Result (Option Item) StowFault
@@ -42,10 +42,3 @@ bay_plan text = items_behind (opened Baplie text)
 -- the groups of a message
 abbrev pub item_groups : Opened → List Found
 item_groups m = groups_in (parts_of false m.segments)
-
--- What this comes to: the text is a message, no group of it has a fault, and the items are those that the groups give, in their
--- order, at most 30,000.
-abbrev pub AreItems : List ℕ → List Item → Type 0
-AreItems text items =
-    (m : Opened) × IsMessage Baplie text m.mark m.segments × AreEntries (item_in m.mark) (item_groups m) items
-    × (length items ≤ 30000)

@@ -5,7 +5,6 @@ use Rattle.std.specs.Prelude.{ℕ, ◌≤◌, List, [], ◌∷◌, length, Optio
 use Rattle.std.specs.Option.{option_map}
 use Rattle.arrayvec.specs.ArrayVec.{ArrayVec}
 use Rattle.units_core.specs.declared.cells.Cell.{Cell}
-use Rattle.edifact_text.specs.Faults.{IsMessage}
 use Rattle.edifact_text.specs.Interchange.{Numbered, Opened}
 use Rattle.edifact_text.specs.Reading.{opened}
 use Rattle.edifact_text.specs.declared.faults.EdiFault.{EdiFault}
@@ -16,7 +15,8 @@ use Rattle.stow_messages.specs.declared.lifts.Handling.{Handling}
 use Rattle.stow_messages.specs.declared.lifts.Handling.TheVariants.{Loading, Discharging}
 use Rattle.stow_messages.specs.declared.faults.StowFault.{StowFault}
 use Rattle.stow_messages.specs.declared.faults.StowCode.TheVariants.{Envelope, LiftWithoutHandling, UnknownHandling}
-use Rattle.stow_messages.specs.Entries.{◌>>=◌, fault_at, or_fault_at, cell_at, id_of, item_of, with_entry, AreEntries}
+use Rattle.units_core.specs.Outcome.{◌>>=◌}
+use Rattle.stow_messages.specs.Entries.{fault_at, or_fault_at, cell_at, id_of, item_of, with_entry}
 use Rattle.stow_messages.specs.Groups.{Found, Part, Handled, Located, names_a_container, parts_of, groups_in, HandledPart, handled_parts}
 use Rattle.stow_messages.specs.Kinds.{has}
 
@@ -80,10 +80,3 @@ lift_groups m = groups_in (parts_of true m.segments)
 
 abbrev pub lift_parts : Opened → List HandledPart
 lift_parts m = handled_parts None (parts_of true m.segments)
-
--- What this comes to: the text is a message, no part of it has a fault under the last handling before it, and the lifts are those
--- that the parts give, in their order, at most 200,000.
-abbrev pub AreLifts : List ℕ → List Lift → Type 0
-AreLifts text lifts =
-    (m : Opened) × IsMessage Movins text m.mark m.segments × AreEntries (lift_under m.mark) (lift_parts m) lifts
-    × (length lifts ≤ 200000)

@@ -14,12 +14,7 @@ use Rattle.stow_messages.specs.declared.step_rows.StepRow.TheVariants.{Lift, Tan
 use Rattle.stow_messages.specs.declared.step_faults.StepsFault.{StepsFault}
 use Rattle.stow_messages.specs.declared.step_faults.StepsCode.{StepsCode}
 use Rattle.stow_messages.specs.declared.step_faults.StepsCode.TheVariants.{BadCsv, BadKind, BadField, NoLift, LiftTwice, LiftMissing, TooMany, NoMemory}
-use Rattle.stow_messages.specs.Entries.{◌>>=◌}
-
--- what is there, or else this fault
-abbrev pub or_fault : {A : Type 0} → StepsCode → Option A → Result A StepsCode
-or_fault code None = Err code
-or_fault code (Some a) = Ok a
+use Rattle.units_core.specs.Outcome.{◌>>=◌, or_fault}
 
 -- a number from the lowest to the highest, a text of so many bytes
 abbrev pub within : ℕ → ℕ → ℤ → Option ℕ

@@ -1,7 +1,8 @@
 ghost use Rattle.std.specs.Prelude.{◌≡◌, ◌≢◌, ◌≤◌, [], None, length, Ok, Err, IfOk, IfErr, OnOk};
 ghost use Rattle.edifact_text.specs.Views.{numbered_view};
+ghost use Rattle.stow_messages.specs.Faults.{AreLifts};
 ghost use Rattle.stow_messages.specs.Entries.{IsFaultOf};
-ghost use Rattle.stow_messages.specs.Lifts.{AreLifts, handling_at, lift_of, lift_in, lifts_from, movement_instruction, with_lift_of};
+ghost use Rattle.stow_messages.specs.Lifts.{handling_at, lift_of, lift_in, lifts_from, movement_instruction, with_lift_of};
 ghost use Rattle.stow_messages.specs.Views.{found_view, parts_left};
 
 use crate::faults::{StowCode, StowFault};

@@ -9,10 +9,10 @@ ghost use Rattle.stow_messages.specs.declared.items.Item.{Item};
 ghost use Rattle.stow_messages.specs.declared.lifts.Lift.{Lift};
 ghost use Rattle.stow_messages.specs.declared.step_faults.StepsFault.{StepsFault};
 ghost use Rattle.stow_messages.specs.declared.step_rows.StepRow.{StepRow};
-ghost use Rattle.stow_messages.specs.Faults.{IsPlanFault, IsInstructionFault};
+ghost use Rattle.stow_messages.specs.Faults.{AreItems, AreLifts, IsPlanFault, IsInstructionFault};
 ghost use Rattle.stow_messages.specs.Groups.{names_a_container};
-ghost use Rattle.stow_messages.specs.Items.{AreItems, bay_plan, item_groups};
-ghost use Rattle.stow_messages.specs.Lifts.{AreLifts, lift_groups, movement_instruction};
+ghost use Rattle.stow_messages.specs.Items.{bay_plan, item_groups};
+ghost use Rattle.stow_messages.specs.Lifts.{lift_groups, movement_instruction};
 ghost use Rattle.stow_messages.specs.StepFaults.{AreSteps, IsStepsFault};
 ghost use Rattle.stow_messages.specs.Steps.{steps_of};
 

@@ -1,6 +1,7 @@
 ghost use Rattle.std.specs.Prelude.{◌≡◌, ◌≢◌, ◌≤◌, [], length, Ok, Err, IfOk, IfErr, OnOk};
+ghost use Rattle.stow_messages.specs.Faults.{AreItems};
 ghost use Rattle.stow_messages.specs.Entries.{IsFaultOf};
-ghost use Rattle.stow_messages.specs.Items.{AreItems, with_item_of, bay_plan, item_in, items_from};
+ghost use Rattle.stow_messages.specs.Items.{with_item_of, bay_plan, item_in, items_from};
 ghost use Rattle.stow_messages.specs.Views.{found_view, parts_left};
 
 use crate::faults::{StowCode, StowFault};
