@@ -1,14 +1,16 @@
 -- As many bodies as there is something aboard, and as many steps as rows.
-use Rattle.std.proofs.Common.{◌≡◌, ℕ, zero, suc, ◌+◌, ◌<◌, ◌≤◌, ◌&&◌, List, [], ◌∷◌, ◌++◌, length, Bool, true, false, cond, nat_le, Option, None, Some, refl, sym, ap, ◌∙◌, arith, length-append}
+use Rattle.std.proofs.Common.{◌≡◌, ℕ, zero, suc, ◌+◌, ◌<◌, ◌≤◌, ◌&&◌, List, [], ◌∷◌, ◌++◌, length, Bool, true, false, cond, nat_le, nat_lt, Option, None, Some, refl, sym, ap, ◌∙◌, arith, length-append}
 use Rattle.std.specs.Prelude.{All, slice_get, if◌then◌else◌}
-use Rattle.std.specs.List.{cons_option, filter, filter_map, flat_map, range_with_len}
-use Rattle.std.specs.Map.{keys_of}
+use Rattle.std.specs.List.{Contains, cons_option, filter, filter_map, flat_map, range_with_len}
+use Rattle.std.specs.Map.{keys_of, lookup}
 use Rattle.std.specs.Option.{is_some, option_map, option_to_list}
 use Rattle.std.proofs.lemmas.List.{length-map}
-use Rattle.std.proofs.lemmas.List.Elements.{All-cons, All-head, All-nil, All-tail}
+use Rattle.std.proofs.lemmas.List.Elements.{All-cons, All-head, All-nil, All-tail, Contains-append_right}
+use Rattle.std.proofs.lemmas.Option.{slice_get_past}
 use Rattle.units_core.specs.declared.bodies.Place.{Place}
 use Rattle.units_core.specs.declared.cells.Cell.{Cell}
 use Rattle.units_core.specs.Bodies.{Mass}
+use Rattle.units_core.specs.Cells.{cell_eq}
 use Rattle.stow_messages.specs.declared.items.Item.{Item}
 use Rattle.stow_messages.specs.declared.lifts.Lift as lift
 use Rattle.stow_messages.specs.declared.step_rows.StepRow.{StepRow}
@@ -24,6 +26,7 @@ use Rattle.lift_sequence.specs.Bodies.{bodies, bodies_in_cells, bodies_in_tanks,
 use Rattle.lift_sequence.specs.Legal.{over_fault, stand_fault}
 use Rattle.lift_sequence.specs.Places.{HasLift, HasPlaces, filled_tanks, taken_cells}
 use Rattle.lift_sequence.specs.Sequence.{lift_at, op_of, ops_of}
+use Rattle.lift_sequence.proofs.Listings.{cells_same}
 use Rattle.lift_sequence.proofs.PlaceLemmas.{has_body, has_place, neither}
 use Rattle.lift_sequence.proofs.States.{none_first}
 
@@ -108,6 +111,58 @@ module _ (ship : ProfileRecord) where
         cells_counted at.cells ship.tables.cells,
         tanks_counted at.tanks (range_with_len 0 (length ship.tables.tanks)) places.tanks,
       )
+
+-- what is kept behind an element is kept in the whole list
+kept_behind : {X : Type 0} (x y : X) (xs : List X) (b : Bool) → Contains xs y → Contains (cond b (x ∷ xs) xs) y
+kept_behind x y xs true h = Contains-append_right (x ∷ []) xs y h
+kept_behind x y xs false h = h
+
+kept_first : {X : Type 0} (x y : X) (xs : List X) (b : Bool) → y ≡ x → b ≡ true → Contains (cond b (x ∷ xs) xs) y
+kept_first x y xs true same h = (zero, omega arith, sym same)
+kept_first x y xs false same h = absurd (cc)
+
+cell_kept : (cells : Cell → Option Container) (es : List (Cell × Place)) (cell : Cell) → is_some (cells cell) ≡ true → is_some (lookup (cell_eq cell) es) ≡ true
+    → Contains (filter (λ c. is_some (cells c)) (keys_of es)) cell
+cell_kept cells [] cell taken h = absurd (cc)
+cell_kept cells (e ∷ es) cell taken h = by_first (cell_eq cell e.0) refl (cell_kept cells es cell taken) h where
+  behind : List Cell
+  behind = filter (λ c. is_some (cells c)) (keys_of es)
+
+  by_first : (b : Bool) → cell_eq cell e.0 ≡ b → (is_some (lookup (cell_eq cell) es) ≡ true → Contains behind cell)
+      → is_some (cond b (Some e.1) (lookup (cell_eq cell) es)) ≡ true → Contains (cond (is_some (cells e.0)) (e.0 ∷ behind) behind) cell
+  by_first true t more k =
+      let same = cells_same cell e.0 t in
+      kept_first e.0 cell behind (is_some (cells e.0)) same (ap (λ c. is_some (cells c)) (sym same) ∙ taken)
+  by_first false t more k = kept_behind e.0 cell behind (is_some (cells e.0)) (more k)
+
+pub taken_kept : (ship : ProfileRecord) (at : Aboard) (cell : Cell) → HasPlaces ship at → is_some (at.cells cell) ≡ true → Contains (taken_cells ship at) cell
+taken_kept ship at cell places taken = cell_kept at.cells ship.tables.cells cell taken (places.cells cell taken)
+
+tank_kept : (tanks : ℕ → Option ℕ) (a n tank : ℕ) → a ≤ tank → tank < a + n → is_some (tanks tank) ≡ true → Contains (filter (λ t. is_some (tanks t)) (range_with_len a n)) tank
+tank_kept tanks a zero tank low high filled = absurd (omega arith)
+tank_kept tanks a (suc n) tank low high filled = by_first (nat_le tank a) refl (tank_kept tanks (a + 1) n tank) where
+  behind : List ℕ
+  behind = filter (λ t. is_some (tanks t)) (range_with_len (a + 1) n)
+
+  by_first : (b : Bool) → nat_le tank a ≡ b → (a + 1 ≤ tank → tank < (a + 1) + n → is_some (tanks tank) ≡ true → Contains behind tank)
+      → Contains (cond (is_some (tanks a)) (a ∷ behind) behind) tank
+  by_first true t more =
+      let most : tank ≤ a = grind (arith, t) in
+      let same : tank ≡ a = omega arith in
+      kept_first a tank behind (is_some (tanks a)) same (ap (λ k. is_some (tanks k)) (sym same) ∙ filled)
+  by_first false t more = kept_behind a tank behind (is_some (tanks a)) (more (grind (arith, t)) (omega arith) filled)
+
+tank_there : (ship : ProfileRecord) (tank kg : ℕ) → is_some (tank_body ship tank kg) ≡ true → (b : Bool) → nat_lt tank (length ship.tables.tanks) ≡ b → tank < length ship.tables.tanks
+tank_there ship tank kg h true t = grind (arith, t)
+tank_there ship tank kg h false t =
+    let past : slice_get ship.tables.tanks tank ≡ None = slice_get_past ship.tables.tanks tank (grind (arith, t)) in
+    let none = rw past at h in
+    absurd (cc none)
+
+pub filled_kept : (ship : ProfileRecord) (at : Aboard) (tank kg : ℕ) → HasPlaces ship at → at.tanks tank ≡ Some kg → Contains (filled_tanks ship at) tank
+filled_kept ship at tank kg places filled =
+    let high = tank_there ship tank kg (places.tanks tank kg filled) (nat_lt tank (length ship.tables.tanks)) refl in
+    tank_kept at.tanks 0 (length ship.tables.tanks) tank (omega arith) (omega (arith, high)) (ap is_some filled)
 
 there : {X : Type 0} (xs : List X) (k : ℕ) → k < length xs → is_some (slice_get xs k) ≡ true
 there [] k h = absurd (omega arith)

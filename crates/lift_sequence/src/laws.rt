@@ -1,4 +1,6 @@
-ghost use Rattle.std.specs.Prelude.{◌≡◌, ◌⊎◌, ◌↔◌, ◌+◌, ℕ, List, All, length, take, Option, Some, None};
+ghost use Rattle.std.specs.Prelude.{◌≡◌, ◌⊎◌, ◌↔◌, ◌+◌, ℕ, List, All, true, length, take, Option, Some, None};
+ghost use Rattle.std.specs.List.{Contains};
+ghost use Rattle.std.specs.Option.{is_some};
 ghost use Rattle.stow_messages.specs.declared.items.Item.{Item};
 ghost use Rattle.stow_messages.specs.declared.lifts.Lift.{Lift};
 ghost use Rattle.stow_messages.specs.declared.step_rows.StepRow.{StepRow};
@@ -69,8 +71,8 @@ pub fn cargo_has_places()
 {}
 
 /// No body and no step is lost: there are as many bodies on arrival as blocks, fills and items; of all that has its place in the ship as
-/// many as blocks, filled tanks and taken cells; and as many steps as rows or lifts, where each row of a lift has the number of one, as
-/// in rows among which each lift stands once.
+/// many as blocks, filled tanks and taken cells, each of which is counted; and as many steps as rows or lifts, where each row of a lift
+/// has the number of one, as in rows among which each lift stands once.
 pub fn nobody_is_lost()
     ensures arrival { (ship : ProfileRecord) (items : List Item) (fills : List TankFill) →
         arrival_fault ship items fills ≡ None → length (arrival_bodies ship items fills)
@@ -78,6 +80,10 @@ pub fn nobody_is_lost()
     ensures aboard { (ship : ProfileRecord) (at : Aboard) → HasPlaces ship at →
         length (bodies ship at) ≡ length ship.ship.blocks
         + (length (filled_tanks ship at) + length (taken_cells ship at)) }
+    ensures taken { (ship : ProfileRecord) (at : Aboard) (cell : Cell) → HasPlaces ship at →
+        is_some (at.cells cell) ≡ true → Contains (taken_cells ship at) cell }
+    ensures filled { (ship : ProfileRecord) (at : Aboard) (tank kg : ℕ) → HasPlaces ship at →
+        at.tanks tank ≡ Some kg → Contains (filled_tanks ship at) tank }
     ensures lifts { (lifts : List Lift) → length (ops_of lifts None) ≡ length lifts }
     ensures rows { (lifts : List Lift) (rows : List StepRow) → All (HasLift lifts) rows →
         length (ops_of lifts (Some rows)) ≡ length rows }
