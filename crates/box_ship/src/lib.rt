@@ -20,7 +20,8 @@
 use ship_profile::{Profile, ProfileBytes, ProfileFault};
 use std::alloc::Global;
 
-/// `ship.toml` before its blocks: her length and limits, five stations 25 m apart, and a frame at each.
+/// `ship.toml` before its blocks, for ships of other blocks: her length and limits, five stations 25 m apart, and a frame at each. [`SHIP`]
+/// says it again, since a constant isn't put together of two.
 pub const LIMITS: &str = "lbp_mm = 100000
 downflooding_deg = 60
 draught_max_mm = 6100

@@ -1,5 +1,5 @@
 -- The criteria (2008 IS Code, part A, 2.2, for C1 to C6), judged on fractions and never on the figures that are printed.
-use Rattle.std.specs.Prelude.{ℕ, suc, ℤ, pos, neg_ℤ, int_le, int_lt, nat_le, Bool, true, false, not, ◌&&◌, List, [], ◌∷◌, find, Option, None, Some}
+use Rattle.std.specs.Prelude.{ℕ, suc, ℤ, pos, neg_ℤ, int_le, int_lt, nat_le, Bool, true, false, not, ◌&&◌, List, [], ◌∷◌, find, codes, Option, None, Some}
 use Rattle.units_core.specs.Ratio.{Ratio, is_at_least, is_at_most, is_no_more}
 use Rattle.ship_profile.specs.declared.frames.Frame.{Frame}
 use Rattle.ship_profile.specs.Ship.{ShipRecord}
@@ -7,6 +7,21 @@ use Rattle.hydrostat.specs.Floating.{Hydrostatics, Load, gm, trim, list, draught
 use Rattle.righting.specs.Levers.{area_of, greatest_of, simpson}
 use Rattle.criteria.specs.declared.criterion.Criterion.{Criterion}
 use Rattle.criteria.specs.declared.criterion.Criterion.TheVariants.{C0, C1, C2, C3, C4, C5, C6, C7, C8, C9, C10, C11}
+
+-- the code of a criterion, as it is printed
+abbrev pub code_of : Criterion → List ℕ
+code_of C0 = codes "C0"
+code_of C1 = codes "C1"
+code_of C2 = codes "C2"
+code_of C3 = codes "C3"
+code_of C4 = codes "C4"
+code_of C5 = codes "C5"
+code_of C6 = codes "C6"
+code_of C7 = codes "C7"
+code_of C8 = codes "C8"
+code_of C9 = codes "C9"
+code_of C10 = codes "C10"
+code_of C11 = codes "C11"
 
 -- a condition that lies within all tables: how the ship floats, her righting levers at 0, 5, .., 60 degrees, the loads at her frames by
 -- their numbers, and the least metacentric height, where she has such a limit

@@ -1,3 +1,6 @@
+ghost use Rattle.std.specs.Prelude.{◌≡◌};
+ghost use Rattle.criteria.specs.Criteria.{code_of};
+
 /// A criterion that a condition may fail. C1 to C6 are those of the 2008 IS Code, part A, 2.2; the others are the ship's own.
 #[derive(Clone, Copy, Debug, PartialEq, Eq)]
 pub enum Criterion {
@@ -25,4 +28,26 @@ pub enum Criterion {
     C10,
     /// The metacentric height is at least that of the ship's own limits, where she has them.
     C11,
+}
+
+impl Criterion {
+    /// Its code, as the report prints it.
+    pub fn code(self) -> &'static str
+        ensures { result.now ≡ code_of self }
+    {
+        match self {
+            Criterion::C0 => "C0",
+            Criterion::C1 => "C1",
+            Criterion::C2 => "C2",
+            Criterion::C3 => "C3",
+            Criterion::C4 => "C4",
+            Criterion::C5 => "C5",
+            Criterion::C6 => "C6",
+            Criterion::C7 => "C7",
+            Criterion::C8 => "C8",
+            Criterion::C9 => "C9",
+            Criterion::C10 => "C10",
+            Criterion::C11 => "C11",
+        }
+    }
 }

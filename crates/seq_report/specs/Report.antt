@@ -12,7 +12,8 @@ use Rattle.moment_sums.specs.Sum.{Weight, sum_of}
 use Rattle.hydrostat.specs.declared.outside.Outside as causes
 use Rattle.hydrostat.specs.declared.outside.Outside.TheVariants.{Hydro, Levers, Bonjean, Closing, GmLimit}
 use Rattle.criteria.specs.declared.criterion.Criterion.{Criterion}
-use Rattle.criteria.specs.declared.criterion.Criterion.TheVariants.{C0, C1, C2, C3, C4, C5, C6, C7, C8, C9, C10, C11}
+use Rattle.criteria.specs.declared.criterion.Criterion.TheVariants.{C0}
+use Rattle.criteria.specs.Criteria.{code_of}
 use Rattle.criteria.specs.Judgement.{Judgement, IsOutside, Fails, Passes, judgement_of, told}
 use Rattle.seq_report.specs.declared.step_lines.StepLine.{StepLine}
 use Rattle.seq_report.specs.Columns.{figures_text, headings_text}
@@ -24,21 +25,7 @@ judged_headings = headings_text ++ codes " FRAMES VERDICT\n"
 abbrev pub header_of : List ℕ
 header_of = codes "STEP LIFT KG" ++ judged_headings
 
--- the codes of the criteria, and the word for what lies outside of the tables
-abbrev pub code_of : Criterion → List ℕ
-code_of C0 = codes "C0"
-code_of C1 = codes "C1"
-code_of C2 = codes "C2"
-code_of C3 = codes "C3"
-code_of C4 = codes "C4"
-code_of C5 = codes "C5"
-code_of C6 = codes "C6"
-code_of C7 = codes "C7"
-code_of C8 = codes "C8"
-code_of C9 = codes "C9"
-code_of C10 = codes "C10"
-code_of C11 = codes "C11"
-
+-- the word for what lies outside of the tables
 abbrev pub cause_of : causes.Outside → List ℕ
 cause_of Hydro = codes "HYDRO"
 cause_of Levers = codes "LEVERS"

@@ -3,11 +3,11 @@
 #![tactic(auto)]
 
 mod cases;
+mod causes;
 mod chunks;
-mod codes;
 mod columns;
-mod faults;
 mod complete;
+mod faults;
 mod inputs;
 mod lifts;
 mod lines;
@@ -20,8 +20,8 @@ mod step_lines;
 mod weights;
 
 pub use criteria::Criterion;
-pub use faults::RunFault;
 pub use complete::Summary;
+pub use faults::RunFault;
 pub use inputs::Inputs;
 pub use lifts::shown;
 pub use plans::CutPlan;

@@ -5,7 +5,7 @@ ghost use Rattle.strength.specs.Hull.{IsHullOf};
 ghost use Rattle.criteria.specs.Judgement.{told};
 ghost use Rattle.seq_report.specs.Report.{failure_of, first_failed, header_of, judged_headings, judged_text, last_line, line_of, said, step_line, verdict_text};
 
-use crate::codes::{cause, code};
+use crate::causes::cause;
 use crate::columns::{write_figures, write_headings};
 use crate::lifts::write_lift;
 use crate::step_lines::StepLine;
@@ -87,7 +87,7 @@ fn write_verdict(text: &mut String, line: &StepLine) -> Result<(), AllocError>
         Verdict::Fails(criterion, figures) => {
             write_figures(text, figures, line.frames)?;
             text.push_str(" FAIL ")?;
-            text.push_str(code(*criterion))
+            text.push_str(criterion.code())
         }
         Verdict::Passes(figures) => {
             write_figures(text, figures, line.frames)?;
@@ -125,7 +125,7 @@ pub fn write_last_line(text: &mut String, first: Option<(u32, Criterion)>) -> Re
     match first {
         None => text.push_str("ALL PASS\n"),
         Some((step, criterion)) => {
-            let code = code(criterion);
+            let code = criterion.code();
             writeln!(text, "FIRST FAIL {step} {code}")
         }
     }

@@ -1,6 +1,5 @@
 use super::{EMPTY_LINE, HEADER, IDLE, Run, STARBOARD_LINE, check_passes, written};
 use box_ship::{LIMITS, LOAD_TO_STARBOARD, SHIP};
-use crate::codes::code;
 use crate::lifts::write_lift;
 use crate::{Criterion, Summary};
 use arrayvec::ArrayVec;
@@ -47,7 +46,7 @@ fn check_failing(
 ) -> Result<(), Fail> {
     let run = Run { ship, ..IDLE };
     let (outcome, text) = written(rt.alloc(), &run);
-    let code = code(criterion);
+    let code = criterion.code();
     let expected = format!(in rt.alloc(); "{HEADER}\n{line}\nFIRST FAIL 0 {code}\n")?;
     assert_eq!(rt; text.as_slice(), expected.as_bytes());
     let summary = Summary {

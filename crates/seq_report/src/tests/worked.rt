@@ -2,7 +2,6 @@
 //! this one.
 use super::{HEADER, IDLE, Run, written};
 use box_ship::{BONJEAN, KN, LOAD_TO_STARBOARD, NO_MOVES};
-use crate::codes::code;
 use crate::{Criterion, Summary};
 use std::alloc::Global;
 use std::process::Abort;
@@ -98,7 +97,7 @@ fn check_row(rt: &(impl Abort + AllocGlobal), row: &Row) -> Result<(), Fail> {
     let lines = row.lines;
     let last = match row.first {
         Some((step, criterion)) => {
-            let code = code(criterion);
+            let code = criterion.code();
             format!(in rt.alloc(); "FIRST FAIL {step} {code}")?
         }
         None => String::from_str(rt.alloc(), "ALL PASS")?,
