@@ -1,7 +1,7 @@
 ghost use Rattle.strength.specs.Hull.{IsHullOf};
 
-use box_ship::box_ship;
 use crate::{Criterion, Nearby, Verdict, judge, judge_near};
+use box_ship::box_ship;
 use hydrostat::Outside;
 use moment_sums::Totals;
 use prefix_scan::Monoid;

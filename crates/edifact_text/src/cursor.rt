@@ -66,7 +66,7 @@ impl<'a> Cursor<'a> {
     pub(crate) fn next(self) -> Result<(SegmentText<'a>, Cursor<'a>), EdiFault>
         ensures next { MatchResult result
             (λ p. next_of self.entry.service self.entry.len (ahead self.entry)
-                ≡ Ok (seen p.0, ahead p.1))
+            ≡ Ok (seen p.0, ahead p.1))
             (λ e. next_of self.entry.service self.entry.len (ahead self.entry) ≡ Err e) }
         ensures same { IfOk result
             (λ p. (p.0.service ≡ self.entry.service) × (p.1.service ≡ self.entry.service)

@@ -36,7 +36,7 @@ pub(crate) fn end_of(bytes: &[u8], release: Option<u8>, separator: u8) -> Option
 pub(crate) fn cut(bytes: &[u8], release: Option<u8>, separator: u8) -> (&[u8], Option<&[u8]>)
     ensures first { MatchOption result.1 (pieces release separator bytes.now ≡ result.0.now ∷ [])
         (λ rest. pieces release separator bytes.now
-            ≡ result.0.now ∷ pieces release separator rest.now) }
+        ≡ result.0.now ∷ pieces release separator rest.now) }
     ensures less { length result.0.now ≤ length bytes.now }
     ensures len { IfSome result.1
         (λ rest. length result.0.now + 1 + length rest.now ≡ length bytes.now) }

@@ -35,7 +35,11 @@ impl Model for CompleteReport {
 
 impl CompleteReport {
     /// The report of these sections in their order, which have so many lines, between the heading and the last line.
-    pub fn join(alloc: Global, sections: Vec<Section>, lines: u32) -> Result<CompleteReport, AllocError>
+    pub fn join(
+        alloc: Global,
+        sections: Vec<Section>,
+        lines: u32,
+    ) -> Result<CompleteReport, AllocError>
         ensures { IfOk result (λ made. made ≡ record {
           text = header_of ++ (text_in sections.items ++ last_line (first_in sections.items));
           summary = record { lines = lines; first = first_in sections.items };

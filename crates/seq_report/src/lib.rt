@@ -19,8 +19,8 @@ mod sink;
 mod step_lines;
 mod weights;
 
-pub use criteria::Criterion;
 pub use complete::Summary;
+pub use criteria::Criterion;
 pub use faults::RunFault;
 pub use inputs::Inputs;
 pub use lifts::shown;

@@ -8,8 +8,8 @@ ghost use Rattle.seq_report.specs.Refusal.{Outcome, TellsMemory, outcome_of, is_
 
 use crate::cases::{Case, case_of};
 use crate::chunks::sums_before;
-use crate::faults::RunFault;
 use crate::complete::{CompleteReport, Summary};
+use crate::faults::RunFault;
 use crate::inputs::Inputs;
 use crate::plans::{CutPlan, cuts_of};
 use crate::sections::sections;

@@ -1,7 +1,7 @@
+use crate::{CutPlan, Inputs, RunFault, Summary, Through, report};
 use box_ship::{
     BONJEAN, CELLS, EMPTY_PLAN, HYDRO, KN, LIMITS, LOAD_TO_STARBOARD, NO_MOVES, SHIP, TANKS,
 };
-use crate::{CutPlan, Inputs, RunFault, Summary, Through, report};
 use ship_profile::ProfileBytes;
 use std::alloc::Global;
 use std::process::Abort;

@@ -6,8 +6,8 @@ ghost use Rattle.ship_profile.specs.Outcome.{one_by_one};
 ghost use Rattle.ship_profile.specs.declared.faults.ProfileFault.{ProfileFault as Fault};
 
 use crate::faults::{Key, ProfileFault};
-use ship_tables::File;
 use crate::keys::value_at;
+use ship_tables::File;
 use std::alloc::Global;
 use toml::{Table, Value};
 

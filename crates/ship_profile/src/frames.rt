@@ -4,9 +4,9 @@ ghost use Rattle.ship_profile.specs.Ship.{frame_in, frame_of, frames_of, is_one_
 
 use crate::arrays::{Element, elements_at};
 use crate::faults::{Key, ProfileFault};
-use ship_tables::File;
 use crate::keys::{MAX_KG, length_in_table, number_in_table, table_of};
 use crate::stations::is_above;
+use ship_tables::File;
 use std::alloc::Global;
 use std::marker::Model;
 use toml::{Table, Value};

@@ -4,8 +4,8 @@ ghost use Rattle.ship_profile.specs.Ship.{station_of, stations_of, AreStations, 
 
 use crate::arrays::{Element, elements_at};
 use crate::faults::{Key, ProfileFault};
-use ship_tables::File;
 use crate::keys::{MAX_MM, number_of};
+use ship_tables::File;
 use std::alloc::Global;
 use toml::{Table, Value};
 use units_core::Mm;

@@ -87,7 +87,7 @@ enough-is form r all e = go (is_short form.rule form.least r) refl e
 
 module _ (form : Form) (P : List Fields → Read → Type 0) (first : P [] heading_read)
     (next : (records : List Fields) (before : Read) (texts : Fields) (row : Row) → P records before → AreFields form.columns texts row → row_fault form before row ≡ None
-        → P (records ++ texts ∷ []) (with_row form.rule before row)) where
+    → P (records ++ texts ∷ []) (with_row form.rule before row)) where
   added-keeps : (records : List Fields) (before after : Read) (texts : Fields) → P records before → added form before texts ≡ Ok after → P (records ++ texts ∷ []) after
   added-keeps records before after texts k e =
       let read = went_on (row_in form before.line texts) (λ row. unless (row_fault form before row) (with_row form.rule before row)) after e in

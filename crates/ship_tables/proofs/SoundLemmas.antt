@@ -306,7 +306,7 @@ pub record IsFile (form : Form) (r : Read) : Type 0 where
 pub file_in-sound : (form : Form) → 1 ≤ form.most → (text : List ℕ) (r : Read) → file_in form text ≡ Ok r → IsFile form r
 file_in-sound form some text r e =
     let all = file-keeps form (λ records read. IsKept form read) (heading-kept form)
-        (λ records before texts row k is comes. kept-row form some before row k (row-sound form.columns texts row is) comes) text r e in
+    (λ records before texts row k is comes. kept-row form some before row k (row-sound form.columns texts row is) comes) text r e in
     record { kept = all.0; least = least-kept form.rule form.least r all.1 }
 
 -- the tables of a file of several

@@ -107,11 +107,11 @@ heading-reading form = record { rows = rw (none-read form.rule) tt; names = none
 file_in-reading : (form : Form) (text : List ℕ) (r : Read) → file_in form text ≡ Ok r → IsReading form (records_under text) r
 file_in-reading form text r e =
     (file-keeps form (IsReading form) (heading-reading form)
-        (λ records before texts row k is comes. record {
-          rows = rw (rows-more form.rule before row) (rows-push form.columns records (all_rows form.rule before) texts row k.rows is);
-          names = names-more form.rule before row k.names;
-        })
-        text r e).0
+    (λ records before texts row k is comes. record {
+      rows = rw (rows-more form.rule before row) (rows-push form.columns records (all_rows form.rule before) texts row k.rows is);
+      names = names-more form.rule before row k.names;
+    })
+    text r e).0
 
 -- the number of a column
 number-field : (c : Column) (text : List ℕ) (f : Field) (low high : ℤ) → IsField c text f → c ≡ column.Number low high → number_in text ≡ Some (number_at (f ∷ []) 0)

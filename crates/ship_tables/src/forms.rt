@@ -106,8 +106,12 @@ pub fn levers_layout() -> Layout<'static>
 /// `bonjean.csv`, by its columns: draught, and an area for each station.
 pub fn bonjean_layout(columns: &[Column]) -> Layout<'_>
     ensures { form_of result ≡ record {
-        file = File.Bonjean; columns = columns.now; least = 2; most = 64;
-        rule = Rule.Rising None; stands = None
+      file = File.Bonjean;
+      columns = columns.now;
+      least = 2;
+      most = 64;
+      rule = Rule.Rising None;
+      stands = None;
     } }
 {
     Layout {

@@ -1,6 +1,6 @@
 use super::{IDLE, Run, check_refusal};
-use box_ship::{LOAD_TO_STARBOARD, SHIP};
 use crate::RunFault;
+use box_ship::{LOAD_TO_STARBOARD, SHIP};
 use lift_sequence::{SeqCode, SeqFault};
 use ship_profile::{File, ProfileFault};
 use std::test::Fail;

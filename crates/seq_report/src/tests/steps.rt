@@ -1,8 +1,8 @@
 use super::{EMPTY_LINE, HEADER, IDLE, Run, STARBOARD_LINE, check_passes, written};
-use box_ship::{LIMITS, LOAD_TO_STARBOARD, SHIP};
 use crate::lifts::write_lift;
 use crate::{Criterion, Summary};
 use arrayvec::ArrayVec;
+use box_ship::{LIMITS, LOAD_TO_STARBOARD, SHIP};
 use lift_sequence::Op;
 use std::alloc::Global;
 use std::process::Abort;

@@ -1,8 +1,8 @@
 //! Conditions of the box ship with some of her numbers changed, worked by hand or by a calculator of fractions that shares no code with
 //! this one.
 use super::{HEADER, IDLE, Run, written};
-use box_ship::{BONJEAN, KN, LOAD_TO_STARBOARD, NO_MOVES};
 use crate::{Criterion, Summary};
+use box_ship::{BONJEAN, KN, LOAD_TO_STARBOARD, NO_MOVES};
 use std::alloc::Global;
 use std::process::Abort;
 use std::test::Fail;
