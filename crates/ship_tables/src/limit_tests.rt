@@ -11,6 +11,7 @@ use std::test::Fail;
 /// The box ship's text of a file.
 fn own_text(file: File) -> &'static str {
     match file {
+        File::Ship => "",
         File::Cells => CELLS,
         File::Hydro => HYDRO,
         File::Levers => LEVERS,

@@ -57,6 +57,7 @@ fn box_texts() -> TableTexts<'static> {
 /// Texts, one of them in another form.
 fn with_text<'a>(texts: TableTexts<'a>, file: File, text: &'a [u8]) -> TableTexts<'a> {
     match file {
+        File::Ship => texts,
         File::Cells => TableTexts {
             cells: text,
             ..texts
