@@ -1,12 +1,14 @@
 pub mod CurveLemmas
 pub mod Examples
 pub mod FileLemmas
+pub mod FileWalks
 pub mod MeaningLemmas
 pub mod NameLemmas
 pub mod OutcomeLemmas
 pub mod PlaceLemmas
 pub mod ReadLemmas
 pub mod RowLemmas
+pub mod SetWalks
 pub mod SoundLemmas
 pub mod ValueLemmas
 pub mod WrittenLemmas

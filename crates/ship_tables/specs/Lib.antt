@@ -1,5 +1,6 @@
 pub mod Curves
 pub mod Extents
+pub mod Faults
 pub mod Gathering
 pub mod Outcome
 pub mod Printed

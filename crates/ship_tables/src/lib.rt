@@ -11,6 +11,7 @@ mod fault_tests;
 mod faults;
 mod forms;
 mod hydrostatics;
+mod laws;
 mod layouts;
 #[cfg(test)]
 mod limit_tests;
@@ -28,6 +29,7 @@ pub use curves::Curves;
 pub use extents::Extent;
 pub use faults::{File, TableFault};
 pub use hydrostatics::Hydro;
+pub use laws::{one_file, one_set};
 pub use readings::{curve_gap, displaced};
 pub use table_set::Tables;
 pub use texts::TableTexts;

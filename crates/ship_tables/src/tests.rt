@@ -1,5 +1,5 @@
 use crate::faults::{File, TableFault};
-use crate::{Curves, Extent, Hydro, TableTexts, Tables};
+use crate::{Curves, Extent, Hydro, TableTexts, Tables, one_file, one_set};
 use std::alloc::Global;
 use std::fmt::Debug;
 use std::process::Abort;
@@ -333,6 +333,8 @@ Some([1100, 1150]) Some([1200, 1250]) Some([1300, 1350]) None",
 
 #[test]
 fn tables_of_unlike_numbers(rt: HostRuntime) -> Result<(), Fail> {
+    one_file();
+    one_set();
     check_answers(&rt, &unlike_texts(), &UNLIKE)
 }
 

@@ -1,0 +1,39 @@
+ghost use Rattle.std.specs.Prelude.{◌≡◌, ◌⊎◌, ℕ, List, Ok, Err};
+ghost use Rattle.ship_tables.specs.declared.faults.TableFault.{TableFault};
+ghost use Rattle.ship_tables.specs.declared.extents.Extent.{Extent};
+ghost use Rattle.ship_tables.specs.Faults.{AreTablesOf, IsFile, IsFileFault, IsFirstFileFault, files_of, read_after, rows_of};
+ghost use Rattle.ship_tables.specs.Record.{TablesRecord, Texts, tables_of};
+ghost use Rattle.ship_tables.specs.Tables.{Form, Row, file_in};
+
+/// A text is a file of a form with its rows, or it has a fault, and one only: that of its heading, or of the first record that is
+/// refused, or else that a table has too few rows (`specs/Faults.antt`). No record is lost: there are as many rows as records
+/// under the heading, and what is read holds them all. It is what the readers of the six files answer.
+pub fn one_file()
+    ensures sound { (form : Form) (text : List ℕ) (rows : List Row) →
+        IsFile form text rows → file_in form text ≡ Ok (read_after form rows) }
+    ensures fault { (form : Form) (text : List ℕ) (f : TableFault) →
+        IsFileFault form text f → file_in form text ≡ Err f }
+    ensures either { (form : Form) (text : List ℕ) →
+        ((rows : List Row) × IsFile form text rows)
+        ⊎ ((f : TableFault) × IsFileFault form text f) }
+    ensures not_both { (form : Form) (text : List ℕ) (rows : List Row) (f : TableFault) →
+        IsFile form text rows → IsFileFault form text f → ⊥ }
+    ensures all { (form : Form) (rows : List Row) → rows_of (read_after form rows) ≡ rows }
+{}
+
+/// The texts of a ship's tables are files of their forms, or they have a fault, and one only: that of the first file that has one,
+/// in the order `cells.csv`, `hydro.csv`, `kn.csv`, `bonjean.csv`, `tanks.csv`, `gm.csv`. It is what
+/// [`Tables::read`](crate::Tables::read) answers.
+pub fn one_set()
+    ensures sound { (extent : Extent) (stations : ℕ) (texts : Texts) (t : TablesRecord) →
+        AreTablesOf extent stations texts t → tables_of extent stations texts ≡ Ok t }
+    ensures fault { (extent : Extent) (stations : ℕ) (texts : Texts) (f : TableFault) →
+        IsFirstFileFault (files_of extent stations texts) f →
+        tables_of extent stations texts ≡ Err f }
+    ensures either { (extent : Extent) (stations : ℕ) (texts : Texts) →
+        ((t : TablesRecord) × AreTablesOf extent stations texts t)
+        ⊎ ((f : TableFault) × IsFirstFileFault (files_of extent stations texts) f) }
+    ensures not_both { (extent : Extent) (stations : ℕ) (texts : Texts) (t : TablesRecord)
+        (f : TableFault) → AreTablesOf extent stations texts t →
+        IsFirstFileFault (files_of extent stations texts) f → ⊥ }
+{}
