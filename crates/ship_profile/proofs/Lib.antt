@@ -1,4 +1,5 @@
 pub mod ArrayLemmas
+pub mod ArrayWalks
 pub mod Examples
 pub mod FillLemmas
 pub mod KeyLemmas
@@ -6,4 +7,5 @@ pub mod ListLemmas
 pub mod MeaningLemmas
 pub mod OutcomeLemmas
 pub mod ProfileLemmas
+pub mod ProfileWalks
 pub mod WrittenLemmas

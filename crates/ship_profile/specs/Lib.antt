@@ -1,3 +1,4 @@
+pub mod Faults
 pub mod Keys
 pub mod Outcome
 pub mod Printed

@@ -1,7 +1,7 @@
 //! What a profile gives, compared with the numbers that stand in its files. The ship is one of which no two numbers are equal, so
 //! that one in the place of another shows.
 use super::files::{check_words, seen};
-use crate::{Curves, Hydro, Profile, ProfileBytes};
+use crate::{Curves, Hydro, Profile, ProfileBytes, one_array, one_profile};
 use std::alloc::Global;
 use std::fmt::Debug;
 use std::process::Abort;
@@ -272,5 +272,7 @@ fn profile_of_unlike_numbers(rt: HostRuntime) -> Result<(), Fail> {
     for (asked, want) in &UNLIKE {
         check_answer(&rt, &unlike_ship(), *asked, want)?;
     }
+    one_array();
+    one_profile();
     Ok(())
 }
