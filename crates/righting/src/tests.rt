@@ -22,7 +22,7 @@ static TIED: &str = "kg,0,5,10,15,20,25,30,35,40,45,50,55,60
 ";
 
 /// The box ship with these cross curves.
-fn box_ship(alloc: Global, kn: &str) -> Result<Profile, ProfileFault> {
+fn box_ship(alloc: Global, kn: &'static str) -> Result<Profile, ProfileFault> {
     let mut files = files();
     files.kn = kn.as_bytes();
     Profile::read(alloc, &files)
@@ -67,7 +67,7 @@ fn told(profile: &Profile, totals: &Totals) -> Result<Option<Levers>, Fail> {
 }
 
 /// The levers with 8,200,000 kg aboard.
-fn levers_with(alloc: Global, kn: &str, y: i32, z: i32) -> Result<Levers, Fail> {
+fn levers_with(alloc: Global, kn: &'static str, y: i32, z: i32) -> Result<Levers, Fail> {
     let profile = box_ship(alloc, kn)?;
     let totals = sum_of(&profile, 8_200_000, y, z)?;
     Ok(told(&profile, &totals)?.ok_or("outside")?)
