@@ -13,6 +13,12 @@ use Rattle.ship_tables.specs.Tables.{Form, Row, Read, heading_read, tables_after
 use Rattle.ship_tables.specs.Faults.{read_after, rows_of, AreUnderHeading, AreRowsOf, IsFile, IsRefusedRecord, IsFileFault}
 use Rattle.ship_tables.proofs.ReadLemmas.{read_of-heading, read_of-other, read_of-none}
 
+-- the rows of all tables, where one more has begun
+pub rows_of-tables : (ended : List (List Row)) (rows : List Row) → flat_map (λ table. table) (tables_after ended rows) ≡ flat_map (λ table. table) ended ++ rows
+rows_of-tables ended [] = sym (append-nil (flat_map (λ table. table) ended))
+rows_of-tables ended (row ∷ rows) =
+    flat_map-append (λ table. table) ended ((row ∷ rows) ∷ []) ∙ ap (λ (l : List Row). flat_map (λ table. table) ended ++ l) (append-nil (row ∷ rows))
+
 module _ (form : Form) where
   -- what is read once these rows came after what was read before them
   abbrev after : Read → List Row → Read
@@ -168,11 +174,6 @@ module _ (form : Form) where
       go (Ok row) is on = by_row row is (on (with_row form.rule r row)) (row_fault form r row) refl
 
   -- no row is lost
-  rows_of-tables : (ended : List (List Row)) (rows : List Row) → flat_map (λ table. table) (tables_after ended rows) ≡ flat_map (λ table. table) ended ++ rows
-  rows_of-tables ended [] = sym (append-nil (flat_map (λ table. table) ended))
-  rows_of-tables ended (row ∷ rows) =
-      flat_map-append (λ table. table) ended ((row ∷ rows) ∷ []) ∙ ap (λ (l : List Row). flat_map (λ table. table) ended ++ l) (append-nil (row ∷ rows))
-
   rows_of-row : (r : Read) (row : Row) → rows_of (with_row form.rule r row) ≡ rows_of r ++ row ∷ []
   rows_of-row r row = go (belongs form.rule r.rows row) refl
     where

@@ -1,7 +1,9 @@
 pub mod CurveLemmas
 pub mod Examples
+pub mod FieldWalks
 pub mod FileLemmas
 pub mod FileWalks
+pub mod HydroReading
 pub mod MeaningLemmas
 pub mod NameLemmas
 pub mod OutcomeLemmas

@@ -1,5 +1,6 @@
 -- What each of some items gives, one item at a time.
 use Rattle.std.proofs.Common.{◌≡◌, ◌∙◌, ℕ, ◌+◌, ◌<◌, List, [], ◌∷◌, ◌++◌, zero, suc, length, drop, get_or, zip, option_map, IsSome, Bor, add-one, Option, Some, None, Result, Ok, Err, refl, ap, sym, append_assoc, arith}
+use Rattle.std.specs.Result.{result_err}
 use Rattle.std.proofs.lemmas.List.{append-nil}
 use Rattle.csv.specs.Records.{field_at}
 use Rattle.ship_tables.specs.declared.faults.TableFault.{TableFault}
@@ -42,6 +43,17 @@ module _ {A B : Type 0} where
   pub in_turn-stop : (add : B → A → Result B TableFault) (done : B) (x : A) (xs rest : List A) (e : TableFault) → rest ≡ x ∷ xs → add done x ≡ Err e
       → in_turn add done rest ≡ Err e
   in_turn-stop add done x xs rest e is h = rw (is, h) refl
+
+-- what a chain comes to by a result that went on, and by one that didn't
+pub by_ok : {A B E : Type 0} (w : Result A E) (a : A) (k : A → Result B E) (all : Result B E) → w ≡ Ok a → k a ≡ all → w >>= k ≡ all
+by_ok w a k all is e = ap (λ v. v >>= k) is ∙ e
+
+pub by_err : {A B E : Type 0} (w : Result A E) (f : E) (k : A → Result B E) → w ≡ Err f → w >>= k ≡ Err f
+by_err w f k is = ap (λ v. v >>= k) is
+
+pub is_fault : {A E : Type 0} (w : Result A E) (f : E) → result_err w ≡ Some f → w ≡ Err f
+is_fault (Ok a) f e = cc
+is_fault (Err x) f e = cc
 
 -- the pairs of two lists from a place on
 zip-drop_suc : {X : Type 0} (xs : List X) (ys : List (List ℕ)) (i : ℕ) (d : X) (y : List ℕ) → i < length xs → field_at ys i ≡ Some y

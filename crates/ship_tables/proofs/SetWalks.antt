@@ -1,6 +1,7 @@
 -- The first fault of a ship's tables is that of the first of their files that has one.
 use Rattle.std.proofs.Common.{◌≡◌, ◌∙◌, ◌⊎◌, inl, inr, ℕ, zero, suc, List, [], ◌∷◌, ◌++◌, Option, Some, None, Result, Ok, Err, refl, ap, sym, subst}
 use Rattle.std.specs.Prelude.{slice_get}
+use Rattle.std.specs.Result.{result_err}
 use Rattle.units_core.proofs.OutcomeLemmas.{went_on, same_ok}
 use Rattle.units_core.specs.Outcome.{◌>>=◌}
 use Rattle.ship_tables.specs.declared.extents.Extent.{Extent}
@@ -8,12 +9,8 @@ use Rattle.ship_tables.specs.declared.faults.TableFault.{TableFault}
 use Rattle.ship_tables.specs.Record.{Texts, TablesRecord, cells_form, hydro_form, levers_form, bonjean_form, tanks_form, least_gm_form, places_in, hydro_in, curves_in, tanks_in, least_gm_in, CurveTable, curve_table, tables_of}
 use Rattle.ship_tables.specs.Tables.{Form, Row, Read, file_in}
 use Rattle.ship_tables.specs.Faults.{IsFile, IsFileFault, files_of, least_gm_file, AreTablesOf, IsFirstFileFault}
+use Rattle.ship_tables.proofs.OutcomeLemmas.{by_ok, is_fault}
 use Rattle.ship_tables.proofs.FileWalks.{file_sound, file_fault, file_either}
-
--- the fault of a result, if it has one
-abbrev fault_in : {A : Type 0} → Result A TableFault → Option TableFault
-fault_in (Ok a) = None
-fault_in (Err e) = Some e
 
 -- its own fault, or else that of what follows
 abbrev or_behind : {A : Type 0} → Result A TableFault → Option TableFault → Option TableFault
@@ -24,27 +21,23 @@ abbrev first_fault : List (Form × List ℕ) → Option TableFault
 first_fault [] = None
 first_fault (file ∷ files) = or_behind (file_in file.0 file.1) (first_fault files)
 
-is_fault : {A : Type 0} (w : Result A TableFault) (f : TableFault) → fault_in w ≡ Some f → w ≡ Err f
-is_fault (Ok a) f e = cc
-is_fault (Err x) f e = cc
-
 -- a table that is read of its file, and what follows
 one_file_on : {A B : Type 0} (w : Result Read TableFault) (table : Read → A) (k : A → Result B TableFault) (behind : Option TableFault)
-    → ((a : A) → fault_in (k a) ≡ behind) → fault_in (w >>= (λ r. Ok (table r)) >>= k) ≡ or_behind w behind
+    → ((a : A) → result_err (k a) ≡ behind) → result_err (w >>= (λ r. Ok (table r)) >>= k) ≡ or_behind w behind
 one_file_on (Ok r) table k behind h = h (table r)
 one_file_on (Err e) table k behind h = refl
 
 least_gm_on : {B : Type 0} (text : Option (List ℕ)) (t : Option CurveTable → B)
-    → fault_in (least_gm_in text >>= (λ c. Ok (t c))) ≡ first_fault (least_gm_file text)
+    → result_err (least_gm_in text >>= (λ c. Ok (t c))) ≡ first_fault (least_gm_file text)
 least_gm_on None t = refl
 least_gm_on (Some text) t = go (file_in least_gm_form text)
   where
     go : (w : Result Read TableFault)
-        → fault_in (w >>= (λ r. Ok (curve_table 1 r.rows)) >>= (λ c. Ok (Some c)) >>= (λ c. Ok (t c))) ≡ or_behind w None
+        → result_err (w >>= (λ r. Ok (curve_table 1 r.rows)) >>= (λ c. Ok (Some c)) >>= (λ c. Ok (t c))) ≡ or_behind w None
     go (Ok r) = refl
     go (Err e) = refl
 
-fault_of_tables : (extent : Extent) (stations : ℕ) (texts : Texts) → fault_in (tables_of extent stations texts) ≡ first_fault (files_of extent stations texts)
+fault_of_tables : (extent : Extent) (stations : ℕ) (texts : Texts) → result_err (tables_of extent stations texts) ≡ first_fault (files_of extent stations texts)
 fault_of_tables extent stations texts =
     one_file_on (file_in (cells_form extent) texts.cells) _ _ _ (λ cells.
     one_file_on (file_in hydro_form texts.hydro) _ _ _ (λ hydro.
@@ -101,10 +94,6 @@ is_first (file ∷ files) f e = go (file_either file.0 file.1) (is_first files f
           fault_is = subst (IsFileFault file.0 file.1) same bad.1;
         }
 
--- what a chain comes to by a result that went on
-by_ok : {A B E : Type 0} (w : Result A E) (a : A) (k : A → Result B E) (all : Result B E) → w ≡ Ok a → k a ≡ all → w >>= k ≡ all
-by_ok w a k all is e = ap (λ v. v >>= k) is ∙ e
-
 module _ (extent : Extent) (stations : ℕ) (texts : Texts) where
   pub set_sound : (t : TablesRecord) → AreTablesOf extent stations texts t → tables_of extent stations texts ≡ Ok t
   set_sound t h =
@@ -139,4 +128,4 @@ module _ (extent : Extent) (stations : ℕ) (texts : Texts) where
           → ((t : TablesRecord) × AreTablesOf extent stations texts t) ⊎ ((f : TableFault) × IsFirstFileFault (files_of extent stations texts) f)
       go (Ok t) e = inl (t, are_tables_of t e)
       go (Err f) e =
-          inr (f, is_first (files_of extent stations texts) f (sym (fault_of_tables extent stations texts) ∙ ap fault_in e))
+          inr (f, is_first (files_of extent stations texts) f (sym (fault_of_tables extent stations texts) ∙ ap result_err e))

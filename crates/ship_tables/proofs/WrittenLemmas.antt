@@ -2,8 +2,7 @@
 use Rattle.std.proofs.Common.{◌≡◌, ◌∙◌, ℕ, zero, suc, ◌+◌, ◌<◌, true, ℤ, pos, neg_ℤ, List, [], ◌∷◌, ◌++◌, length, map, zip, slice_get, replicate, append_assoc, Option, None, Some, Ok, refl, ap, sym, arith, inl, inr}
 use Rattle.std.specs.Bool.{⊤}
 use Rattle.std.proofs.lemmas.Bool.{cases_Bool}
-use Rattle.std.proofs.lemmas.Grind.{flat_map-append}
-use Rattle.std.proofs.lemmas.List.{append-nil, map-append, length-map}
+use Rattle.std.proofs.lemmas.List.{map-append, length-map}
 use Rattle.std.proofs.lemmas.Map.Made.{keys_of-zip}
 use Rattle.std.proofs.lemmas.Slice.Eq.{bytes_eq-Decides}
 use Rattle.std.specs.List.{flat_map, AllByRecursion}
@@ -23,6 +22,7 @@ use Rattle.ship_tables.specs.Tables.{Form, Read, heading_read, Row, number_at, f
 use Rattle.ship_tables.specs.Record.{length_column, size_column, cells_form, hydro_form, levers_form, bonjean_form, tanks_form, least_gm_form, place_at, places_in, numbers_of, hydro_table, hydro_in, columns_from, curve_table, curves_in, tank_at, tanks_in, least_gm_in, HydroTable, CurveTable, Tank, TablesRecord, Texts, tables_of}
 use Rattle.ship_tables.specs.Written.{records_under, field_as, AreCellsWritten, IsHydroWritten, AreCurvesWritten, AreTanksWritten, IsLeastGmWritten, IsWritten}
 use Rattle.units_core.proofs.OutcomeLemmas.{went_on, same_ok}
+use Rattle.ship_tables.proofs.FileWalks.{rows_of-tables}
 use Rattle.ship_tables.proofs.FileLemmas.{IsField, AreFields, file-keeps}
 use Rattle.ship_tables.proofs.MeaningLemmas.{cells-length, slice_get-replicate}
 use Rattle.ship_tables.proofs.SoundLemmas.{IsRow, row-sound, all-push}
@@ -45,18 +45,13 @@ abbrev pub all_rows : Rule → Read → List Row
 all_rows (rule.Together gap tables) r = flat_map (λ t. t) r.ended ++ r.rows
 all_rows _ r = r.rows
 
-rows-after : (ended : List (List Row)) (rows : List Row) → flat_map (λ (t : List Row). t) (tables_after ended rows) ≡ flat_map (λ t. t) ended ++ rows
-rows-after ended [] = sym (append-nil (flat_map (λ (t : List Row). t) ended))
-rows-after ended (row ∷ rows) =
-    flat_map-append (λ (t : List Row). t) ended ((row ∷ rows) ∷ []) ∙ ap (λ more. flat_map (λ (t : List Row). t) ended ++ more) (append-nil (row ∷ rows))
-
 rows-more : (r : Rule) (read : Read) (row : Row) → all_rows r (with_row r read row) ≡ all_rows r read ++ row ∷ []
 rows-more rule.Distinct read row = refl
 rows-more (rule.Rising gap) read row = refl
 rows-more (rule.Together gap tables) read row =
     elim (cases_Bool (belongs (rule.Together gap tables) read.rows row)) [
       | inl b ↦ rw b (sym (append_assoc (flat_map (λ (t : List Row). t) read.ended) read.rows (row ∷ [])))
-      | inr b ↦ rw (b, rows-after read.ended read.rows) refl
+      | inr b ↦ rw (b, rows_of-tables read.ended read.rows) refl
     ]
 
 none-read : (r : Rule) → all_rows r heading_read ≡ []
@@ -281,7 +276,7 @@ tanks-written extent text tanks e =
     let tables = tables_read read.0 in
     let cs = (tanks_form extent).columns in
     let more = column.Number (pos 0) (pos 1000000000) ∷ length_column ∷ length_column ∷ length_column ∷ size_column ∷ column.Number (pos 0) (pos 1000000000000) ∷ [] in
-    let rows : AreRows cs (records_under text) (flat_map (λ t. t) tables) = rw (rows-after read.0.ended read.0.rows) reading.rows in
+    let rows : AreRows cs (records_under text) (flat_map (λ t. t) tables) = rw (rows_of-tables read.0.ended read.0.rows) reading.rows in
     let named = all-named read.0.ended read.0.rows reading.names.0 reading.names.1 in
     let number = λ (k : ℕ) (low high : ℤ) (c : slice_get cs k ≡ Some (column.Number low high)).
     rows-numbers cs (records_under text) (flat_map (λ t. t) tables) k low high rows c ∙ ap (map {B = Option ℤ} Some) (tables-numbers k tables) in

@@ -1,12 +1,14 @@
 -- A file of the profile with its rows, or the fault of a text that is none; and the first file of a ship's tables that has a fault.
-use Rattle.std.specs.Prelude.{◌≡◌, ◌≢◌, ◌⊎◌, ℕ, ◌+◌, List, [], ◌∷◌, ◌++◌, length, take, slice_get, Option, Some, None, Ok, Err, true, false}
+use Rattle.std.specs.Prelude.{◌≡◌, ◌≢◌, ◌⊎◌, ℕ, ◌+◌, List, [], ◌∷◌, ◌++◌, length, map, zip, take, slice_get, Option, Some, None, Result, Ok, Err, true, false}
 use Rattle.std.specs.List.{fold, flat_map}
 use Rattle.csv_text.specs.Reading.{Fields, records_of}
 use Rattle.ship_tables.specs.declared.faults.TableFault.{TableFault}
 use Rattle.ship_tables.specs.declared.faults.TableFault.TheVariants.{BadCsv, TooFewRows}
+use Rattle.ship_tables.specs.declared.layouts.Column.{Column}
+use Rattle.ship_tables.specs.declared.layouts.Field.{Field}
 use Rattle.ship_tables.specs.declared.extents.Extent.{Extent}
 use Rattle.ship_tables.specs.Record.{Texts, TablesRecord, cells_form, hydro_form, levers_form, bonjean_form, tanks_form, least_gm_form, places_in, hydro_in, curves_in, tanks_in, least_gm_in}
-use Rattle.ship_tables.specs.Tables.{Form, Row, Read, heading_read, tables_read, with_row, row_in, row_fault, is_short}
+use Rattle.ship_tables.specs.Tables.{Form, Row, Read, heading_read, tables_read, with_row, field_in, row_in, row_fault, is_short}
 
 -- what is read of a file once these rows came
 abbrev pub read_after : Form → List Row → Read
@@ -21,6 +23,36 @@ abbrev pub AreUnderHeading : Form → List ℕ → List Fields → Type 0
 AreUnderHeading form text records =
     ((heading : Fields) × (records_of text ≡ heading ∷ records) × (length heading ≡ length form.columns))
     ⊎ ((records_of text ≡ []) × (records ≡ []))
+
+-- Each record has so many fields.
+abbrev pub HaveFields : ℕ → List Fields → Type 0
+HaveFields n records = (k : ℕ) (fields : Fields) → slice_get records k ≡ Some fields → length fields ≡ n
+
+-- what a field is in its column
+abbrev pub read_in : Form → ℕ → Column × List ℕ → Result Field TableFault
+read_in form line p = field_in form.file line p.0 p.1
+
+-- The fields of a record are those of a row, one for each column.
+pub record IsRowOf (form : Form) (line : ℕ) (fields : Fields) (row : Row) : Type 0 where
+  pub as_many : length fields ≡ length form.columns
+  pub read : map (read_in form line) (zip form.columns fields) ≡ map Ok row
+
+-- A field is refused with this fault, and none to the left of it is refused.
+pub record IsFieldFault (form : Form) (line : ℕ) (fields : Fields) (f : TableFault) : Type 0 where
+  pub as_many : length fields ≡ length form.columns
+  pub before : List (Column × List ℕ)
+  pub column : Column
+  pub field : List ℕ
+  pub behind : List (Column × List ℕ)
+  pub row : Row
+  pub fields_are : zip form.columns fields ≡ before ++ (column, field) ∷ behind
+  pub read_before : map (read_in form line) before ≡ map Ok row
+  pub refused : field_in form.file line column field ≡ Err f
+
+-- The record has another number of fields than there are columns, or a field is refused.
+abbrev pub IsRowFault : Form → ℕ → Fields → TableFault → Type 0
+IsRowFault form line fields f =
+    ((length fields ≢ length form.columns) × (f ≡ BadCsv form.file line)) ⊎ IsFieldFault form line fields f
 
 -- A row can be the next after those before it.
 abbrev pub CanCome : Form → List Row → Row → Type 0

@@ -29,7 +29,7 @@ pub use curves::Curves;
 pub use extents::Extent;
 pub use faults::{File, TableFault};
 pub use hydrostatics::Hydro;
-pub use laws::{one_file, one_set};
+pub use laws::{one_file, one_record, one_set, sound_hydro_is_read};
 pub use readings::{curve_gap, displaced};
 pub use table_set::Tables;
 pub use texts::TableTexts;

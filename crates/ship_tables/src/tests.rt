@@ -1,5 +1,7 @@
 use crate::faults::{File, TableFault};
-use crate::{Curves, Extent, Hydro, TableTexts, Tables, one_file, one_set};
+use crate::{
+    Curves, Extent, Hydro, TableTexts, Tables, one_file, one_record, one_set, sound_hydro_is_read,
+};
 use std::alloc::Global;
 use std::fmt::Debug;
 use std::process::Abort;
@@ -334,7 +336,9 @@ Some([1100, 1150]) Some([1200, 1250]) Some([1300, 1350]) None",
 #[test]
 fn tables_of_unlike_numbers(rt: HostRuntime) -> Result<(), Fail> {
     one_file();
+    one_record();
     one_set();
+    sound_hydro_is_read();
     check_answers(&rt, &unlike_texts(), &UNLIKE)
 }
 
