@@ -2,7 +2,6 @@
 use Rattle.std.proofs.Common.{◌≡◌, ◌+◌, List, [], ◌∷◌, ◌++◌, length, length-append, Result, Ok, arith}
 use Rattle.std.specs.List.{AllByRecursion}
 use Rattle.units_core.proofs.OutcomeLemmas.{went_on, same_ok}
-use Rattle.units_core.specs.Outcome.{◌>>=◌}
 use Rattle.ship_profile.specs.declared.faults.ProfileFault.{ProfileFault}
 use Rattle.ship_profile.specs.Outcome.{one_by_one}
 

@@ -9,6 +9,7 @@ use Rattle.units_core.specs.Outcome.{◌>>=◌, or_fault}
 use Rattle.ship_tables.specs.declared.faults.TableFault.{TableFault}
 use Rattle.ship_tables.specs.Faults.{AreTablesOf, IsFirstFileFault, files_of}
 use Rattle.ship_tables.specs.Record.{TablesRecord}
+use Rattle.ship_tables.proofs.OutcomeLemmas.{by_ok, by_err, is_fault}
 use Rattle.ship_tables.proofs.SetWalks.{set_sound, set_fault, set_either}
 use Rattle.ship_profile.specs.declared.faults.Key.{Key}
 use Rattle.ship_profile.specs.declared.faults.Key.TheVariants as key
@@ -21,17 +22,6 @@ use Rattle.ship_profile.specs.Record.{Texts, ProfileRecord, from_tables, tables_
 use Rattle.ship_profile.specs.Ship.{ShipRecord, ship_of, extent_of, stations_of, blocks_of, frames_of, downflooding_of, NamedFill, named_fills_of}
 use Rattle.ship_profile.specs.TableFaults.{as_profile_fault}
 use Rattle.ship_profile.proofs.ArrayWalks.{made_sound, made_fault, made_either}
-
--- what a chain comes to by a result that went on, and by one that didn't
-by_ok : {A B E : Type 0} (w : Result A E) (a : A) (k : A → Result B E) (all : Result B E) → w ≡ Ok a → k a ≡ all → w >>= k ≡ all
-by_ok w a k all is e = ap (λ v. v >>= k) is ∙ e
-
-by_err : {A B E : Type 0} (w : Result A E) (f : E) (k : A → Result B E) → w ≡ Err f → w >>= k ≡ Err f
-by_err w f k is = ap (λ v. v >>= k) is
-
-is_fault : {A : Type 0} (w : Result A ProfileFault) (f : ProfileFault) → result_err w ≡ Some f → w ≡ Err f
-is_fault (Ok a) f e = cc
-is_fault (Err x) f e = cc
 
 -- the fault of a chain is that of its first step, or else of what follows
 step : {A B C : Type 0} (w : Result A ProfileFault) (k : A → Result C ProfileFault) (all : C → Result B ProfileFault) (behind : Option ProfileFault)
