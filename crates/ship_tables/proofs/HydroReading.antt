@@ -93,11 +93,11 @@ comes r row last few is rises =
     let room : nat_lt (length r.rows) 200 ≡ true = grind (arith, nat_tests) in
     rw (room, is, rises) refl
 
-above : (line : ℕ) (row last : Row) → number_at last 0 <ℤ number_at row 0 → (number_at row 0 -ℤ number_at last 0) ≤ℤ pos 100000000
-    → rise_fault hydro_form.file line (Some (pos 100000000)) 0 row (Some last) ≡ None
-above line row last rises gap =
-    let up : int_lt (number_at last 0) (number_at row 0) ≡ true = grind (arith, ints) in
-    let near : int_lt (pos 100000000) (number_at row 0 -ℤ number_at last 0) ≡ false = grind (arith, ints) in
+above : (line : ℕ) (next last : Row) → number_at last 0 <ℤ number_at next 0 → (number_at next 0 -ℤ number_at last 0) ≤ℤ pos 100000000
+    → rise_fault hydro_form.file line (Some (pos 100000000)) 0 next (Some last) ≡ None
+above line next last rises gap =
+    let up : int_lt (number_at last 0) (number_at next 0) ≡ true = grind (arith, ints) in
+    let near : int_lt (pos 100000000) (number_at next 0 -ℤ number_at last 0) ≡ false = grind (arith, ints) in
     rw (up, near) refl
 
 least_of : (z : ℤ) (m : ℕ) → unsigned_abs z ≤ m → neg_ℤ (pos m) ≤ℤ z
