@@ -1,5 +1,5 @@
-//! The box ship: the worked example of the tests of all crates, and of the program in `crates/own_program`. She is 100 m long and 20 m broad, with
-//! vertical sides and a flat bottom, so that her tables are worked out by hand. Nothing that a user starts reads her.
+//! The box ship: the worked example of the tests from `lift_sequence` to `seq_report`, and of the program in `crates/own_program`. She is 100 m
+//! long and 20 m broad, with vertical sides and a flat bottom, so that her tables are worked out by hand. `loadseq` doesn't read her.
 //!
 //! In sea water of 1,025 kg/m3 she displaces 100 * 20 * 1,025 = 2,050,000 kg for each metre of draught `T`:
 //!
