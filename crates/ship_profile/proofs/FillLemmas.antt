@@ -10,7 +10,8 @@ use Rattle.ship_profile.specs.declared.fills.TankFill.{TankFill}
 use Rattle.units_core.specs.Outcome.{or_fault}
 use Rattle.ship_profile.specs.Record.{is_filled, fill_in, fills_in, IsFill, AreFills}
 use Rattle.ship_profile.specs.Ship.{NamedFill, IsNamedFill, AreNamedFills}
-use Rattle.ship_profile.proofs.ListLemmas.{all-push, each_at, all_by, distinct-push}
+use Rattle.ship_tables.proofs.SoundLemmas.{all-push}
+use Rattle.ship_profile.proofs.ListLemmas.{each_at, all_by, distinct-push}
 use Rattle.units_core.proofs.OutcomeLemmas.{went_on, was_there, passed}
 use Rattle.ship_profile.proofs.OutcomeLemmas.{one_by_one-keeps, one_by_one-length}
 

@@ -11,10 +11,6 @@ use Rattle.std.specs.Ordering.{int_eq}
 use Rattle.units_core.specs.Interpolation.{at, IsRising, IsWithin}
 use Rattle.ship_profile.specs.Ship.{is_above, last_of, is_one_of}
 
-pub all-push : {X : Type 0} (P : X → Type 0) (xs : List X) (x : X) → AllByRecursion P xs → P x → AllByRecursion P (xs ++ x ∷ [])
-all-push P [] x h p = (p, tt)
-all-push P (y ∷ ys) x h p = (h.0, all-push P ys x h.1 p)
-
 pub each_at : {X : Type 0} (P : X → Type 0) (xs : List X) → AllByRecursion P xs → All P xs
 each_at P [] h k d inside = absurd (omega arith)
 each_at P (x ∷ xs) h zero d inside = h.0

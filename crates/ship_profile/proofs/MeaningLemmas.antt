@@ -21,7 +21,8 @@ use Rattle.ship_profile.specs.Keys.{items_in, name_of, number_of, number_in_tabl
 use Rattle.units_core.specs.Outcome.{or_fault, demand, within}
 use Rattle.ship_profile.specs.Outcome.{one_by_one}
 use Rattle.ship_profile.specs.Ship.{is_above, last_of, is_one_of, station_of, stations_of, block_in, block_of, blocks_of, frame_in, frame_of, frames_of, NamedFill, named_fill_of, AreStations, IsBlock, AreBlocks, IsFrame, AreFrames, IsNamedFill, AreNamedFills}
-use Rattle.ship_profile.proofs.ListLemmas.{all-push, each_at, all_of, rising-push, last-map, size, sizes_within, one_of}
+use Rattle.ship_tables.proofs.SoundLemmas.{all-push}
+use Rattle.ship_profile.proofs.ListLemmas.{each_at, all_of, rising-push, last-map, size, sizes_within, one_of}
 use Rattle.units_core.proofs.OutcomeLemmas.{went_on, same_ok, passed, within-limits}
 use Rattle.ship_profile.proofs.OutcomeLemmas.{one_by_one-keeps, one_by_one-length}
 
