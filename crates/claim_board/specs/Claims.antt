@@ -1,0 +1,29 @@
+-- What is true of a board at every moment, and once all workers have stopped.
+use Rattle.std.specs.Prelude.{◌≡◌, ℕ, ◌<◌, ◌≤◌, List, cond, nat_lt, Option, Some, None}
+use Rattle.claim_board.specs.declared.entries.Stage.TheVariants.{Skipped, Worked, Posted}
+use Rattle.claim_board.specs.declared.entries.Entry.{Entry}
+use Rattle.claim_board.specs.Entries.{total, Each, numbers, is, posts, NotBefore}
+
+-- each number below next stands in one hand, once, and no other number stands in any
+abbrev pub IsFair : ℕ → List (List Entry) → Type 0
+IsFair next hands = (k : ℕ) → total (numbers (is k)) hands ≡ cond (nat_lt k next) 1 0
+
+-- the least of all posted steps, none where none is posted
+abbrev pub IsLeastPosted : Option ℕ → List (List Entry) → Type 0
+IsLeastPosted None hands = (f : ℕ) → total (posts f) hands ≡ 0
+IsLeastPosted (Some l) hands = (0 < total (posts l) hands) × ((f : ℕ) → 0 < total (posts f) hands → l ≤ f)
+
+-- A chunk is skipped only where its look gave a step before it, which stands posted in some hand; a chunk whose look gave such a step is
+-- never worked nor posted.
+pub record IsRightlySkipped (begin : ℕ → ℕ) (hands : List (List Entry)) (e : Entry) : Type 0 where
+  pub skipped : e.stage ≡ Skipped → (l : ℕ) × (e.looked ≡ Some l) × (l < begin e.number) × (0 < total (posts l) hands)
+  pub worked : (o : Option ℕ) → e.stage ≡ Worked o → NotBefore (begin e.number) e.looked
+  pub posted : (f : ℕ) → e.stage ≡ Posted f → NotBefore (begin e.number) e.looked
+
+abbrev pub SkipsAreRight : (ℕ → ℕ) → List (List Entry) → Type 0
+SkipsAreRight begin hands = Each (Each (IsRightlySkipped begin hands)) hands
+
+-- the least step that any of the first n chunks has, none where none has one
+abbrev pub IsLeastFound : Option ℕ → (ℕ → Option ℕ) → ℕ → Type 0
+IsLeastFound None find n = (k : ℕ) → k < n → find k ≡ None
+IsLeastFound (Some l) find n = ((k : ℕ) × (k < n) × (find k ≡ Some l)) × ((k f : ℕ) → k < n → find k ≡ Some f → l ≤ f)
