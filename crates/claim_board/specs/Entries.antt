@@ -1,5 +1,5 @@
 -- What workers did with the numbers that they drew, and how that is counted. A hand is the list of a worker's entries, the newest first.
-use Rattle.std.specs.Prelude.{◌≡◌, ℕ, zero, suc, ◌+◌, ◌≤◌, List, [], ◌∷◌, cond, nat_eq, Bool, true, false, Option, Some, None}
+use Rattle.std.specs.Prelude.{◌≡◌, ℕ, zero, suc, ◌+◌, ◌≤◌, List, [], ◌∷◌, cond, nat_eq, Bool, true, false, Option, Some, None, min}
 use Rattle.claim_board.specs.declared.entries.Stage.{Stage}
 use Rattle.claim_board.specs.declared.entries.Stage.TheVariants.{Drawn, Looked, Skipped, Worked, Posted}
 use Rattle.claim_board.specs.declared.entries.Entry.{Entry}
@@ -65,3 +65,8 @@ NotBefore begin looked = (l : ℕ) → looked ≡ Some l → begin ≤ l
 abbrev pub AtMost : Option ℕ → ℕ → Type 0
 AtMost None l = ⊥
 AtMost (Some m) l = m ≤ l
+
+-- the lesser of a step and the least step so far
+abbrev pub lesser : Option ℕ → ℕ → Option ℕ
+lesser None f = Some f
+lesser (Some l) f = Some (min l f)
