@@ -1,3 +1,5 @@
 pub mod Entries
 pub mod Rule
+pub mod Board
 pub mod Claims
+pub mod Views

@@ -4,5 +4,15 @@
 #![tactic(auto)]
 
 mod entries;
+mod events;
+mod laws;
+mod outcomes;
+#[cfg(test)]
+mod tests;
+mod workers;
+mod world;
 
 pub use entries::{Entry, Stage};
+pub use events::Event;
+pub use laws::for_every_run;
+pub use world::World;
