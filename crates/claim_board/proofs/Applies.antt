@@ -10,12 +10,10 @@ use Rattle.claim_board.specs.declared.entries.Stage.TheVariants.{Drawn, Looked, 
 use Rattle.claim_board.specs.declared.entries.Entry.{Entry}
 use Rattle.claim_board.specs.declared.events.Event.{Event}
 use Rattle.claim_board.specs.declared.events.Outcome.{Outcome}
-use Rattle.claim_board.specs.declared.events.Status.{Status}
-use Rattle.claim_board.specs.declared.events.Status.TheVariants.{Runs}
 use Rattle.claim_board.specs.declared.workers.Worker.{Worker}
 use Rattle.claim_board.specs.Entries.{Each, total, numbers, below, is_ended}
 use Rattle.claim_board.specs.Rule.{FitsStage, Fits}
-use Rattle.claim_board.specs.Board.{Hand, State, entry_lists, found_of, newest_of, put_newest, outcome_of, outcome_if_runs, change_of, change_if_enabled, change_for, change_by, worker_of, with_change, after_event}
+use Rattle.claim_board.specs.Board.{Hand, State, entry_lists, found_of, newest_of, put_newest, change_of, change_if_enabled, change_for, change_by, worker_of, with_change, after_event}
 use Rattle.claim_board.specs.Views.{IsEnded, older, IsShaped, FollowsRule, hand_of, state_of, entries_at}
 use Rattle.claim_board.proofs.Sums.{total_at}
 use Rattle.claim_board.proofs.Turns.{entries_get}
@@ -120,27 +118,27 @@ module _ (s : State) (rule : FollowsRule s) where
   pub hand_le : (k : ℕ) (h : Hand) → slice_get s.hands k ≡ Some h → length h.entries ≤ s.next
   hand_le k h at = omega (arith, ones h.entries, total_at (numbers (λ n. 1)) (entry_lists s.hands) k h.entries (entries_get s.hands k h at), rule.kept.once (λ n. 1), below_ones s.next)
 
-change_is : (s : State) (event : Event) (es : List Entry) (status : Status) → slice_get s.hands (worker_of event) ≡ Some (record { entries = es; status = status }) → status ≡ Runs → change_by s event ≡ change_if_enabled es (outcome_of s event (newest_of es))
-change_is s event es status at runs = ap (change_for s event) at ∙ ap (λ t. change_if_enabled es (outcome_if_runs s event t (newest_of es))) runs
-
 -- the change by an event is what the outcome says of its worker
-pub tells : (begins : List ℕ) (found : List (Option ℕ)) (next : ℕ) (least : Option ℕ) (ws : List Worker) (event : Event) (k : ℕ) (worker : Worker) (newest : Option Entry) (o : Option Outcome)
-    → k ≡ worker_of event → slice_get (map hand_of ws) k ≡ Some (hand_of worker) → worker.status ≡ Runs → newest ≡ newest_of (reverse worker.entries.items) → o ≡ outcome_of (state_of begins found next least ws) event newest
-    → change_by (state_of begins found next least ws) event ≡ change_if_enabled (reverse worker.entries.items) o
-tells begins found next least ws event k worker newest o number at runs new is =
+pub tells : {begins : List ℕ} {found : List (Option ℕ)} {next : ℕ} {least : Option ℕ} (ws : List Worker) (now : State) (event : Event) (k : ℕ) (worker : Worker) (o : Option Outcome)
+    → state_of begins found next least ws ≡ now → k ≡ worker_of event → k < length ws → worker ≡ get_or ws k worker
+    → change_if_enabled (reverse worker.entries.items) o ≡ change_for (state_of begins found next least ws) event (Some (hand_of worker))
+    → change_by now event ≡ change_if_enabled (reverse worker.entries.items) o
+tells {begins = begins} {found = found} {next = next} {least = least} ws now event k worker o view number low there told =
     let s = state_of begins found next least ws in
-    change_is s event (reverse worker.entries.items) worker.status (ap (slice_get (map hand_of ws)) (sym number) ∙ at) runs
-    ∙ ap (λ x. change_if_enabled (reverse worker.entries.items) (outcome_of s event x)) (sym new)
-    ∙ ap (change_if_enabled (reverse worker.entries.items)) (sym is)
+    ap (λ (t : State). change_by t event) (sym view)
+    ∙ ap (change_for s event) (ap (slice_get (map hand_of ws)) (sym number) ∙ hand_at ws k worker low ∙ ap (λ (w : Worker). Some (hand_of w)) (sym there))
+    ∙ sym told
 
 -- the state after an event that is enabled
-pub becomes_after : (begins : List ℕ) (found : List (Option ℕ)) (next : ℕ) (least : Option ℕ) (ws : List Worker) (event : Event) (k : ℕ) (worker after : Worker) (o : Outcome)
-    → k ≡ worker_of event → change_by (state_of begins found next least ws) event ≡ Some (change_of (reverse worker.entries.items) o) → hand_of after ≡ (change_of (reverse worker.entries.items) o).hand
-    → state_of begins found o.next o.least (set ws k after) ≡ after_event (state_of begins found next least ws) event
-becomes_after begins found next least ws event k worker after o number is hand =
-    let s = state_of begins found next least ws in
+pub becomes_after : {begins : List ℕ} {found : List (Option ℕ)} {next : ℕ} {least : Option ℕ} (ws : List Worker) (now : State) (event : Event) (k : ℕ) (worker after : Worker) (o : Outcome)
+    → state_of begins found next least ws ≡ now → k ≡ worker_of event
+    → change_by now event ≡ Some (change_of (reverse worker.entries.items) o) → hand_of after ≡ (change_of (reverse worker.entries.items) o).hand
+    → state_of begins found o.next o.least (set ws k after) ≡ after_event now event
+becomes_after {begins = begins} {found = found} ws now event k worker after o view number is hand =
     let hands : map hand_of (set ws k after) ≡ set (map hand_of ws) (worker_of event) (change_of (reverse worker.entries.items) o).hand = map-set hand_of ws k after ∙ (λ i. set (map hand_of ws) (number i) (hand i)) in
-    (λ i. record { begins = begins; found = found; next = o.next; least = o.least; hands = hands i }) ∙ ap (with_change s (worker_of event)) (sym is)
+    (λ i. record { begins = begins; found = found; next = o.next; least = o.least; hands = hands i })
+    ∙ ap (λ (s : State). with_change s (worker_of event) (Some (change_of (reverse worker.entries.items) o))) view
+    ∙ ap (with_change now (worker_of event)) (sym is)
 
 -- the entries that the code keeps of a worker are those of its hand, the oldest first
 pub entries_some : (ws : List Worker) (k : ℕ) (d : Worker) → k < length ws → (get_or ws k d).entries.items ≡ reverse (entries_at (map hand_of ws) k)

@@ -133,11 +133,7 @@ pub fn outcome(
     let before = saw_before(begin, entry.looked);
     let to = |newest: Entry| Some(keeping(newest, Status::Runs, next, least));
     match (event, entry.stage) {
-        (Event::Draw(_), stage) => if is_end(stage) {
-            Some(drawing(next, least))
-        } else {
-            None
-        },
+        (Event::Draw(_), stage) if is_end(stage) => Some(drawing(next, least)),
         (Event::Look(_), Stage::Drawn) if (entry.number as usize) < begins.len() => to(seen),
         (Event::Skip(_), Stage::Looked) if before => to(at_stage(entry, Stage::Skipped)),
         (Event::Work(_), Stage::Looked) if !before => {

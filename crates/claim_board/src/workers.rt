@@ -1,9 +1,10 @@
-ghost use Rattle.std.specs.Prelude.{◌≡◌, ℕ, ◌<◌, ◌≤◌, ◌^◌, IfOk, vec_len, vec_capacity, slice_index_or, map, replicate};
-ghost use Rattle.claim_board.specs.Board.{change_of, idle};
+ghost use Rattle.std.specs.Prelude.{◌≡◌, ℕ, ◌-◌, ◌<◌, ◌≤◌, ◌^◌, List, Some, reverse, IfOk, vec_len, vec_capacity, slice_index_or, map, replicate};
+ghost use Rattle.claim_board.specs.Board.{Hand, board, change_of, change_for, change_if_enabled, idle};
 ghost use Rattle.claim_board.specs.Views.{hand_of};
 
 use crate::entries::Entry;
-use crate::events::{Outcome, Status};
+use crate::events::{Event, Outcome, Status};
+use crate::outcomes::outcome;
 use std::alloc::{AllocError, Global};
 
 /// A worker of a board: its entries, the oldest first, and whether it runs.
@@ -11,6 +12,33 @@ use std::alloc::{AllocError, Global};
 pub struct Worker {
     pub entries: Vec<Entry>,
     pub status: Status,
+}
+
+/// What the event makes of the worker; `None` where it isn't enabled.
+pub fn worker_outcome(
+    worker: &Worker,
+    event: Event,
+    begins: &[u32],
+    found: &[Option<u32>],
+    next: u32,
+    least: Option<u32>,
+) -> Option<Outcome>
+    requires { next < 2 ^ 32 - 1 }
+    ensures { (hands : List Hand)
+        → change_if_enabled (reverse worker.now.entries.items) result
+        ≡ change_for (board begins.now found.now next least hands) event (Some (hand_of worker.now)) }
+{
+    let Status::Runs = worker.status else {
+        return None;
+    };
+    outcome(
+        event,
+        worker.entries.last().copied(),
+        begins,
+        found,
+        next,
+        least,
+    )
 }
 
 /// Changes the worker as the outcome says. There must be room for one entry more, so no memory is asked for.

@@ -3,9 +3,8 @@ ghost use Rattle.claim_board.specs.Board.{first_state, change_by, after_event, w
 ghost use Rattle.claim_board.specs.Views.{entries_at};
 
 use crate::entries::Entry;
-use crate::events::{Event, Status};
-use crate::outcomes::outcome;
-use crate::workers::{Worker, change_worker, idle_workers};
+use crate::events::Event;
+use crate::workers::{Worker, change_worker, idle_workers, worker_outcome};
 use std::alloc::{AllocError, Global};
 use std::marker::Model;
 
@@ -79,13 +78,9 @@ impl World {
         if at >= self.workers.len() {
             return false;
         }
-        let newest = self.workers[at].entries.last().copied();
-        let Status::Runs = self.workers[at].status else {
-            return false;
-        };
-        let Some(outcome) = outcome(
+        let Some(outcome) = worker_outcome(
+            &self.workers[at],
             event,
-            newest,
             &self.begins,
             &self.found,
             self.next,
