@@ -13,8 +13,8 @@ use Rattle.claim_board.specs.declared.events.Outcome.{Outcome}
 use Rattle.claim_board.specs.declared.workers.Worker.{Worker}
 use Rattle.claim_board.specs.Entries.{Each, total, numbers, below, is_ended}
 use Rattle.claim_board.specs.Rule.{FitsStage, Fits}
-use Rattle.claim_board.specs.Board.{Hand, State, entry_lists, found_of, newest_of, put_newest, change_of, change_if_enabled, change_for, change_by, worker_of, with_change, after_event}
-use Rattle.claim_board.specs.Views.{IsEnded, older, IsShaped, FollowsRule, hand_of, state_of, entries_at}
+use Rattle.claim_board.specs.Board.{Hand, State, entries_at, entry_lists, found_of, newest_of, put_newest, change_of, change_if_enabled, change_for, change_by, worker_of, with_change, after_event}
+use Rattle.claim_board.specs.Views.{IsEnded, older, IsShaped, FollowsRule, hand_of, state_of}
 use Rattle.claim_board.proofs.Sums.{total_at}
 use Rattle.claim_board.proofs.Turns.{entries_get}
 

@@ -1,6 +1,6 @@
 -- The board and its events: which event of a worker is enabled, and what it changes. A worker draws a number, looks at the least failing step
 -- that is posted, skips the chunk of its number or works it, posts the failing step that it found, and stops at a number past the last chunk.
-use Rattle.std.specs.Prelude.{ℕ, ◌+◌, List, [], ◌∷◌, length, slice_get, slice_index, set, map, Bool, true, false, cond, nat_lt, Option, Some, None, replicate}
+use Rattle.std.specs.Prelude.{ℕ, zero, suc, ◌+◌, List, [], ◌∷◌, length, slice_get, slice_index, set, map, Bool, true, false, cond, nat_lt, Option, Some, None, replicate}
 use Rattle.claim_board.specs.declared.entries.Stage.{Stage}
 use Rattle.claim_board.specs.declared.entries.Stage.TheVariants.{Drawn, Looked, Skipped, Worked, Posted}
 use Rattle.claim_board.specs.declared.entries.Entry.{Entry}
@@ -29,6 +29,12 @@ board begins found next least hands = record { begins = begins; found = found; n
 
 abbrev pub entry_lists : List Hand → List (List Entry)
 entry_lists hands = map (λ (h : Hand). h.entries) hands
+
+-- a worker's entries, the newest first; none of a worker that isn't there
+abbrev pub entries_at : List Hand → ℕ → List Entry
+entries_at [] k = []
+entries_at (h ∷ hs) zero = h.entries
+entries_at (h ∷ hs) (suc k) = entries_at hs k
 
 abbrev pub flat : Option (Option ℕ) → Option ℕ
 flat None = None
@@ -87,7 +93,8 @@ after_stop s e Skipped = None
 after_stop s e (Worked o) = None
 after_stop s e (Posted f) = None
 
--- What an event makes of a worker that runs, by its newest entry, where it is enabled. A worker that is refused keeps its entries.
+-- What an event makes of a worker that runs, by its newest entry, where it is enabled. A worker that is refused keeps its entries; where it
+-- has none, none takes the place of a newest one (`put_newest` below).
 abbrev pub outcome_of : State → Event → Option Entry → Option Outcome
 outcome_of s (Draw w) None = Some (draws_next s.next s.least)
 outcome_of s (Draw w) (Some e) = cond (is_ended e.stage) (Some (draws_next s.next s.least)) None

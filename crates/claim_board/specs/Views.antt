@@ -1,5 +1,5 @@
 -- Bookkeeping: how the code's fields stand for a state, and the rule that every event keeps.
-use Rattle.std.specs.Prelude.{◌≡◌, ℕ, zero, suc, ◌+◌, ◌<◌, ◌≤◌, ◌^◌, List, [], ◌∷◌, length, map, reverse, true, Option, slice_index, slice_index_or, vec_capacity}
+use Rattle.std.specs.Prelude.{◌≡◌, ℕ, ◌+◌, ◌<◌, ◌≤◌, ◌^◌, List, [], ◌∷◌, length, map, reverse, true, Option, slice_index, slice_index_or, vec_capacity}
 use Rattle.claim_board.specs.declared.entries.Stage.TheVariants.{Drawn}
 use Rattle.claim_board.specs.declared.entries.Entry.{Entry}
 use Rattle.claim_board.specs.declared.events.Status.TheVariants.{Stopped}
@@ -8,6 +8,7 @@ use Rattle.claim_board.specs.Entries.{Each, is_ended}
 use Rattle.claim_board.specs.Rule.{IsKept}
 use Rattle.claim_board.specs.Board.{Hand, State, board, entry_lists, found_of}
 
+-- a worker goes on from such an entry
 abbrev pub IsEnded : Entry → Type 0
 IsEnded e = is_ended e.stage ≡ true
 
@@ -16,6 +17,7 @@ abbrev pub NewestIsPast : ℕ → List Entry → Type 0
 NewestIsPast n [] = ⊥
 NewestIsPast n (e ∷ es) = (e.stage ≡ Drawn) × (n ≤ e.number)
 
+-- all but the newest
 abbrev pub older : List Entry → List Entry
 older [] = []
 older (e ∷ es) = es
@@ -25,6 +27,7 @@ pub record IsShaped (n : ℕ) (h : Hand) : Type 0 where
   pub ended : Each IsEnded (older h.entries)
   pub stopped : h.status ≡ Stopped → NewestIsPast n h.entries
 
+-- the rule of a state: that of its entries, and the shape of each hand
 pub record FollowsRule (s : State) : Type 0 where
   pub kept : IsKept (slice_index s.begins) (found_of s.found) (length s.begins) s.next s.least (entry_lists s.hands)
   pub shapes : Each (IsShaped (length s.begins)) s.hands
@@ -41,9 +44,3 @@ pub record IsSound (begins : List ℕ) (found : List (Option ℕ)) (next : ℕ) 
   pub rule : FollowsRule (state_of begins found next least workers)
   pub few : length begins + length workers + 1 < 2 ^ 32
   pub room : (k : ℕ) (d : Worker) → k < length workers → length begins + length workers + 1 ≤ vec_capacity (slice_index_or workers k d).entries
-
--- a worker's entries, the newest first; none of a worker that isn't there
-abbrev pub entries_at : List Hand → ℕ → List Entry
-entries_at [] k = []
-entries_at (h ∷ hs) zero = h.entries
-entries_at (h ∷ hs) (suc k) = entries_at hs k

@@ -5,6 +5,7 @@ ghost use Rattle.claim_board.specs.Board.{Hand, State, board, found_of, is_befor
 use crate::entries::{Entry, Stage};
 use crate::events::{Event, Outcome, Status};
 
+/// Whether a worker goes on to the next number from this stage.
 fn is_end(stage: Stage) -> bool
     ensures { result ≡ is_ended stage }
 {
@@ -14,6 +15,7 @@ fn is_end(stage: Stage) -> bool
     }
 }
 
+/// Whether the look gave a step before the chunk's first.
 fn saw_before(begin: u32, looked: Option<u32>) -> bool
     ensures { result ≡ is_before begin looked }
 {
@@ -23,6 +25,7 @@ fn saw_before(begin: u32, looked: Option<u32>) -> bool
     }
 }
 
+/// The lesser of the least step so far and a step that is posted.
 fn least_with(least: Option<u32>, step: u32) -> Option<u32>
     ensures { result ≡ lesser least step }
 {
@@ -32,6 +35,7 @@ fn least_with(least: Option<u32>, step: u32) -> Option<u32>
     }
 }
 
+/// A chunk's first step. Past the last chunk it is 0, as in the definition, so that nothing has to be known of the number.
 fn begin_of(begins: &[u32], number: u32) -> u32
     ensures { result ≡ slice_index begins.now number }
 {
@@ -41,6 +45,7 @@ fn begin_of(begins: &[u32], number: u32) -> u32
     }
 }
 
+/// A chunk's first failing step; none past the list's end.
 fn find_of(found: &[Option<u32>], number: u32) -> Option<u32>
     ensures { result ≡ found_of found.now number }
 {
@@ -50,6 +55,7 @@ fn find_of(found: &[Option<u32>], number: u32) -> Option<u32>
     }
 }
 
+/// The entry at another stage.
 fn at_stage(entry: Entry, stage: Stage) -> Entry
     ensures { result ≡ ended stage entry }
 {
@@ -60,6 +66,7 @@ fn at_stage(entry: Entry, stage: Stage) -> Entry
     }
 }
 
+/// The outcome of a draw.
 fn drawing(next: u32, least: Option<u32>) -> Outcome
     requires { next < 2 ^ 32 - 1 }
     ensures { result ≡ draws_next next least }
@@ -77,6 +84,7 @@ fn drawing(next: u32, least: Option<u32>) -> Outcome
     }
 }
 
+/// The outcome of any other event, by what becomes of the newest entry.
 fn keeping(newest: Entry, status: Status, next: u32, least: Option<u32>) -> Outcome
     ensures { result ≡ becomes newest status next least }
 {
@@ -131,13 +139,13 @@ pub fn outcome(
     };
     let begin = begin_of(begins, entry.number);
     let before = saw_before(begin, entry.looked);
-    let to = |newest: Entry| Some(keeping(newest, Status::Runs, next, least));
+    let runs_with = |newest: Entry| Some(keeping(newest, Status::Runs, next, least));
     match (event, entry.stage) {
         (Event::Draw(_), stage) if is_end(stage) => Some(drawing(next, least)),
-        (Event::Look(_), Stage::Drawn) if (entry.number as usize) < begins.len() => to(seen),
-        (Event::Skip(_), Stage::Looked) if before => to(at_stage(entry, Stage::Skipped)),
+        (Event::Look(_), Stage::Drawn) if (entry.number as usize) < begins.len() => runs_with(seen),
+        (Event::Skip(_), Stage::Looked) if before => runs_with(at_stage(entry, Stage::Skipped)),
         (Event::Work(_), Stage::Looked) if !before => {
-            to(at_stage(entry, Stage::Worked(find_of(found, entry.number))))
+            runs_with(at_stage(entry, Stage::Worked(find_of(found, entry.number))))
         }
         (Event::Post(_), Stage::Worked(Some(step))) => {
             let posted = at_stage(entry, Stage::Posted(step));

@@ -52,6 +52,7 @@ pub fn change_worker(worker: &mut Worker, outcome: Outcome)
         let _ = worker.entries.push(outcome.newest);
         return;
     }
+    // without entries there is none to be replaced
     let count = worker.entries.len();
     if count > 0 {
         worker.entries[count - 1] = outcome.newest;

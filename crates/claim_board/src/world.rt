@@ -1,6 +1,5 @@
 ghost use Rattle.std.specs.Prelude.{◌≡◌, ◌≤◌, ◌^◌, ◌↔◌, length, reverse, IfOk, IsTrue, IsSome};
-ghost use Rattle.claim_board.specs.Board.{first_state, change_by, after_event, worker_of};
-ghost use Rattle.claim_board.specs.Views.{entries_at};
+ghost use Rattle.claim_board.specs.Board.{first_state, change_by, after_event, entries_at, worker_of};
 
 use crate::entries::Entry;
 use crate::events::Event;

@@ -1,7 +1,7 @@
 use Rattle.std.proofs.Common.{ap, ◌∙◌, map, reverse}
 use Rattle.claim_board.specs.declared.workers.Worker.{Worker}
-use Rattle.claim_board.specs.Board.{State}
-use Rattle.claim_board.specs.Views.{hand_of, entries_at}
+use Rattle.claim_board.specs.Board.{State, entries_at}
+use Rattle.claim_board.specs.Views.{hand_of}
 use Rattle.claim_board.proofs.Applies.{entries_some, entries_none}
 use Rattle.claim_board.proofs.world.World.entries.Goals as goal
 
