@@ -182,7 +182,7 @@ module _ (begin : ℕ → ℕ) (find : ℕ → Option ℕ) (chunks : ℕ) where
       })
       (λ l there. ⊎_elim (λ (was : least ≡ Some l). inl was) (λ (mine : f ≡ l). inr (let one = is_same l f mine in omega arith)) (lesser_is least f l there))
 
-  -- where the chunk is worked
+  -- the same of an entry whose chunk is worked
   pub posts_newest : {next : ℕ} {least : Option ℕ} {hands : List (List Entry)} (w : ℕ) {e : Entry} {es : List Entry} {f : ℕ}
       → IsKept begin find chunks next least hands → slice_get hands w ≡ Some (e ∷ es)
       → e.stage ≡ Worked (Some f)
@@ -192,7 +192,7 @@ module _ (begin : ℕ → ℕ) (find : ℕ → Option ℕ) (chunks : ℕ) where
       let fit = subst (FitsStage begin find chunks least e) is old.0.stage in
       posts_first w kept at fit.0 fit.1 fit.2 (worked_no_post e (Posted f) (Some f) is)
 
-  -- and where it was looked at alone: the work stands between the two
+  -- the same of an entry that has only looked, where its work and its post are one change
   pub posts_looked : {next : ℕ} {least : Option ℕ} {hands : List (List Entry)} (w : ℕ) {e : Entry} {es : List Entry} {f : ℕ}
       → IsKept begin find chunks next least hands → slice_get hands w ≡ Some (e ∷ es)
       → e.stage ≡ Looked → find e.number ≡ Some f → NotBefore (begin e.number) e.looked
@@ -246,8 +246,8 @@ module _ (begin : ℕ → ℕ) (find : ℕ → Option ℕ) (chunks : ℕ) where
       let later : (e : Entry) → Fits begin find chunks least hands e → Fits begin find chunks least joined e = later_fits (λ l h. h) (λ l. omega (arith, same (λ (x : Entry). is_post l x.stage))) in
       let each : (xs : List Entry) → Each (Fits begin find chunks least hands) xs → Each (Fits begin find chunks least joined) xs = λ xs all. each_map (Fits begin find chunks least hands) (Fits begin find chunks least joined) xs later all in
       let fits = each_map (Each (Fits begin find chunks least hands)) (Each (Fits begin find chunks least joined)) hands each kept.fits in
-      let one = each (es) (each_at (Each (Fits begin find chunks least hands)) hands j es kept.fits first) in
-      let two = each (fs) (each_at (Each (Fits begin find chunks least hands)) hands k fs kept.fits second) in
+      let one = each es (each_at (Each (Fits begin find chunks least hands)) hands j es kept.fits first) in
+      let two = each fs (each_at (Each (Fits begin find chunks least hands)) hands k fs kept.fits second) in
       record {
         once = λ f. same (λ (x : Entry). f x.number) ∙ kept.once f;
         fits = each_set (Each (Fits begin find chunks least joined)) (set hands j (es ++ fs)) k [] tt
