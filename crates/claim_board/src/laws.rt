@@ -12,13 +12,17 @@ ghost use Rattle.claim_board.specs.Claims.{IsProblem, NumbersAreFair, LeastIsPos
 /// - `done`: where no chunk has a failing step before its first step, there is a worker, and all workers have stopped and none is refused:
 ///   every chunk was drawn and is skipped, posted, or worked with no failing step, and the least step is the least that any chunk has.
 pub fn for_every_run()
-    ensures numbers { (workers : ℕ) (begins : List ℕ) (found : List (Option ℕ)) (events : List Event)
+    ensures numbers { (workers : ℕ) (begins : List ℕ) (found : List (Option ℕ))
+        (events : List Event)
         → NumbersAreFair (after_all events (first_state workers begins found)) }
-    ensures least { (workers : ℕ) (begins : List ℕ) (found : List (Option ℕ)) (events : List Event)
+    ensures least { (workers : ℕ) (begins : List ℕ) (found : List (Option ℕ))
+        (events : List Event)
         → LeastIsPosted (after_all events (first_state workers begins found)) }
-    ensures skips { (workers : ℕ) (begins : List ℕ) (found : List (Option ℕ)) (events : List Event)
+    ensures skips { (workers : ℕ) (begins : List ℕ) (found : List (Option ℕ))
+        (events : List Event)
         → ChunksAreSkippedRightly (after_all events (first_state workers begins found)) }
-    ensures done { (workers : ℕ) (begins : List ℕ) (found : List (Option ℕ)) (events : List Event)
+    ensures done { (workers : ℕ) (begins : List ℕ) (found : List (Option ℕ))
+        (events : List Event)
         → IsProblem begins found → 0 < workers
         → IsDone (after_all events (first_state workers begins found))
         → IsAnswered (after_all events (first_state workers begins found)) }

@@ -26,7 +26,8 @@ pub fn worker_outcome(
     requires { next < 2 ^ 32 - 1 }
     ensures { (hands : List Hand)
         → change_if_enabled (reverse worker.now.entries.items) result
-        ≡ change_for (board begins.now found.now next least hands) event (Some (hand_of worker.now)) }
+        ≡ change_for (board begins.now found.now next least hands) event
+        (Some (hand_of worker.now)) }
 {
     let Status::Runs = worker.status else {
         return None;
