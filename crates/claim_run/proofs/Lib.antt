@@ -1,0 +1,5 @@
+pub mod Carries
+pub mod Words
+pub mod Moves
+pub mod Turning
+pub mod Closing

@@ -1,0 +1,19 @@
+ghost use Rattle.std.specs.Prelude.{◌≡◌, ℕ, ◌<◌, IfOk};
+
+use std::alloc::{AllocError, Global};
+
+/// Work in numbered pieces, of which each has one value. Threads share it.
+pub trait Job: Sync {
+    /// What a piece gives.
+    type Out: Send + Drop;
+
+    // The value of a piece, and how many pieces there are at least.
+    ghost value: { Self → ℕ → Self.Out };
+
+    ghost pieces: { Self → ℕ };
+
+    /// The value of piece `k`, or an error where there is no memory. Called once for each `k` below `pieces`, by any thread.
+    fn piece(&self, alloc: Global, k: u32) -> Result<Self::Out, AllocError>
+        requires { k < pieces self.now }
+        ensures { IfOk result (λ x. x ≡ value self.now k) };
+}
