@@ -3,3 +3,4 @@ pub mod Words
 pub mod Moves
 pub mod Turning
 pub mod Closing
+pub mod Told

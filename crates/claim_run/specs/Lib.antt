@@ -6,3 +6,5 @@ pub mod OneThread
 pub mod NoFailures
 pub mod Slots
 pub mod Shared
+pub mod Board
+pub mod Law
