@@ -4,3 +4,6 @@ pub mod Moves
 pub mod Turning
 pub mod Closing
 pub mod Told
+pub mod Gathering
+pub mod Filling
+pub mod Finding

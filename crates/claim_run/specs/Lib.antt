@@ -8,3 +8,5 @@ pub mod Slots
 pub mod Shared
 pub mod Board
 pub mod Law
+pub mod Runs
+pub mod ThreeChunks

@@ -1,12 +1,12 @@
 -- Bookkeeping: what calls on the board that threads share know of it and of its hands.
 use Rattle.std.specs.Prelude.{◌≡◌, ℕ, ◌+◌, ◌<◌, ◌≤◌, ◌^◌, List, [], ◌∷◌, Option, Some, None}
 use Rattle.claim_board.specs.declared.entries.Entry.{Entry}
-use Rattle.claim_board.specs.Entries.{Each, fresh, seen, numbers}
+use Rattle.claim_board.specs.Entries.{fresh, seen}
 use Rattle.claim_run.specs.declared.shared_board.Hand.{Hand}
 use Rattle.claim_run.specs.declared.shared_board.SharedBoard.{SharedBoard}
 use Rattle.claim_run.specs.declared.views.Pending.TheVariants.{Nothing}
-use Rattle.claim_run.specs.Views.{view, late, least_of}
-use Rattle.claim_run.specs.Hands.{MayEnd, IsFree, HasEnded}
+use Rattle.claim_run.specs.Views.{view, least_of}
+use Rattle.claim_run.specs.Hands.{MayEnd, IsFree}
 
 -- the scout that the board was made with
 abbrev pub scout_in : {S : Type 0} → SharedBoard S → S
@@ -47,20 +47,6 @@ pub record HasDrawn {S : Type 0} (board : SharedBoard S) (k : ℕ) (hand : Hand)
 pub record HasLooked (word k : ℕ) (hand : Hand) : Type 0 where
   pub newest : hand.seat.me.0.entries ≡ seen (least_of word) (fresh k) ∷ tail hand.seat.me.0.entries
   pub staffed : 0 < hand.seat.me.0.workers
-
--- an entry of a chunk, which has ended
-pub record IsOver (begin : ℕ → ℕ) (find : ℕ → Option ℕ) (pieces : ℕ) (e : Entry) : Type 0 where
-  pub low : e.number < pieces
-  pub end : HasEnded begin find e
-
--- the newest entry is of a number past the last chunk, and all others have ended
-abbrev pub IsDone : (ℕ → ℕ) → (ℕ → Option ℕ) → ℕ → List Entry → Type 0
-IsDone begin find pieces es = (n : ℕ) × (rest : List Entry) × (es ≡ fresh n ∷ rest) × (pieces ≤ n) × Each (IsOver begin find pieces) rest
-
--- each chunk's entry has ended, and some number is past the last chunk
-pub record AreOver (begin : ℕ → ℕ) (find : ℕ → Option ℕ) (pieces : ℕ) (es : List Entry) : Type 0 where
-  pub each : Each (λ (e : Entry). e.number < pieces → HasEnded begin find e) es
-  pub past : 0 < numbers (late pieces) es
 
 -- what a step is read from word 1 as
 pub record IsWord (n : ℕ) (r : Option ℕ) : Type 0 where

@@ -17,3 +17,21 @@ pub trait Job: Sync {
         requires { k < pieces self.now }
         ensures { IfOk result (λ x. x ≡ value self.now k) };
 }
+
+/// The job of a run that looks for a failing step alone: its pieces have no value.
+#[derive(Drop)]
+pub struct NoValues;
+
+impl Job for NoValues {
+    type Out = ();
+
+    ghost use Rattle.std.specs.Prelude.{◌^◌};
+
+    ghost value = { λ _ _. tt };
+
+    ghost pieces = { λ _. 2 ^ 32 };
+
+    fn piece(&self, _alloc: Global, _k: u32) -> Result<(), AllocError> {
+        Ok(())
+    }
+}
