@@ -54,7 +54,7 @@ least_min n f small =
 
 module _ (begin : ℕ → ℕ) (find : ℕ → Option ℕ) (pieces workers : ℕ) where
   -- the next number is at most the number of chunks and the workers
-  next_le : (s : State Unit View) → IsRuled begin find pieces workers s → slice_index s.words 0 ≤ pieces + workers
+  pub next_le : (s : State Unit View) → IsRuled begin find pieces workers s → slice_index s.words 0 ≤ pieces + workers
   next_le s rule = omega (
     arith,
     late_below pieces (slice_index s.words 0),
