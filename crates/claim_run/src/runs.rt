@@ -80,7 +80,8 @@ fn run_both<S: Scout, J: Job, G: Gate, R: Threads + Wait + Sync>(
 
 /// The values of the pieces 0, 1, .. below `pieces`, in order: those that one thread would give. It starts as many threads as workers, which draw
 /// pieces until none is left, and joins them all. An error where a piece answers one, where there is no memory, or where a thread isn't started; then
-/// too all that were started have been joined. Which worker works a piece isn't promised, nor that it is called for every piece at an error.
+/// too all that were started have been joined, and what they made is dropped. Which worker works a piece isn't promised, nor, at an error, which
+/// pieces were worked.
 pub fn run<J: Job, G: Gate, R: Threads + Wait + Sync>(
     rt: &R,
     alloc: Global,

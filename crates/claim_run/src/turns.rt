@@ -55,7 +55,8 @@ impl<'a, S: Scout> Board<'a, S> {
         ensures some { IfSome result (λ k. (k < pieces_of self.now)
             × TookTurn (S.begins (scout_of self.now)) (S.finds (scout_of self.now)) k
             (entries_of hand.old) (entries_of hand.new)) }
-        ensures looked { IfSome result (λ _. LooksBack (entries_of hand.old) (entries_of hand.new)) }
+        ensures looked { IfSome result (λ _.
+            LooksBack (entries_of hand.old) (entries_of hand.new)) }
         ensures may { IfSome result (λ _. MayTurn self.now hand.new) }
         ensures none { result ≡ None → IsAtRest hand.new
             × DrewLate (pieces_of self.now) (entries_of hand.old) (entries_of hand.new) }
