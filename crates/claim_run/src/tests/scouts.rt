@@ -3,7 +3,7 @@ ghost use Rattle.std.specs.Prelude.{◌≤◌};
 
 use crate::scouts::FindsNothing;
 use crate::tests::waits::{holds_until, wait_for};
-use crate::{Board, Gate, Open, Scout, Workers, run_least};
+use crate::{Board, Gate, Open, Scout, Workers, every_state_is_right, run_least};
 use std::alloc::{AllocError, Global};
 use std::sync::Wait;
 use std::sync::atomic::AtomicBool;
@@ -179,4 +179,10 @@ fn two_hands_one_thread(rt: HostRuntime) -> Result<(), Fail> {
     let (next, least) = board.close(first);
     assert!(rt; next == 5 && least == Some(3));
     Ok(())
+}
+
+// The law has no body: this shows that it can be called.
+#[test]
+fn law_of_the_table(_rt: HostRuntime) {
+    every_state_is_right();
 }
