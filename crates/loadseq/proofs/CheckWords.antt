@@ -1,4 +1,4 @@
--- The command `check`: clap's definition gives its matches, and a parse promises its words.
+-- The commands: clap's definition gives their matches, and a parse promises their words.
 use Rattle.std.proofs.Common.{◌≡◌, ◌∙◌, sym, refl, true, false, [], ◌∷◌, List, codes, Some, Result, Ok, Err, IfOk, IfErr, ap, arith}
 use Rattle.std.specs.List.{All}
 use Rattle.std.proofs.lemmas.List.Elements.{All-cons, All-nil}
@@ -14,16 +14,20 @@ use Rattle.clap.specs.declared.parser.matches.ArgMatches.{ArgMatches}
 use Rattle.clap.proofs.CallerLemmas.{required_in_chain}
 use Rattle.clap.proofs.OnLiterals.{clap_on_literals}
 use Rattle.loadseq.specs.Promised.{HasWords}
-use Rattle.loadseq.specs.Words.{check_command, number_option, option_of, positional, within, without_name}
+use Rattle.loadseq.specs.Words.{command_of, number_option, option_of, positional, title_of, within, without_name}
+use Rattle.loadseq.specs.declared.command_line.Task.{Task}
+use Rattle.loadseq.specs.declared.command_line.Task.TheVariants.{Check, First}
 use Rattle.loadseq.proofs.Chain.{accepted_in_chain, distinct}
 
-pub simple : is_simple check_command ≡ true
+pub simple : (task : Task) → is_simple (command_of task) ≡ true
 unfolding clap_on_literals
-simple = refl
+simple Check = refl
+simple First = refl
 
-pub simple_and_free : is_simple_and_free check_command ≡ true
+pub simple_and_free : (task : Task) → is_simple_and_free (command_of task) ≡ true
 unfolding clap_on_literals
-simple_and_free = refl
+simple_and_free Check = refl
+simple_and_free First = refl
 
 -- What clap says of the matches of a command it says of the definition that the command is. The definition stands as a variable: to compute
 -- with it written out takes too long.
@@ -42,35 +46,40 @@ pub refused_by : (r : Result ArgMatches Error) (a b : App) (words : List Text) �
 refused_by (Ok m) a b words e h = tt
 refused_by (Err x) a b words e h = λ t. h (ap (λ (y : App). takes y words) e ∙ t)
 
-pub is_check : (start one two three four command : Command) (a b c d e : Arg)
-    → AddsArg start a one → AddsArg one b two → AddsArg two c three → AddsArg three d four → AddsArg four e command
-    → a.global ≡ false → b.global ≡ false → c.global ≡ false → d.global ≡ false → e.global ≡ false
-    → app_of start ≡ without_name (new_app (codes "loadseq check"))
+pub is_command : (task : Task) (start one two three four five command : Command) (a b c d e f : Arg)
+    → AddsArg start a one → AddsArg one b two → AddsArg two c three → AddsArg three d four → AddsArg four e five → AddsArg five f command
+    → a.global ≡ false → b.global ≡ false → c.global ≡ false → d.global ≡ false → e.global ≡ false → f.global ≡ false
+    → app_of start ≡ without_name (new_app (title_of task))
     → rule_of a ≡ positional (codes "FOLDER") → rule_of b ≡ positional (codes "BAPLIE") → rule_of c ≡ positional (codes "MOVINS")
-    → rule_of d ≡ option_of (codes "steps") → rule_of e ≡ number_option (codes "chunk") 1 200_000 → app_of command ≡ check_command
-is_check start one two three four command a b c d e aa ab ac ad ae ga gb gc gd ge s ra rb rc rd re =
+    → rule_of d ≡ option_of (codes "steps") → rule_of e ≡ number_option (codes "workers") 1 16 → rule_of f ≡ number_option (codes "chunk") 1 200_000
+    → app_of command ≡ command_of task
+is_command task start one two three four five command a b c d e f aa ab ac ad ae af ga gb gc gd ge gf s ra rb rc rd re rf =
     let p1 = aa.shape ga ∙ (λ i. with_rule (s i) (ra i)) in
     let p2 = ab.shape gb ∙ (λ i. with_rule (p1 i) (rb i)) in
     let p3 = ac.shape gc ∙ (λ i. with_rule (p2 i) (rc i)) in
     let p4 = ad.shape gd ∙ (λ i. with_rule (p3 i) (rd i)) in
-    ae.shape ge ∙ (λ i. with_rule (p4 i) (re i))
+    let p5 = ae.shape ge ∙ (λ i. with_rule (p4 i) (re i)) in
+    af.shape gf ∙ (λ i. with_rule (p5 i) (rf i))
 
-pub has_words : (start one two three four command : Command) (a b c d e : Arg) (m : ArgMatches)
-    → AddsArg start a one → AddsArg one b two → AddsArg two c three → AddsArg three d four → AddsArg four e command
+pub has_words : (start one two three four five command : Command) (a b c d e f : Arg) (m : ArgMatches)
+    → AddsArg start a one → AddsArg one b two → AddsArg two c three → AddsArg three d four → AddsArg four e five → AddsArg five f command
     → args_of start ≡ [] → groups_of start ≡ [] → (out-Command start).has_globals ≡ false → (out-Command start).subcommand_negates_reqs ≡ false
-    → a.id.now ≡ codes "FOLDER" → b.id.now ≡ codes "BAPLIE" → c.id.now ≡ codes "MOVINS" → d.id.now ≡ codes "steps" → e.id.now ≡ codes "chunk"
-    → FitsChain a → FitsChain b → FitsChain c → FitsChain d → FitsChain e → TakesValue a → TakesValue b → TakesValue c
-    → e.value_parser ≡ Some (within 1 200_000) → e.ignore_case ≡ false → IsParsedFrom command m → HasWords m
-has_words start one two three four command a b c d e m aa ab ac ad ae args groups globals negates na nb nc nd ne fa fb fc fd fe ta tb tc parser exact p =
-    let xs : List Arg = a ∷ b ∷ c ∷ d ∷ e ∷ [] in
-    let chain : AddsInTurn AddsArg start xs command = (one, aa, (two, ab, (three, ac, (four, ad, (command, ae, refl))))) in
-    let last = All-cons FitsChain e [] fe (All-nil FitsChain) in
-    let options = All-cons FitsChain d (e ∷ []) fd last in
-    let all : All FitsChain xs = All-cons FitsChain a (b ∷ c ∷ d ∷ e ∷ []) fa (All-cons FitsChain b (c ∷ d ∷ e ∷ []) fb (All-cons FitsChain c (d ∷ e ∷ []) fc options)) in
-    let apart = distinct xs (codes "FOLDER" ∷ codes "BAPLIE" ∷ codes "MOVINS" ∷ codes "steps" ∷ codes "chunk" ∷ []) (rw (na, nb, nc, nd, ne) refl) refl in
+    → a.id.now ≡ codes "FOLDER" → b.id.now ≡ codes "BAPLIE" → c.id.now ≡ codes "MOVINS" → d.id.now ≡ codes "steps" → e.id.now ≡ codes "workers" → f.id.now ≡ codes "chunk"
+    → FitsChain a → FitsChain b → FitsChain c → FitsChain d → FitsChain e → FitsChain f → TakesValue a → TakesValue b → TakesValue c
+    → e.value_parser ≡ Some (within 1 16) → e.ignore_case ≡ false
+    → f.value_parser ≡ Some (within 1 200_000) → f.ignore_case ≡ false → IsParsedFrom command m → HasWords m
+has_words start one two three four five command a b c d e f m aa ab ac ad ae af args groups globals negates na nb nc nd ne nf fa fb fc fd fe ff ta tb tc parser_e exact_e parser_f exact_f p =
+    let xs : List Arg = a ∷ b ∷ c ∷ d ∷ e ∷ f ∷ [] in
+    let chain : AddsInTurn AddsArg start xs command = (one, aa, (two, ab, (three, ac, (four, ad, (five, ae, (command, af, refl)))))) in
+    let last = All-cons FitsChain f [] ff (All-nil FitsChain) in
+    let numbers = All-cons FitsChain e (f ∷ []) fe last in
+    let options = All-cons FitsChain d (e ∷ f ∷ []) fd numbers in
+    let all : All FitsChain xs = All-cons FitsChain a (b ∷ c ∷ d ∷ e ∷ f ∷ []) fa (All-cons FitsChain b (c ∷ d ∷ e ∷ f ∷ []) fb (All-cons FitsChain c (d ∷ e ∷ f ∷ []) fc options)) in
+    let apart = distinct xs (codes "FOLDER" ∷ codes "BAPLIE" ∷ codes "MOVINS" ∷ codes "steps" ∷ codes "workers" ∷ codes "chunk" ∷ []) (rw (na, nb, nc, nd, ne, nf) refl) refl in
     record {
       folder = rw na at (required_in_chain start command xs 0 a m chain args groups globals negates all apart (omega arith) ta p);
       baplie = rw nb at (required_in_chain start command xs 1 a m chain args groups globals negates all apart (omega arith) tb p);
       movins = rw nc at (required_in_chain start command xs 2 a m chain args groups globals negates all apart (omega arith) tc p);
-      chunk = rw ne at (accepted_in_chain start command xs 4 e m chain args groups globals all apart (omega arith) (within 1 200_000) parser exact p);
+      workers = rw ne at (accepted_in_chain start command xs 4 e m chain args groups globals all apart (omega arith) (within 1 16) parser_e exact_e p);
+      chunk = rw nf at (accepted_in_chain start command xs 5 f m chain args groups globals all apart (omega arith) (within 1 200_000) parser_f exact_f p);
     }

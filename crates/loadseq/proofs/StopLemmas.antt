@@ -1,5 +1,5 @@
 -- What stopped a run, by the words of its command line.
-use Rattle.std.proofs.Common.{◌≡◌, ℕ, List, codes, true, Err, refl, sym, subst, arith}
+use Rattle.std.proofs.Common.{◌≡◌, ℕ, List, true, Err, refl, sym, subst, arith}
 use Rattle.clap.specs.Words.{Text}
 use Rattle.prefix_scan.specs.declared.divisions.CutFault.{CutFault}
 use Rattle.seq_report.specs.declared.faults.RunFault.{RunFault}
@@ -10,10 +10,9 @@ use Rattle.loadseq.specs.declared.command_line.Line.{Line}
 use Rattle.loadseq.specs.declared.stops.Stop.{Stop}
 use Rattle.loadseq.specs.declared.stops.Stop.TheVariants.{Refused, Usage, NoMemory, Read, Write}
 use Rattle.loadseq.specs.Files.{Known}
-use Rattle.loadseq.specs.Lines.{IsLineBehind}
+use Rattle.loadseq.specs.Lines.{IsLine}
 use Rattle.loadseq.specs.Runs.{IsRefusedBy, IsStopBy, IsStopOf, IsStopOn}
 use Rattle.loadseq.specs.Statuses.{status_of, stop_of_run}
-use Rattle.loadseq.specs.Words.{behind_name}
 
 -- a run without a report whose cuts have no fault
 pub of_run : (inputs : Inputs) (fault : RunFault) (stop : Stop) → stop ≡ stop_of_run fault → (is_refusal fault ≡ true → outcome_of inputs ≡ Err fault)
@@ -32,7 +31,7 @@ of_run inputs fault stop is refused uncut = subst (IsStopOn inputs) (sym is) (by
 
 module _ (known : List ℕ → Known) (words : List Text) where
   -- files of a line that have no report
-  pub of_line : (line : Line) → IsLineBehind (behind_name (codes "check") words) line → (stop : Stop) → IsStopOf known line stop → IsStopBy known words stop
+  pub of_line : (line : Line) → IsLine words line → (stop : Stop) → IsStopOf known line stop → IsStopBy known words stop
   of_line line is (Refused fault) h = (line, is, h)
   of_line line is (Usage text) h = absurd h
   of_line line is NoMemory h = tt

@@ -13,9 +13,10 @@ abbrev pub IsAccepted : ArgMatches → List ℕ → ValueParser → Type 0
 IsAccepted matches name parser = HasWord matches name
     → (text : List ℕ) × (one_text (found_of matches) name ≡ Some (read_as (reading_of parser) text)) × Accepts false parser text
 
--- each word that has to be there is, and the number lies within its limits
+-- each word that has to be there is, and the numbers lie within their limits
 pub record HasWords (matches : ArgMatches) : Type 0 where
   pub folder : HasWord matches (codes "FOLDER")
   pub baplie : HasWord matches (codes "BAPLIE")
   pub movins : HasWord matches (codes "MOVINS")
+  pub workers : IsAccepted matches (codes "workers") (within 1 16)
   pub chunk : IsAccepted matches (codes "chunk") (within 1 200_000)

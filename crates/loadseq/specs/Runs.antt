@@ -1,5 +1,5 @@
 -- What a run comes to, by the files that its command line names.
-use Rattle.std.specs.Prelude.{◌≡◌, ℕ, List, codes, Ok, Err}
+use Rattle.std.specs.Prelude.{◌≡◌, ℕ, List, Ok, Err}
 use Rattle.clap.specs.Words.{Text}
 use Rattle.seq_report.specs.declared.faults.RunFault.{RunFault}
 use Rattle.seq_report.specs.declared.inputs.Inputs.{Inputs}
@@ -8,9 +8,8 @@ use Rattle.loadseq.specs.declared.command_line.Line.{Line}
 use Rattle.loadseq.specs.declared.stops.Stop.{Stop}
 use Rattle.loadseq.specs.declared.stops.Stop.TheVariants.{Refused, Usage, NoMemory, Read, Write}
 use Rattle.loadseq.specs.Files.{Known, AreTexts, texts_in}
-use Rattle.loadseq.specs.Lines.{IsLineBehind, IsNotTaken}
+use Rattle.loadseq.specs.Lines.{IsLine, IsNotTaken}
 use Rattle.loadseq.specs.Statuses.{status_on}
-use Rattle.loadseq.specs.Words.{behind_name}
 
 -- the inputs have a report, and this is the status of its first failing step
 abbrev pub HasStatus : Inputs → ℕ → Type 0
@@ -39,14 +38,14 @@ IsStopOf known line stop = Unit {0}
 
 -- the same of the words of a whole command line
 abbrev pub IsReportedBy : (List ℕ → Known) → List Text → ℕ → Type 0
-IsReportedBy known words status = (line : Line) × IsLineBehind (behind_name (codes "check") words) line × IsReported known line status
+IsReportedBy known words status = (line : Line) × IsLine words line × IsReported known line status
 
 abbrev pub IsRefusedBy : (List ℕ → Known) → List Text → Type 0
 IsRefusedBy known words =
-    (line : Line) × IsLineBehind (behind_name (codes "check") words) line × ((fault : RunFault) × IsRefused known line fault)
+    (line : Line) × IsLine words line × ((fault : RunFault) × IsRefused known line fault)
 
 abbrev pub IsStopBy : (List ℕ → Known) → List Text → Stop → Type 0
 IsStopBy known words (Refused fault) =
-    (line : Line) × IsLineBehind (behind_name (codes "check") words) line × IsRefused known line fault
-IsStopBy known words (Usage text) = IsNotTaken (behind_name (codes "check") words)
+    (line : Line) × IsLine words line × IsRefused known line fault
+IsStopBy known words (Usage text) = IsNotTaken words
 IsStopBy known words stop = Unit {0}

@@ -1,8 +1,10 @@
 -- The words of a command line: the first names the command, and the command reads those behind it.
 use Rattle.std.specs.Str.{bytes_eq}
 use Rattle.std.specs.Str.Parse.{digits_value, without_leading_plus}
-use Rattle.std.specs.Prelude.{◌≡◌, codes, if◌then◌else◌, ℕ, pos, true, List, [], ◌∷◌, Option, Some, None}
+use Rattle.std.specs.Prelude.{◌≡◌, codes, if◌then◌else◌, ℕ, pos, true, List, [], ◌∷◌, Option, Some, None, option_map}
 use Rattle.clap.specs.Words.{App, Rule, Text, new_app, new_rule, with_rule}
+use Rattle.loadseq.specs.declared.command_line.Task.{Task}
+use Rattle.loadseq.specs.declared.command_line.Task.TheVariants.{Check, First}
 use Rattle.clap.specs.declared.builder.ArgAction.TheVariants.{Set}
 use Rattle.clap.specs.declared.builder.value_parser.ValueParser.{ValueParser}
 use Rattle.clap.specs.declared.builder.value_parser.ValueParser.TheVariants.{Signed}
@@ -32,14 +34,23 @@ IsNumberOf (Some text) default number = number ≡ digits_value 10 (without_lead
 abbrev pub without_name : App → App
 without_name app = record app { top = record app.top { no_binary_name = true } }
 
--- `loadseq check FOLDER BAPLIE MOVINS [--steps FILE] [--chunk N]`
-abbrev pub check_command : App
-check_command =
-    with_rule (with_rule (with_rule (with_rule (with_rule (without_name (new_app (codes "loadseq check")))
-    (positional (codes "FOLDER"))) (positional (codes "BAPLIE"))) (positional (codes "MOVINS")))
-    (option_of (codes "steps"))) (number_option (codes "chunk") 1 200_000)
+-- what the commands are called in help
+abbrev pub title_of : Task → Text
+title_of Check = codes "loadseq check"
+title_of First = codes "loadseq first"
 
--- the words behind a first word, if that is this name
-abbrev pub behind_name : List ℕ → List Text → Option (List Text)
-behind_name name [] = None
-behind_name name (word ∷ words) = if bytes_eq word name then Some words else None
+-- `loadseq check FOLDER BAPLIE MOVINS [--steps FILE] [--workers N] [--chunk N]`, and `loadseq first` with the same words
+abbrev pub command_of : Task → App
+command_of task =
+    with_rule (with_rule (with_rule (with_rule (with_rule (with_rule (without_name (new_app (title_of task)))
+    (positional (codes "FOLDER"))) (positional (codes "BAPLIE"))) (positional (codes "MOVINS")))
+    (option_of (codes "steps"))) (number_option (codes "workers") 1 16)) (number_option (codes "chunk") 1 200_000)
+
+-- what a first word asks for
+abbrev pub task_named : Text → Option Task
+task_named word = if bytes_eq word (codes "check") then Some Check else (if bytes_eq word (codes "first") then Some First else None)
+
+-- what the words of a command line ask for, with the words behind the command's name
+abbrev pub asked : List Text → Option (Task × List Text)
+asked [] = None
+asked (word ∷ words) = option_map (λ task. (task, words)) (task_named word)

@@ -3,18 +3,29 @@ ghost use Rattle.clap.specs.Words.{app_of, args_of, groups_of, new_app, takes, f
 ghost use Rattle.clap.specs.Built.{TakesValue, IsPlainArg};
 ghost use Rattle.clap.specs.declared.builder.command.Command.TheViews.{out-Command as fields_of};
 ghost use Rattle.clap.specs.declared.parser.matches.ArgMatches.{ArgMatches};
-ghost use Rattle.loadseq.specs.Lines.{IsLineOf, IsUsage, IsLineBehind, IsNotTaken};
+ghost use Rattle.loadseq.specs.Lines.{IsLine, IsLineOf, IsUsage, IsNotTaken};
 ghost use Rattle.loadseq.specs.Promised.{HasWords};
-ghost use Rattle.loadseq.specs.Words.{check_command, positional, option_of, number_option, within, behind_name, without_name};
+ghost use Rattle.loadseq.specs.Words.{command_of, positional, option_of, number_option, task_named, title_of, within, without_name};
 
 use clap::error::ErrorKind;
 use clap::{Arg, ArgAction, ArgMatches, Command, value_parser};
 use std::alloc::{AllocError, Global};
 use thiserror::Error;
 
+/// What a run is asked to print.
+#[derive(Clone, Copy, Debug, PartialEq, Eq)]
+pub enum Task {
+    /// The whole report.
+    Check,
+    /// Its last line alone, with the first step that fails.
+    First,
+}
+
 /// The words of a command line, as they were given.
 #[derive(Clone, Copy, Debug, PartialEq, Eq)]
 pub struct Line<'a> {
+    /// What is printed, by the first word.
+    pub task: Task,
     /// The folder of the ship's profile.
     pub folder: &'a str,
     /// The file of the bay plan on arrival.
@@ -23,6 +34,8 @@ pub struct Line<'a> {
     pub movins: &'a str,
     /// The planner's steps file, if one is given.
     pub steps: Option<&'a str>,
+    /// How many threads work at it: 1 to 16, and 4 where it isn't given.
+    pub workers: u32,
     /// How many lines of the report are made at a time: 1 to 200,000, and 256 where it isn't given.
     pub chunk: u32,
 }
@@ -39,11 +52,14 @@ pub enum LineFault {
 }
 
 /// The usage text where the first word is no command.
-const USAGE: &str = "usage: loadseq check FOLDER BAPLIE MOVINS [--steps FILE] [--chunk N]";
+const USAGE: &str =
+    "usage: loadseq check|first FOLDER BAPLIE MOVINS [--steps FILE] [--workers N] [--chunk N]";
 
-/// What help says of the command, of each of its words, and of its option.
+/// What help says of the commands, of each of their words, and of their options.
 const ABOUT_CHECK: &str =
     "Writes one line for each step, with a verdict, and the first step that fails";
+
+const ABOUT_FIRST: &str = "Writes the first step that fails alone";
 
 const ABOUT_FOLDER: &str = "The folder of the ship's profile: ship.toml and her tables";
 
@@ -54,8 +70,14 @@ const ABOUT_MOVINS: &str = "The movement instruction (MOVINS, directory D.95B)";
 const ABOUT_STEPS: &str =
     "The order of the steps: lifts, fillings of tanks and restows (CSV); without it the order of the movement instruction";
 
+const ABOUT_WORKERS: &str =
+    "How many threads work, 1 to 16 [default: 4]; the report is the same for each";
+
 const ABOUT_CHUNK: &str =
     "How many lines are made at a time, 1 to 200000 [default: 256]; the report is the same for each";
+
+/// How many threads work where the words don't say.
+const DEFAULT_WORKERS: u32 = 4;
 
 /// How many lines of the report are made at a time where the words don't say.
 const DEFAULT_CHUNK: u32 = 256;
@@ -88,6 +110,23 @@ fn option<'a>(alloc: Global, name: &'a str, about: &'a str) -> Arg<'a>
         .help(about)
 }
 
+/// The option that says how many threads work.
+fn workers<'a>(alloc: Global) -> Arg<'a>
+    ensures rule { rule_of result ≡ number_option (codes "workers") 1 16 }
+    ensures id { result.id.now ≡ codes "workers" }
+    ensures plain { IsPlainArg result }
+    ensures one { result.global ≡ false }
+    ensures limits { result.value_parser ≡ Some (within 1 16) }
+    ensures exact_case { result.ignore_case ≡ false }
+{
+    Arg::new(alloc, "workers")
+        .long("workers")
+        .value_name("N")
+        .action(ArgAction::Set)
+        .value_parser(value_parser!(u32).range(1..=16))
+        .help(ABOUT_WORKERS)
+}
+
 /// The option that says how many lines of the report are made at a time.
 fn chunk<'a>(alloc: Global) -> Arg<'a>
     ensures rule { rule_of result ≡ number_option (codes "chunk") 1 200_000 }
@@ -116,30 +155,49 @@ fn command<'a>(alloc: Global, name: &'a str, about: &'a str) -> Command<'a>
     Command::new(alloc, name).about(about).no_binary_name(true)
 }
 
-/// The command `check`.
-fn check<'a>(alloc: Global) -> Result<Command<'a>, AllocError>
-    ensures app { IfOk result (λ c. app_of c ≡ check_command) }
+/// The name and the meaning of the command that asks for this.
+fn named<'a>(alloc: Global, task: Task) -> Command<'a>
+    ensures app { app_of result ≡ without_name (new_app (title_of task)) }
+    ensures args { args_of result ≡ [] }
+    ensures groups { groups_of result ≡ [] }
+    ensures local { (fields_of result).has_globals ≡ false }
+    ensures negates { (fields_of result).subcommand_negates_reqs ≡ false }
+{
+    match task {
+        Task::Check => command(alloc, "loadseq check", ABOUT_CHECK),
+        Task::First => command(alloc, "loadseq first", ABOUT_FIRST),
+    }
+}
+
+/// The command that asks for this.
+fn command_for<'a>(alloc: Global, task: Task) -> Result<Command<'a>, AllocError>
+    ensures app { IfOk result (λ c. app_of c ≡ command_of task) }
     ensures promises { IfOk result (λ c. (m : ArgMatches) → IsParsedFrom c m → HasWords m) }
 {
-    command(alloc, "loadseq check", ABOUT_CHECK)
+    named(alloc, task)
         .arg(word(alloc, "FOLDER", ABOUT_FOLDER))?
         .arg(word(alloc, "BAPLIE", ABOUT_BAPLIE))?
         .arg(word(alloc, "MOVINS", ABOUT_MOVINS))?
         .arg(option(alloc, "steps", ABOUT_STEPS))?
+        .arg(workers(alloc))?
         .arg(chunk(alloc))
 }
 
-/// What `clap` makes of the words behind `check`.
-fn check_matches<'a>(alloc: Global, words: &'a [&'a str]) -> Result<ArgMatches<'a>, clap::Error>
-    ensures rows { IfOk result
-        (λ m. rows_of (found_of m) ≡ matches_of check_command (map (λ w. w.now) words.entry.now)) }
+/// What `clap` makes of the words behind the command's name.
+fn matches_for<'a>(
+    alloc: Global,
+    task: Task,
+    words: &'a [&'a str],
+) -> Result<ArgMatches<'a>, clap::Error>
+    ensures rows { IfOk result (λ m. rows_of (found_of m)
+        ≡ matches_of (command_of task) (map (λ w. w.now) words.entry.now)) }
     ensures taken { IfOk result
-        (λ _. fault_of check_command (map (λ w. w.now) words.entry.now) ≡ []) }
+        (λ _. fault_of (command_of task) (map (λ w. w.now) words.entry.now) ≡ []) }
     ensures promised { IfOk result HasWords }
-    ensures refused { IfErr result (λ e. takes check_command (map (λ w. w.now) words.entry.now)
+    ensures refused { IfErr result (λ e. takes (command_of task) (map (λ w. w.now) words.entry.now)
         ≡ true → kind_of e ≡ ErrorKind.OutOfMemory) }
 {
-    let command = check(alloc)?;
+    let command = command_for(alloc, task)?;
     command.try_get_matches_from(words)
 }
 
@@ -169,13 +227,14 @@ fn refused(alloc: Global, error: &clap::Error) -> LineFault
     }
 }
 
-/// The line of the words behind `check`.
-fn check_line<'a>(alloc: Global, words: &'a [&'a str]) -> Result<Line<'a>, LineFault>
+/// The line of the words behind the command's name.
+fn line_for<'a>(alloc: Global, task: Task, words: &'a [&'a str]) -> Result<Line<'a>, LineFault>
+    ensures task { IfOk result (λ line. line.task ≡ task) }
     ensures ok { IfOk result (IsLineOf (map (λ w. w.now) words.entry.now)) }
     ensures usage { IfErr result
-        (λ e. IsUsage e → takes check_command (map (λ w. w.now) words.entry.now) ≡ false) }
+        (λ e. IsUsage e → takes (command_of task) (map (λ w. w.now) words.entry.now) ≡ false) }
 {
-    let matches = match check_matches(alloc, words) {
+    let matches = match matches_for(alloc, task, words) {
         Ok(matches) => matches,
         Err(error) => return Err(refused(alloc, &error)),
     };
@@ -183,29 +242,42 @@ fn check_line<'a>(alloc: Global, words: &'a [&'a str]) -> Result<Line<'a>, LineF
     let baplie = matches.get_str("BAPLIE").unwrap();
     let movins = matches.get_str("MOVINS").unwrap();
     let steps = matches.get_str("steps");
+    let workers = matches.get_one::<u32>("workers").unwrap_or(DEFAULT_WORKERS);
     let chunk = matches.get_one::<u32>("chunk").unwrap_or(DEFAULT_CHUNK);
     Ok(Line {
+        task,
         folder,
         baplie,
         movins,
         steps,
+        workers,
         chunk,
     })
 }
 
-/// The command line that the words after the program's name are: `check`, and what `clap` reads of the words
+/// What the first word asks for.
+fn task_of(word: &str) -> Option<Task>
+    ensures { result ≡ task_named word.now }
+{
+    match word {
+        "check" => Some(Task::Check),
+        "first" => Some(Task::First),
+        _ => None,
+    }
+}
+
+/// The command line that the words after the program's name are: `check` or `first`, and what `clap` reads of the words
 /// behind it. [`LineFault::Usage`] comes only where there is no first word, it is another, or `clap` doesn't take
 /// the words behind it; help is such an answer too.
 pub fn read_line<'a>(alloc: Global, words: &'a [&'a str]) -> Result<Line<'a>, LineFault>
-    ensures ok { IfOk result
-        (IsLineBehind (behind_name (codes "check") (map (λ w. w.now) words.entry.now))) }
-    ensures usage { IfErr result (λ e. IsUsage e
-        → IsNotTaken (behind_name (codes "check") (map (λ w. w.now) words.entry.now))) }
+    ensures ok { IfOk result (IsLine (map (λ w. w.now) words.entry.now)) }
+    ensures usage { IfErr result (λ e. IsUsage e → IsNotTaken (map (λ w. w.now) words.entry.now)) }
 {
-    if let Some((first, behind)) = words.split_first() {
-        if *first == "check" {
-            return check_line(alloc, behind);
-        }
+    let Some((first, behind)) = words.split_first() else {
+        return Err(no_command(alloc));
+    };
+    match task_of(first) {
+        Some(task) => line_for(alloc, task, behind),
+        None => Err(no_command(alloc)),
     }
-    Err(no_command(alloc))
 }

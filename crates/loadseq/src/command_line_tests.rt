@@ -1,15 +1,19 @@
-use crate::command_line::{Line, LineFault, read_line};
+use crate::command_line::{Line, LineFault, Task, read_line};
 use std::process::Abort;
 
-/// The words are the line of these three words, this steps file, and this many lines at a time.
-fn reads(rt: &(impl Abort + AllocGlobal), words: &[&str], steps: Option<&str>, chunk: u32) {
-    let wanted = Line {
-        folder: "box",
-        baplie: "plan",
-        movins: "moves",
-        steps,
-        chunk,
-    };
+/// What the line of these three words is, where no option is given.
+const PLAIN: Line<'static> = Line {
+    task: Task::Check,
+    folder: "box",
+    baplie: "plan",
+    movins: "moves",
+    steps: None,
+    workers: 4,
+    chunk: 256,
+};
+
+/// The words are this line.
+fn reads(rt: &(impl Abort + AllocGlobal), words: &[&str], wanted: Line<'static>) {
     match read_line(rt.alloc(), words) {
         Ok(line) => assert_eq!(rt; line, wanted),
         Err(fault) => panic!(rt; "{fault}"),
@@ -18,7 +22,7 @@ fn reads(rt: &(impl Abort + AllocGlobal), words: &[&str], steps: Option<&str>, c
 
 #[test]
 fn no_steps(rt: HostRuntime) {
-    reads(&rt, &["check", "box", "plan", "moves"], None, 256);
+    reads(&rt, &["check", "box", "plan", "moves"], PLAIN);
 }
 
 /// The option in each place, and with its word behind `=`.
@@ -32,7 +36,14 @@ static STEPS: [&[&str]; 4] = [
 #[test]
 fn steps_given(rt: HostRuntime) {
     for words in &STEPS {
-        reads(&rt, words, Some("s.csv"), 256);
+        reads(
+            &rt,
+            words,
+            Line {
+                steps: Some("s.csv"),
+                ..PLAIN
+            },
+        );
     }
 }
 
@@ -49,12 +60,63 @@ static CHUNKS: [(&[&str], u32); 3] = [
 #[test]
 fn chunk_given(rt: HostRuntime) {
     for (words, chunk) in &CHUNKS {
-        reads(&rt, words, None, *chunk);
+        reads(
+            &rt,
+            words,
+            Line {
+                chunk: *chunk,
+                ..PLAIN
+            },
+        );
+    }
+}
+
+/// One thread, sixteen, and a number between, in each place, with the other command and with the other option.
+static WORKERS: [(&[&str], Line<'static>); 3] = [
+    (
+        &["check", "--workers", "1", "box", "plan", "moves"],
+        Line {
+            workers: 1,
+            ..PLAIN
+        },
+    ),
+    (
+        &["first", "box", "plan", "moves", "--workers=16"],
+        Line {
+            task: Task::First,
+            workers: 16,
+            ..PLAIN
+        },
+    ),
+    (
+        &[
+            "first",
+            "box",
+            "plan",
+            "--chunk",
+            "7",
+            "--workers",
+            "3",
+            "moves",
+        ],
+        Line {
+            task: Task::First,
+            workers: 3,
+            chunk: 7,
+            ..PLAIN
+        },
+    ),
+];
+
+#[test]
+fn workers_given(rt: HostRuntime) {
+    for (words, line) in &WORKERS {
+        reads(&rt, words, *line);
     }
 }
 
 /// An option twice, without its word, in place of a word that has to be there, one that there isn't, and numbers outside its limits.
-static WRONG: [&[&str]; 9] = [
+static WRONG: [&[&str]; 14] = [
     &[
         "check", "box", "plan", "moves", "--steps", "s.csv", "--steps", "t.csv",
     ],
@@ -66,6 +128,11 @@ static WRONG: [&[&str]; 9] = [
     &["check", "box", "plan", "moves", "--chunk", "200001"],
     &["check", "box", "plan", "moves", "--chunk", "-1"],
     &["check", "box", "plan", "moves", "--chunk", "many"],
+    &["check", "box", "plan", "moves", "--workers", "0"],
+    &["check", "box", "plan", "moves", "--workers", "17"],
+    &["first", "box", "plan", "moves", "--workers"],
+    &["first", "box", "plan"],
+    &["last", "box", "plan", "moves"],
 ];
 
 #[test]

@@ -1,5 +1,6 @@
-//! The program: `loadseq check FOLDER BAPLIE MOVINS [--steps FILE] [--chunk N]` reads a ship's profile, a bay plan, a movement
-//! instruction and a planner's steps, and writes the report to standard output.
+//! The program: `loadseq check FOLDER BAPLIE MOVINS [--steps FILE] [--workers N] [--chunk N]` reads a ship's profile, a bay plan, a movement
+//! instruction and a planner's steps, and writes the report to standard output; `loadseq first` with the same words writes the first step that
+//! fails alone.
 #![tactic(auto)]
 
 mod arguments;
@@ -10,10 +11,13 @@ mod serving;
 mod stops;
 
 use arguments::words;
+use claim_run::Open;
 use files::Disk;
 use serving::{serve, stopped};
 use std::alloc::{AllocError, Global};
 use std::process::ExitCode;
+use std::sync::Wait;
+use std::thread::Threads;
 use stops::Stop;
 
 #[cfg(test)]
@@ -30,18 +34,27 @@ fn borrowed(alloc: Global, words: &[String]) -> Result<Vec<&str>, AllocError> {
     Ok(list)
 }
 
-/// The program over the system's words, files and streams.
-fn run(rt: &HostRuntime) -> Result<u8, Stop> {
+/// The program over the system's words, files and streams. The runtime has leave to start threads in `main` alone, so it is handed over once
+/// more for that.
+fn run(rt: &HostRuntime, threads: &(impl Threads + Wait + Sync)) -> Result<u8, Stop> {
     let words = words(rt, rt.alloc())?;
     let list = borrowed(rt.alloc(), &words)?;
     let mut disk = Disk::new(rt);
     let mut out = rt.stdout();
     let mut err = rt.stderr();
-    Ok(serve(rt.alloc(), &mut disk, &list, &mut out, &mut err))
+    Ok(serve(
+        threads,
+        rt.alloc(),
+        &Open,
+        &mut disk,
+        &list,
+        &mut out,
+        &mut err,
+    ))
 }
 
 fn main(rt: HostRuntime) -> ExitCode {
-    let status = match run(&rt) {
+    let status = match run(&rt, &rt) {
         Ok(status) => status,
         Err(stop) => stopped(&stop, &mut rt.stderr()),
     };

@@ -4,10 +4,13 @@ ghost use Rattle.loadseq.specs.Files.Known.{Nothing, Holds};
 use crate::arguments::text_of;
 use crate::files::{LIMIT, Readers, Unopened};
 use crate::serving::serve;
+use claim_run::Open;
 use std::io;
 use std::io::{ErrorKind, Read, Write};
 use std::process::Abort;
+use std::sync::Wait;
 use std::test::Fail;
+use std::thread::Threads;
 
 const SHIP: &[u8] =
     b"lbp_mm = 100000\ndownflooding_deg = 60\ndraught_max_mm = 6100\ntrim_max_mm = 500\nlist_max = 500\nclosing_max_kg = 5000\nstations_mm = [0, 100000]\n[[frames]]\nx_mm = 0\nshear_max_kg = 1\nhog_max_kgmm = 1\nsag_max_kgmm = 1\n[[blocks]]\nkg = 8200000\nx_mm = 50000\ny_mm = 0\nz_mm = 6000\nhalf_mm = 50000\n";
@@ -162,7 +165,7 @@ fn with<'a>(name: &'a str, content: Content) -> [(&'a str, Content); 10] {
 
 /// A run with these files and words ends so, and writes this to `out` and `err`.
 fn check(
-    rt: &(impl Abort + AllocGlobal),
+    rt: &(impl Abort + AllocGlobal + Threads + Wait + Sync),
     files: &[(&str, Content)],
     words: &[&str],
     status: u8,
@@ -172,7 +175,9 @@ fn check(
     let mut out = Vec::new(rt.alloc());
     let mut err = Vec::new(rt.alloc());
     let ended = serve(
+        rt,
         rt.alloc(),
+        &Open,
         &mut Memory { files: &*files },
         words,
         &mut out,
@@ -199,6 +204,28 @@ fn statuses(rt: HostRuntime) {
         &WORDS,
         1,
         "STEP LIFT KG GM MEAN AFT FWD TRIM LIST A30 A40 A3040 GZ ANGLE CLOSE FRAMES VERDICT\n0 - 12300001 OUTSIDE HYDRO\nFIRST FAIL 0 C0\n",
+        "",
+    );
+}
+
+// With the other command the same files give the last line of the report alone, and the same status.
+#[test]
+fn first(rt: HostRuntime) {
+    let words = ["first", "box", "plan.edi", "moves.edi"];
+    check(
+        &rt,
+        &with("box/ship.toml", Content::Bytes(SHIP)),
+        &words,
+        0,
+        "ALL PASS\n",
+        "",
+    );
+    check(
+        &rt,
+        &with("box/ship.toml", Content::Bytes(HEAVY)),
+        &words,
+        1,
+        "FIRST FAIL 0 C0\n",
         "",
     );
 }
@@ -230,7 +257,8 @@ fn refusals(rt: HostRuntime) {
 #[test]
 fn words(rt: HostRuntime) {
     let files = with("box/ship.toml", Content::Bytes(SHIP));
-    let usage = "usage: loadseq check FOLDER BAPLIE MOVINS [--steps FILE] [--chunk N]\n";
+    let usage =
+        "usage: loadseq check|first FOLDER BAPLIE MOVINS [--steps FILE] [--workers N] [--chunk N]\n";
     check(&rt, &files, &[], 3, "", usage);
     check(&rt, &files, &["report"], 3, "", usage);
     check(&rt, &files, &["--help"], 3, "", usage);
@@ -244,7 +272,9 @@ fn words(rt: HostRuntime) {
         let mut out = Vec::new(rt.alloc());
         let mut err = Vec::new(rt.alloc());
         let status = serve(
+            &rt,
             rt.alloc(),
+            &Open,
             &mut Memory { files: &files },
             words,
             &mut out,
@@ -370,7 +400,9 @@ fn failing_outputs(rt: HostRuntime) {
     let files = with("box/ship.toml", Content::Bytes(SHIP));
     let mut err = Vec::new(rt.alloc());
     let status = serve(
+        &rt,
         rt.alloc(),
+        &Open,
         &mut Memory { files: &files },
         &WORDS,
         &mut Full,
@@ -380,7 +412,9 @@ fn failing_outputs(rt: HostRuntime) {
     assert_eq!(rt; err.as_slice(), b"write fault\n".as_slice());
     let mut out = Vec::new(rt.alloc());
     let status = serve(
+        &rt,
         rt.alloc(),
+        &Open,
         &mut Memory { files: &[] },
         &WORDS,
         &mut out,
@@ -422,7 +456,15 @@ fn files_alike(rt: HostRuntime) {
     let mut out = Vec::new(rt.alloc());
     let mut err = Vec::new(rt.alloc());
     let mut files = Alike { text: SHIP };
-    let status = serve(rt.alloc(), &mut files, &WORDS, &mut out, &mut err);
+    let status = serve(
+        &rt,
+        rt.alloc(),
+        &Open,
+        &mut files,
+        &WORDS,
+        &mut out,
+        &mut err,
+    );
     assert_eq!(rt; status, 2);
     assert_eq!(rt; err.as_slice(), b"refused F1 P4 cells.csv 1\n".as_slice());
 }

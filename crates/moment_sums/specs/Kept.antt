@@ -1,7 +1,9 @@
 -- Bookkeeping: a sum as the code keeps it: plain numbers, with 16 places for frames, and how many bodies were added or taken.
-use Rattle.std.specs.Prelude.{◌≡◌, ℕ, ◌+◌, ◌*◌, ◌^◌, ◌≤◌, ℤ, pos, ◌+ℤ◌, ◌*ℤ◌, neg_ℤ, int_le, List, [], ◌∷◌, length, replicate, unsigned_abs, Bool, ◌&&◌, nat_eq, if◌then◌else◌}
-use Rattle.std.specs.List.{list_all}
+use Rattle.std.specs.Prelude.{◌≡◌, ℕ, ◌+◌, ◌*◌, ◌^◌, ◌≤◌, ℤ, pos, ◌+ℤ◌, ◌*ℤ◌, neg_ℤ, int_le, List, [], ◌∷◌, length, map, replicate, unsigned_abs, Bool, ◌&&◌, nat_eq, if◌then◌else◌}
+use Rattle.std.specs.List.{list_all, range_with_len}
+use Rattle.std.specs.Option.{option_to_list}
 use Rattle.units_core.specs.Interpolation.{at, IsWithin}
+use Rattle.lift_sequence.specs.declared.steps.Step.{Step}
 use Rattle.prefix_scan.specs.Laws.{most_parts}
 use Rattle.moment_sums.specs.Sum.{Weight, MomentX, MomentY, MomentZ, Surface, WeightAft, MomentAft, Sum}
 
@@ -24,6 +26,23 @@ values t MomentZ = t.z
 values t Surface = t.fsm
 values t (WeightAft i) = at t.weights_aft i
 values t (MomentAft i) = at t.moments_aft i
+
+-- a sum of so many parts, as it is kept
+abbrev pub kept_of : Sum → ℕ → Kept
+kept_of s parts = record {
+  kg = s Weight;
+  x = s MomentX;
+  y = s MomentY;
+  z = s MomentZ;
+  fsm = s Surface;
+  weights_aft = map (λ i. s (WeightAft i)) (range_with_len 0 16);
+  moments_aft = map (λ i. s (MomentAft i)) (range_with_len 0 16);
+  parts = parts;
+}
+
+-- how many bodies a step takes out and puts in
+abbrev pub bodies_of : Step → ℕ
+bodies_of step = length (option_to_list step.out) + length (option_to_list step.put)
 
 -- At most 2^19 parts, each of 10^9 kg, of 10^15 kg mm about each axis, of a free surface moment of 10^12 kg mm, and aft of each frame
 -- of 10^9 kg and 2 * 10^15 kg mm at most.

@@ -1,10 +1,11 @@
-ghost use Rattle.std.specs.Prelude.{◌≡◌, ℕ, ◌+◌, ◌*◌, ◌^◌, ◌<◌, ◌≤◌, ◌*ℤ◌, slice_get, true, unsigned_abs};
+ghost use Rattle.std.specs.Option.{option_to_list};
+ghost use Rattle.std.specs.Prelude.{◌≡◌, ℕ, ◌+◌, ◌*◌, ◌^◌, ◌<◌, ◌≤◌, ◌*ℤ◌, length, slice_get, true, unsigned_abs};
 ghost use Rattle.prefix_scan.specs.Laws.{most_parts};
 ghost use Rattle.units_core.specs.Interpolation.{at, IsWithin};
 ghost use Rattle.moment_sums.specs.Shares.{moment_aft, weight_aft};
 ghost use Rattle.moment_sums.specs.Sum.{Weight, MomentX, MomentY, MomentZ, Surface, WeightAft, MomentAft, at_frame, changed_by, in_option, negated, of_body};
 ghost use Rattle.moment_sums.specs.Bounded.{IsBounded};
-ghost use Rattle.moment_sums.specs.Kept.{is_bounded, size_of, values};
+ghost use Rattle.moment_sums.specs.Kept.{bodies_of, is_bounded, kept_of, size_of, values};
 
 use crate::limits::{are_centres, are_shares, both, is_share, times};
 use crate::rows::{add, negate, negate_all, plus};
@@ -144,7 +145,7 @@ impl Totals {
     /// What a body adds, where there is one.
     fn of_option(body: Option<Body>, frames: &Frames) -> Totals
         ensures values { values result ≡ in_option frames.now body }
-        ensures parts { result.parts ≤ 1 }
+        ensures parts { result.parts ≡ length (option_to_list body) }
         ensures size { size_of result ≤ 1 }
     {
         match body {
@@ -157,8 +158,9 @@ impl Totals {
     /// is its share when it was put in, negated.
     pub fn of_step(step: &Step, frames: &Frames) -> Totals
         ensures values { values result ≡ changed_by frames.now step.now }
-        ensures parts { result.parts ≤ 2 }
+        ensures parts { result.parts ≡ bodies_of step.now }
         ensures size { size_of result ≤ 2 }
+        ensures kept { result ≡ kept_of (changed_by frames.now step.now) (bodies_of step.now) }
     {
         let out = Totals::of_option(step.out, frames).minus();
         let put = Totals::of_option(step.put, frames);

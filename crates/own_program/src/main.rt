@@ -3,7 +3,8 @@
 #![tactic(auto)]
 
 use box_ship::{EMPTY_PLAN, LOAD_TO_STARBOARD, files};
-use seq_report::{CutPlan, Inputs, Through, report};
+use claim_run::{Open, Workers};
+use seq_report::{CutPlan, Inputs, Options, Through, report};
 use std::io::Write;
 use std::process::ExitCode;
 
@@ -15,9 +16,22 @@ fn main(rt: HostRuntime) -> ExitCode {
         steps: None,
     };
     let mut out = rt.stdout();
-    // The report is made in chunks of 256 lines; any plan that fits gives the same bytes.
-    let plan = CutPlan::Every(256);
-    match report(rt.alloc(), &inputs, plan, &mut Through::new(&mut out)) {
+    // Four threads make the report in chunks of 256 lines; any other number, and any cuts that fit, give the same bytes.
+    let Some(workers) = Workers::new(4) else {
+        unreachable!()
+    };
+    let options = Options {
+        workers,
+        cuts: CutPlan::Every(256),
+    };
+    match report(
+        &rt,
+        rt.alloc(),
+        &Open,
+        &inputs,
+        &options,
+        &mut Through::new(&mut out),
+    ) {
         Ok(summary) => ExitCode::from(if summary.first.is_none() { 0 } else { 1 }),
         Err(fault) => {
             let _ = writeln!(rt.stderr(), "{fault}");

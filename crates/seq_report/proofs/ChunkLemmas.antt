@@ -1,5 +1,5 @@
 -- Chunks of lines, put together.
-use Rattle.std.proofs.Common.{◌≡◌, ◌∙◌, ℕ, zero, suc, ◌+◌, ◌-◌, ◌<◌, ◌≤◌, List, [], ◌∷◌, ◌++◌, length, map, flat_map, get_or, Option, None, Some, refl, sym, ap, arith}
+use Rattle.std.proofs.Common.{◌≡◌, ◌∙◌, ℕ, zero, suc, ◌+◌, ◌-◌, ◌<◌, ◌≤◌, List, [], ◌∷◌, ◌++◌, length, map, flat_map, get_or, Option, None, Some, is_some, true, false, refl, sym, ap, arith}
 use Rattle.std.specs.List.{range_with_len}
 use Rattle.std.specs.Option.{option_or}
 use Rattle.std.proofs.lemmas.Grind.{flat_map-append}
@@ -92,3 +92,18 @@ module _ (case : Case) (ends : List ℕ) where
       let first : first_in parts ≡ first_of lines = ap first_in are ∙ firsts all ∙ ap (λ (l : List ℕ). first_of (map (line_in case) l)) numbers in
       let count : n ≡ length lines = many ∙ len ∙ sym (length-map-range_with_len (line_in case) 0 (suc (length case.sequence.ops))) in
       λ j. record { text = header_of ++ (text j ++ last_line (first j)); summary = record { lines = count j; first = first j } }
+
+-- the first failing line of those from k on is line k, or the first behind it
+pub first_here : (case : Case) (k e : ℕ) → k < e → first_of (map (line_in case) (range_with_len k (e - k)))
+    ≡ option_or (failure_of (line_in case k).step) (first_of (map (line_in case) (range_with_len (k + 1) (e - (k + 1)))))
+first_here case k e low =
+    let same : e - k ≡ suc (e - (k + 1)) = omega arith in
+    ap (λ n. first_of (map (line_in case) (range_with_len k n))) same
+
+pub or_some : (a b : Option (ℕ × Criterion)) → is_some a ≡ true → option_or a b ≡ a
+or_some None b is = absurd (cc)
+or_some (Some x) b is = refl
+
+pub or_other : (a b : Option (ℕ × Criterion)) → is_some a ≡ false → option_or a b ≡ b
+or_other None b is = refl
+or_other (Some x) b is = absurd (cc)

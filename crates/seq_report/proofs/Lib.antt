@@ -1,7 +1,9 @@
 pub mod ChunkLemmas
 pub mod Digits
+pub mod FirstLemmas
 pub mod OffsetLemmas
 pub mod PlanLemmas
+pub mod RunLemmas
 pub mod SumLemmas
 pub mod Totals
 pub mod Words

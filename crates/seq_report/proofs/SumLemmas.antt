@@ -1,19 +1,25 @@
--- Sums so far: what the lines before a line change is what is aboard at the line before it.
-use Rattle.std.proofs.Common.{◌≡◌, ℕ, zero, suc, ◌+◌, ◌*◌, ◌^◌, ◌<◌, ◌≤◌, List, take, slice_get, Option, None, Some, ℤ, pos, ◌+ℤ◌, refl, sym, ap, ◌∙◌, arith}
+-- Running sums: what is aboard on arrival with what the first k steps change is what is aboard at line k.
+use Rattle.std.proofs.Common.{◌≡◌, ℕ, zero, suc, ◌+◌, ◌*◌, ◌^◌, ◌≤◌, List, [], ◌∷◌, length, map, take, slice_get, Option, None, Some, ℤ, pos, ◌+ℤ◌, refl, sym, ap, ◌∙◌, arith}
+use Rattle.std.specs.List.{fold, range_with_len}
 use Rattle.std.specs.Option.{option_to_list}
 use Rattle.std.proofs.lemmas.Int.{ints}
+use Rattle.std.proofs.lemmas.List.FromFn.{map-range_with_len_more}
+use Rattle.std.proofs.lemmas.List.Sums.{fold-append}
+use Rattle.std.proofs.lemmas.Option.{slice_get_past}
 use Rattle.units_core.specs.Bodies.{Mass}
 use Rattle.ship_profile.specs.declared.frames.Frame.{Frame}
 use Rattle.lift_sequence.specs.declared.steps.Step.{Step}
 use Rattle.lift_sequence.specs.Totals.{change, total}
-use Rattle.moment_sums.specs.Sum.{Column, Sum, joined, nothing, value}
-use Rattle.moment_sums.specs.Kept.{Kept, both_kept, size_of, values}
+use Rattle.moment_sums.specs.Sum.{Column, WeightAft, MomentAft, Sum, at_frame, joined, nothing, value}
+use Rattle.moment_sums.specs.Kept.{Kept, both_kept, none_kept, size_of, values}
 use Rattle.moment_sums.specs.KeptLaws.{kept_laws}
-use Rattle.moment_sums.proofs.Bounds.{values_both}
+use Rattle.moment_sums.proofs.Bounds.{values_both, values_nothing}
+use Rattle.moment_sums.proofs.KeptLemmas.{kept_size, kept_values}
 use Rattle.seq_report.specs.declared.cases.Case.{Case}
-use Rattle.seq_report.specs.Cases.{IsReady, aboard_first, before, line_in}
-use Rattle.seq_report.specs.Chunks.{change_at, changed_in, parts_before, sum_before}
-use Rattle.seq_report.specs.Report.{lift_to, step_line, sum_at}
+use Rattle.seq_report.specs.Cases.{IsReady, aboard_first, line_in, sum_in}
+use Rattle.seq_report.specs.Chunks.{bodies_in, change_behind, changed_in, changes_behind, parts_to, sum_to}
+use Rattle.criteria.specs.declared.criterion.Criterion.{Criterion}
+use Rattle.seq_report.specs.Report.{Said, failure_of, lift_to, step_line, sum_at}
 use Rattle.seq_report.proofs.Totals.{total_next}
 
 -- sums in any grouping
@@ -27,9 +33,6 @@ joined_nothing a = λ j k. by (a k) j where
   by : (x : ℤ) → x +ℤ pos 0 ≡ x
   by x = omega (arith, ints)
 
-next_of : (k : ℕ) → k + 1 ≡ suc k
-next_of k = omega arith
-
 module _ (frames : List Frame) (arrival : List Mass) (steps : List Step) where
   one_change : (c : Column) (o : Option Step) → changed_in frames o c ≡ total (change (value frames c)) (option_to_list o)
   one_change c None = refl
@@ -37,9 +40,11 @@ module _ (frames : List Frame) (arrival : List Mass) (steps : List Step) where
     by : (x : ℤ) → x ≡ x +ℤ pos 0
     by x = omega (arith, ints)
 
-  -- the lines up to line k bring aboard what is aboard on arrival, and what the first k steps change
-  sums_so_far : (k : ℕ) (c : Column) → sum_before frames arrival steps (suc k) c ≡ total (value frames c) arrival +ℤ total (change (value frames c)) (take k steps)
-  sums_so_far zero c = omega (arith, ints)
+  -- the sum at line k is that on arrival, and what the first k steps change
+  sums_so_far : (k : ℕ) (c : Column) → sum_to frames arrival steps k c ≡ total (value frames c) arrival +ℤ total (change (value frames c)) (take k steps)
+  sums_so_far zero c = by (total (value frames c) arrival) where
+    by : (x : ℤ) → x ≡ x +ℤ pos 0
+    by x = omega (arith, ints)
   sums_so_far (suc k) c =
       let so_far = sums_so_far k c in
       let here = one_change c (slice_get steps k) in
@@ -47,45 +52,119 @@ module _ (frames : List Frame) (arrival : List Mass) (steps : List Step) where
       omega (arith, ints, so_far, here, next)
 
 -- so that is what adding up everything aboard at line k gives
-pub sum_here : (case : Case) → IsReady case → (k : ℕ) → before case (k + 1) ≡ sum_at case.profile (aboard_first case) case.sequence.ops k
+pub sum_here : (case : Case) → IsReady case → (k : ℕ) → sum_in case k ≡ sum_at case.profile (aboard_first case) case.sequence.ops k
 sum_here case ready k =
     let frames = case.profile.ship.frames in
-    ap (before case) (next_of k)
-    ∙ (λ j c. (sums_so_far frames case.arrival.bodies case.sequence.steps k c ∙ sym (ready.adds_up (value frames c) k)) j)
+    λ j c. (sums_so_far frames case.arrival.bodies case.sequence.steps k c ∙ sym (ready.adds_up (value frames c) k)) j
 
-pub line_here : (case : Case) → IsReady case → (k : ℕ) (s : Sum) → s ≡ before case (k + 1)
+pub line_here : (case : Case) → IsReady case → (k : ℕ) (s : Sum) → s ≡ sum_in case k
     → record { lift = lift_to case.sequence.ops k; step = step_line case.profile k s } ≡ line_in case k
 line_here case ready k s is =
     ap (λ (t : Sum). record { lift = lift_to case.sequence.ops k; step = step_line case.profile k t }) (is ∙ sum_here case ready k)
 
+-- whether the line fails, by what is said of it
+pub line_told : (case : Case) → IsReady case → (k : ℕ) (s : Sum) (said : Said) (f : Option (ℕ × Criterion)) → s ≡ sum_in case k → said ≡ step_line case.profile k s
+    → f ≡ failure_of said → f ≡ failure_of (line_in case k).step
+line_told case ready k s said f here is told = told ∙ ap failure_of (is ∙ ap (step_line case.profile k) (here ∙ sum_here case ready k))
+
 -- sizes
-pub parts_more : (k : ℕ) → parts_before (k + 1) ≡ 30400 + 2 * k
-parts_more k = ap parts_before (next_of k)
+pub parts_few : (k : ℕ) → k ≤ 120001 → parts_to k ≤ 2 ^ 19
+parts_few k h = omega arith
 
-pub parts_step : (k s : ℕ) → 0 < k → s ≤ 2 → parts_before k + s ≤ parts_before (k + 1)
-parts_step zero s h few = absurd (omega arith)
-parts_step (suc k) s h few = omega (arith, parts_more (suc k))
+few_bodies : (o : Option Step) → bodies_in o ≤ 2
+few_bodies None = omega arith
+few_bodies (Some step) = by step.out step.put where
+  by : (out put : Option Mass) → length (option_to_list out) + length (option_to_list put) ≤ 2
+  by None None = omega arith
+  by None (Some b) = omega arith
+  by (Some a) None = omega arith
+  by (Some a) (Some b) = omega arith
 
-pub parts_few : (k : ℕ) → k ≤ 120001 → parts_before k ≤ 2 ^ 19
-parts_few zero h = omega arith
-parts_few (suc k) h = omega arith
+pub change_size : (frames : List Frame) (steps : List Step) (k : ℕ) → size_of (change_behind frames steps k) ≤ 2
+change_size frames steps k =
+    let here = kept_size (changed_in frames (slice_get steps k)) (bodies_in (slice_get steps k)) in
+    omega (arith, here, few_bodies (slice_get steps k))
 
--- one change more
-module _ (case : Case) (k : ℕ) (s t r : Kept) (is : r ≡ both_kept s t) (change : values t ≡ change_at case.profile.ship.frames case.arrival.bodies case.sequence.steps k) where
-  joins : values r ≡ joined (values s) (values t)
-  joins = ap values is ∙ values_both s t
+-- what changes behind a line, read back from what is kept: a ship has at most 16 frames
+module _ (frames : List Frame) (few : length frames ≤ 16) where
+  -- a value that each body adds nothing to is not changed
+  unchanged : (f : Mass → ℤ) → ((b : Mass) → f b ≡ pos 0) → (step : Step) → change f step ≡ pos 0
+  unchanged f none step = (λ j. change (λ b. none b j) step) ∙ by step.out step.put where
+    by : (out put : Option Mass) → change (λ b. pos 0) (record { out = out; put = put }) ≡ pos 0
+    by None None = refl
+    by None (Some b) = refl
+    by (Some a) None = refl
+    by (Some a) (Some b) = refl
 
-  next_sum : (b : Sum) → b ≡ before case k → joined b (values t) ≡ before case (k + 1)
-  next_sum b so_far = (λ j. joined (so_far j) (change j)) ∙ ap (before case) (sym (next_of k))
+  at_none : (share : ℤ → Mass → ℤ) (o : Option Frame) → o ≡ None → (b : Mass) → at_frame share o b ≡ pos 0
+  at_none share o none b = ap (λ o. at_frame share o b) none
 
-  pub sum_more : values s ≡ before case k → values r ≡ before case (k + 1)
-  sum_more so_far = joins ∙ next_sum (values s) so_far
+  weight_past : (o : Option Step) (i : ℕ) → 16 ≤ i → changed_in frames o (WeightAft i) ≡ pos 0
+  weight_past None i past = refl
+  weight_past (Some step) i past = unchanged (value frames (WeightAft i)) (at_none _ (slice_get frames i) (slice_get_past frames i (omega (arith, few, past)))) step
 
-  pub chunk_more : (b : Sum) → joined b (values s) ≡ before case k → joined b (values r) ≡ before case (k + 1)
-  chunk_more b so_far = ap (joined b) joins ∙ sym (joined_assoc b (values s) (values t)) ∙ next_sum (joined b (values s)) so_far
+  moment_past : (o : Option Step) (i : ℕ) → 16 ≤ i → changed_in frames o (MomentAft i) ≡ pos 0
+  moment_past None i past = refl
+  moment_past (Some step) i past = unchanged (value frames (MomentAft i)) (at_none _ (slice_get frames i) (slice_get_past frames i (omega (arith, few, past)))) step
 
-  pub size_more : (b : ℕ) → k ≤ 120000 → b + size_of s ≤ parts_before k → parts_before k + size_of t ≤ parts_before (k + 1) → b + size_of r ≤ parts_before (k + 1)
-  size_more b few so_far one =
-      let all = parts_few (k + 1) (omega arith) in
-      let both = kept_laws.op_weight s t (omega arith) in
-      omega (arith, ap size_of is, both)
+  pub change_values : (steps : List Step) (k : ℕ) → values (change_behind frames steps k) ≡ changed_in frames (slice_get steps k)
+  change_values steps k =
+      let o = slice_get steps k in
+      kept_values (changed_in frames o) (bodies_in o) (weight_past o) (moment_past o)
+
+  -- one step more
+  pub sum_more : (arrival : List Mass) (steps : List Step) (k : ℕ) (s t r : Kept) → r ≡ both_kept s t → t ≡ change_behind frames steps k
+      → (b : Sum) → joined b (values s) ≡ sum_to frames arrival steps k → joined b (values r) ≡ sum_to frames arrival steps (suc k)
+  sum_more arrival steps k s t r is change b so_far =
+      ap (joined b) (ap values is ∙ values_both s t) ∙ sym (joined_assoc b (values s) (values t))
+      ∙ (λ j. joined (so_far j) ((ap values change ∙ change_values steps k) j))
+
+module _ (frames : List Frame) (steps : List Step) where
+  -- the changes behind one line more
+  pub changes_more : (a n k : ℕ) → a + n ≡ k → changes_behind frames steps (range_with_len a (n + 1)) ≡ both_kept (changes_behind frames steps (range_with_len a n)) (change_behind frames steps k)
+  changes_more a n k at =
+      ap (fold both_kept none_kept) (map-range_with_len_more (change_behind frames steps) a n k at)
+      ∙ fold-append both_kept none_kept (map (change_behind frames steps) (range_with_len a n)) (change_behind frames steps k ∷ [])
+
+  pub changes_size : (a n : ℕ) → n ≤ 120001 → size_of (changes_behind frames steps (range_with_len a n)) ≤ 2 * n
+  changes_size a zero few = omega arith
+  changes_size a (suc n) few =
+      let next : n + 1 ≡ suc n = omega arith in
+      let so_far = changes_size a n (omega arith) in
+      let one = change_size frames steps (a + n) in
+      let both = kept_laws.op_weight (changes_behind frames steps (range_with_len a n)) (change_behind frames steps (a + n)) (omega (arith, so_far, one)) in
+      let more = ap size_of (ap (λ m. changes_behind frames steps (range_with_len a m)) (sym next) ∙ changes_more a n (a + n) refl) in
+      omega (arith, more, both, so_far, one)
+
+  -- with the sum at their first line they are the sum at the line behind them
+  pub changes_sum : length frames ≤ 16 → (arrival : List Mass) (a n k : ℕ) → a + n ≡ k
+      → joined (sum_to frames arrival steps a) (values (changes_behind frames steps (range_with_len a n))) ≡ sum_to frames arrival steps k
+  changes_sum few arrival a zero k at =
+      let same : a ≡ k = omega arith in
+      ap (joined (sum_to frames arrival steps a)) values_nothing ∙ joined_nothing (sum_to frames arrival steps a) ∙ ap (sum_to frames arrival steps) same
+  changes_sum few arrival a (suc n) k at =
+      let next : n + 1 ≡ suc n = omega arith in
+      let last : suc (a + n) ≡ k = omega arith in
+      ap (λ m. joined (sum_to frames arrival steps a) (values (changes_behind frames steps (range_with_len a m)))) (sym next)
+      ∙ sum_more frames few arrival steps (a + n) (changes_behind frames steps (range_with_len a n)) (change_behind frames steps (a + n)) (changes_behind frames steps (range_with_len a (n + 1)))
+      (changes_more a n (a + n) refl) refl (sum_to frames arrival steps a) (changes_sum few arrival a n (a + n) refl)
+      ∙ ap (sum_to frames arrival steps) last
+
+-- the sum at a line with what changes behind it is the sum at the next line
+module _ (case : Case) (ready : IsReady case) (k : ℕ) where
+  pub room_for_next : k ≤ 120000 → (s t : Kept) → size_of s ≤ parts_to k → t ≡ change_behind case.profile.ship.frames case.sequence.steps k → size_of s + size_of t ≤ 2 ^ 19
+  room_for_next few s t fits is = omega (arith, few, fits, ap size_of is, change_size case.profile.ship.frames case.sequence.steps k)
+
+  pub next_size : k ≤ 120000 → (s t r : Kept) → size_of s ≤ parts_to k → t ≡ change_behind case.profile.ship.frames case.sequence.steps k → r ≡ both_kept s t
+      → size_of r ≤ parts_to (k + 1)
+  next_size few s t r fits is joins =
+      let both = kept_laws.op_weight s t (room_for_next few s t fits is) in
+      omega (arith, ap size_of joins, both, fits, ap size_of is, change_size case.profile.ship.frames case.sequence.steps k)
+
+  pub next_sum : (s t r : Kept) → values s ≡ sum_in case k → t ≡ change_behind case.profile.ship.frames case.sequence.steps k → r ≡ both_kept s t
+      → values r ≡ sum_in case (k + 1)
+  next_sum s t r here is joins =
+      let next : suc k ≡ k + 1 = omega arith in
+      ap values joins ∙ values_both s t
+      ∙ (λ j. joined (here j) ((ap values is ∙ change_values case.profile.ship.frames ready.frames case.sequence.steps k) j))
+      ∙ ap (sum_in case) next

@@ -1,18 +1,30 @@
 -- Bookkeeping: a ship, what is aboard of her on arrival, and the steps from there, all of which can be done.
-use Rattle.std.specs.Prelude.{◌≡◌, ℕ, ◌≤◌, ℤ, ◌+ℤ◌, length, take}
+use Rattle.std.specs.Prelude.{◌≡◌, ℕ, ◌+◌, ◌-◌, ◌<◌, ◌≤◌, ℤ, ◌+ℤ◌, List, length, map, take, slice_get, Option, None, Some}
+use Rattle.std.specs.List.{range_with_len}
 use Rattle.units_core.specs.Bodies.{Mass}
 use Rattle.lift_sequence.specs.Aboard.{Aboard, after_all}
 use Rattle.ship_profile.specs.Record.{ProfileRecord}
 use Rattle.lift_sequence.specs.Arrival.{ArrivalRecord, cargo_on}
 use Rattle.lift_sequence.specs.Bodies.{bodies}
-use Rattle.lift_sequence.specs.Sequence.{IsOf}
+use Rattle.lift_sequence.specs.Sequence.{IsOf, SequenceRecord}
 use Rattle.lift_sequence.specs.Totals.{change, total}
 use Rattle.moment_sums.specs.Bounded.{IsBounded}
+use Rattle.moment_sums.specs.Kept.{size_of, values}
 use Rattle.moment_sums.specs.Sum.{Sum}
 use Rattle.seq_report.specs.declared.cases.Case.{Case}
-use Rattle.seq_report.specs.Chunks.{sum_before}
+use Rattle.seq_report.specs.declared.cases.CaseView.{CaseView}
+use Rattle.claim_board.specs.Claims.{IsLeastFound}
+use Rattle.seq_report.specs.declared.sections.Chunk.{Chunk}
+use Rattle.seq_report.specs.Chunks.{chunk_of, parts_to, step_of_first, sum_to}
 use Rattle.seq_report.specs.Refusal.{Outcome, outcome_on}
 use Rattle.seq_report.specs.Report.{Line, line_at, lines_of, sum_at}
+
+abbrev pub case_on : ProfileRecord → ArrivalRecord → SequenceRecord → Case
+case_on profile arrival sequence = record { profile = profile; arrival = arrival; sequence = sequence }
+
+-- the case that is seen
+abbrev pub seen : CaseView → Case
+seen view = case_on view.profile.now view.arrival.now view.sequence.now
 
 abbrev pub aboard_first : Case → Aboard
 aboard_first case = cargo_on case.arrival
@@ -23,9 +35,17 @@ line_in case k = line_at case.profile (aboard_first case) case.sequence.ops k
 abbrev pub outcome_in : Case → Outcome
 outcome_in case = outcome_on (lines_of case.profile (aboard_first case) case.sequence.ops)
 
--- the sum of what the lines before line k change
-abbrev pub before : Case → ℕ → Sum
-before case k = sum_before case.profile.ship.frames case.arrival.bodies case.sequence.steps k
+-- the first step of chunk c that fails
+abbrev pub first_step_in : Case → List ℕ → ℕ → Option ℕ
+first_step_in case ends c = step_of_first (map (line_in case) (chunk_of ends c))
+
+-- the least step that fails in any chunk
+abbrev pub IsFirstStep : Case → List ℕ → ℕ → Type 0
+IsFirstStep case ends least = IsLeastFound (Some least) (first_step_in case ends) (length ends)
+
+-- the sum at line k
+abbrev pub sum_in : Case → ℕ → Sum
+sum_in case k = sum_to case.profile.ship.frames case.arrival.bodies case.sequence.steps k
 
 -- an arrival with this profile, whose bodies add up, in every value, to those of what is aboard
 pub record HasArrived (ship : ProfileRecord) (arrival : ArrivalRecord) : Type 0 where
@@ -33,12 +53,25 @@ pub record HasArrived (ship : ProfileRecord) (arrival : ArrivalRecord) : Type 0 
   pub few : length arrival.bodies ≤ 30400
   pub adds_up : (f : Mass → ℤ) → total f arrival.bodies ≡ total f (bodies ship (cargo_on arrival))
 
--- Few enough bodies and steps for every sum; and whatever value is added up, what is aboard after k steps is what is aboard on arrival with
+-- Few enough frames, bodies and steps for every sum; and whatever value is added up, what is aboard after k steps is what is aboard on arrival with
 -- what these steps change.
 pub record IsReady (case : Case) : Type 0 where
+  pub frames : length case.profile.ship.frames ≤ 16
   pub few : length case.sequence.ops ≤ 120000
+  pub last : slice_get case.sequence.steps (length case.sequence.ops) ≡ None
   pub arrived : length case.arrival.bodies ≤ 30400
   pub adds_up : (f : Mass → ℤ) (k : ℕ)
       → total f (bodies case.profile (after_all case.profile (aboard_first case) (take k case.sequence.ops)))
       ≡ total f case.arrival.bodies +ℤ total (change f) (take k case.sequence.steps)
   pub bounded : (k : ℕ) → IsBounded (sum_at case.profile (aboard_first case) case.sequence.ops k)
+
+-- the numbers of a chunk's lines
+abbrev pub lines_in : Chunk → List ℕ
+lines_in chunk = range_with_len chunk.start (chunk.end - chunk.start)
+
+-- some of a case's lines, with the sum at the first of them
+pub record IsChunk (case : Case) (chunk : Chunk) : Type 0 where
+  pub some : chunk.start < chunk.end
+  pub inside : chunk.end ≤ length case.sequence.ops + 1
+  pub sum : values chunk.first ≡ sum_in case chunk.start
+  pub size : size_of chunk.first ≤ parts_to chunk.start

@@ -154,6 +154,12 @@ is_refusal (Cuts fault) = false
 is_refusal (Write written) = false
 is_refusal fault = true
 
+-- a fault of a run whose inputs and cuts are right: out of memory, or the sink failed
+abbrev pub IsOfRun : RunFault → Type 0
+IsOfRun NoMemory = Unit {0}
+IsOfRun (Write written) = Unit {0}
+IsOfRun fault = ⊥
+
 -- out of memory stands for itself, and never inside the refusal of an input
 abbrev pub TellsMemory : RunFault → Type 0
 TellsMemory (Profile fault) = fault ≢ profile.NoMemory

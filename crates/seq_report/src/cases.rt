@@ -1,7 +1,7 @@
 ghost use Rattle.std.specs.List.{AllByRecursion};
 ghost use Rattle.std.specs.Prelude.{◌≡◌, ◌≢◌, ◌+◌, ◌^◌, ◌≤◌, length, option_map, false, IfOk, IfErr, Ok, Err};
 ghost use Rattle.lift_sequence.specs.Arrival.{cargo_on};
-ghost use Rattle.seq_report.specs.Cases.{HasArrived, IsReady, outcome_in};
+ghost use Rattle.seq_report.specs.Cases.{HasArrived, IsReady, outcome_in, seen};
 ghost use Rattle.seq_report.specs.Refusal.{TellsMemory, outcome_for, outcome_from, outcome_of, outcome_with, is_cut, is_write};
 ghost use Rattle.seq_report.specs.Report.{lift_to};
 
@@ -21,18 +21,39 @@ pub struct Case {
 }
 
 impl Case {
+    /// The case, to be looked at.
+    pub fn view(&self) -> CaseView<'_>
+        ensures { seen result ≡ self.now }
+    {
+        CaseView {
+            profile: &self.profile,
+            arrival: &self.arrival,
+            sequence: &self.sequence,
+        }
+    }
+}
+
+/// The same, borrowed: what every worker of a run looks at.
+#[derive(Clone, Copy, Debug, Drop)]
+pub struct CaseView<'a> {
+    pub profile: &'a Profile,
+    pub arrival: &'a Arrival,
+    pub sequence: &'a Sequence,
+}
+
+impl<'a> CaseView<'a> {
     /// How many lines there are: that of the condition on arrival, and one for each step.
     pub fn lines(&self) -> u32
-        requires { length self.now.sequence.ops ≤ 120000 }
-        ensures { result ≡ length self.now.sequence.ops + 1 }
+        requires { length self.now.sequence.now.ops ≤ 120000 }
+        ensures { result ≡ length self.now.sequence.now.ops + 1 }
     {
         self.sequence.len() as u32 + 1
     }
 
     /// The step that leads to line `k`; none leads to line 0.
-    pub fn lift(&self, k: u32) -> Option<&Op>
-        requires { k ≤ length self.now.sequence.ops }
-        ensures { option_map (λ op. op.now) result ≡ lift_to self.now.sequence.ops k }
+    pub fn lift(&self, k: u32) -> Option<&'a Op>
+        requires { k ≤ length self.now.sequence.now.ops }
+        ensures { option_map (λ op. op.now) result ≡ lift_to self.now.sequence.now.ops k }
     {
         if k == 0 {
             return None;

@@ -1,19 +1,18 @@
-ghost use Rattle.std.specs.Prelude.{◌≡◌, ◌+◌, ◌<◌, ◌≤◌, length, IfOk};
-ghost use Rattle.prefix_scan.specs.Cut.{Divides};
-ghost use Rattle.moment_sums.specs.Kept.{size_of, values};
-ghost use Rattle.moment_sums.specs.Sum.{joined, sum_of};
-ghost use Rattle.seq_report.specs.Cases.{IsReady, before};
-ghost use Rattle.seq_report.specs.Chunks.{AreChunkTotals, AreOffsets, change_at, parts_before};
+ghost use Rattle.std.specs.Prelude.{◌≡◌, ◌+◌, ◌-◌, ◌^◌, ◌<◌, ◌≤◌, ℕ, length, map, slice_index_or, IfOk};
+ghost use Rattle.std.specs.List.{range_with_len};
+ghost use Rattle.moment_sums.specs.Kept.{Kept, both_kept, size_of, values};
+ghost use Rattle.seq_report.specs.Cases.{IsReady, seen, sum_in};
+ghost use Rattle.seq_report.specs.Chunks.{change_behind, changes_behind};
 
-use crate::cases::Case;
+use crate::cases::CaseView;
 use moment_sums::Totals;
-use prefix_scan::{Cuts, Monoid, offsets};
+use prefix_scan::Monoid;
 use std::alloc::{AllocError, Global};
 
 /// Everything that is aboard on arrival, added up.
-fn arrival_total(case: &Case) -> Totals
-    requires { length case.now.arrival.bodies ≤ 30400 }
-    ensures sum { values result ≡ sum_of case.now.profile.ship.frames case.now.arrival.bodies }
+pub fn arrival_total(case: CaseView<'_>) -> Totals
+    requires { length case.arrival.now.bodies ≤ 30400 }
+    ensures sum { values result ≡ sum_in (seen case.entry) 0 }
     ensures size { size_of result ≤ 30400 }
 {
     let frames = case.profile.frames();
@@ -25,59 +24,50 @@ fn arrival_total(case: &Case) -> Totals
     sum
 }
 
-/// What line `k` changes of the sum before it: line 0 brings aboard what is aboard on arrival.
-pub fn change_at(case: &Case, k: u32) -> Totals
-    requires ready { IsReady case.now }
-    requires there { k ≤ length case.now.sequence.ops }
-    ensures sum { values result
-        ≡ change_at case.now.profile.ship.frames case.now.arrival.bodies case.now.sequence.steps k }
-    ensures size { parts_before k + size_of result ≤ parts_before (k + 1) }
+/// What the step behind line `k` changes; nothing behind the last line.
+pub fn change_behind(case: CaseView<'_>, k: u32) -> Totals
+    requires ready { IsReady (seen case) }
+    requires there { k ≤ length case.sequence.now.ops }
+    ensures { result
+        ≡ change_behind case.entry.profile.now.ship.frames case.entry.sequence.now.steps k }
 {
-    if k == 0 {
-        return arrival_total(case);
+    let k = k as usize;
+    if k == case.sequence.len() {
+        return Totals::unit();
     }
-    let step = case.sequence.step(k as usize);
-    Totals::of_step(&step, case.profile.frames())
+    Totals::of_step(&case.sequence.step(k + 1), case.profile.frames())
 }
 
-/// What the lines from `start` to `end` change together.
-fn chunk_total(case: &Case, start: u32, end: u32) -> Totals
-    requires ready { IsReady case.now }
+/// What the steps behind the lines from `start` to `end` change together.
+pub fn chunk_total(case: CaseView<'_>, start: u32, end: u32) -> Totals
+    requires ready { IsReady (seen case) }
     requires some { start < end }
-    requires there { end ≤ length case.now.sequence.ops + 1 }
-    ensures sum { joined (before case.now start) (values result) ≡ before case.now end }
-    ensures size { parts_before start + size_of result ≤ parts_before end }
+    requires there { end ≤ length case.sequence.now.ops + 1 }
+    ensures { result
+        ≡ changes_behind case.entry.profile.now.ship.frames case.entry.sequence.now.steps
+        (range_with_len start (end - start)) }
 {
     let mut sum = Totals::unit();
     for k in start..end {
-        sum = sum.join(&change_at(case, k));
+        sum = sum.join(&change_behind(case, k));
     }
     sum
 }
 
-/// What the lines of each chunk change together.
-fn chunk_totals(alloc: Global, case: &Case, cuts: &Cuts) -> Result<Vec<Totals>, AllocError>
-    requires ready { IsReady case.now }
-    requires cut { Divides cuts.now (length case.now.sequence.ops + 1) }
-    ensures { IfOk result
-        (λ totals.
-        AreChunkTotals case.now.profile.ship.frames case.now.arrival.bodies case.now.sequence.steps cuts.now totals.items) }
+/// Each of the sums with what is aboard on arrival before it.
+pub fn joined_to_arrival(
+    alloc: Global,
+    arrival: &Totals,
+    changes: &[Totals],
+) -> Result<Vec<Totals>, AllocError>
+    requires arrival { size_of arrival.now ≤ 30400 }
+    requires sizes { (c : ℕ) (d : Kept) → c < length changes.now
+        → size_of (slice_index_or changes.now c d) ≤ 2 ^ 18 }
+    ensures { IfOk result (λ sums. sums.items ≡ map (both_kept arrival.now) changes.now) }
 {
-    let mut totals = Vec::new(alloc);
-    for chunk in 0..cuts.chunks() {
-        let lines = cuts.range(chunk);
-        totals.push(chunk_total(case, lines.start, lines.end))?;
+    let mut sums = Vec::with_capacity(alloc, changes.len())?;
+    for change in changes {
+        sums.push(arrival.join(change))?;
     }
-    Ok(totals)
-}
-
-/// The sum before the first line of each chunk.
-pub fn sums_before(alloc: Global, case: &Case, cuts: &Cuts) -> Result<Vec<Totals>, AllocError>
-    requires ready { IsReady case.now }
-    requires cut { Divides cuts.now (length case.now.sequence.ops + 1) }
-    ensures { IfOk result (λ sums. AreOffsets case.now.profile.ship.frames
-        case.now.arrival.bodies case.now.sequence.steps cuts.now sums.items) }
-{
-    let totals = chunk_totals(alloc, case, cuts)?;
-    offsets(alloc, &totals)
+    Ok(sums)
 }

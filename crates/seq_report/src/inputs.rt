@@ -1,5 +1,5 @@
 ghost use Rattle.std.specs.Prelude.{◌≡◌, ◌≢◌, ◌≤◌, length, option_map, false, IfOk, IfErr, Ok, Err};
-ghost use Rattle.lift_sequence.specs.Sequence.{IsOf, StepsAddUp};
+ghost use Rattle.lift_sequence.specs.Sequence.{AreSteps, IsOf, StepsAddUp};
 ghost use Rattle.lift_sequence.specs.Arrival.{cargo_on};
 ghost use Rattle.seq_report.specs.Cases.{HasArrived};
 ghost use Rattle.seq_report.specs.Refusal.{TellsMemory, arrival_in, is_cut, is_write, items_in, lifts_in, orders_in, orders_on, rows_of, sequence_in, ship_in};
@@ -146,6 +146,7 @@ pub fn sequence(
     ensures ok { IfOk result
         (λ s. sequence_in profile.now (cargo_on arrival.now) ops.items ≡ Ok s.ops) }
     ensures ops { IfOk result (λ s. s.ops ≡ ops.items) }
+    ensures each { IfOk result (λ s. AreSteps profile.now (cargo_on arrival.now) s.ops s.steps) }
     ensures sums { IfOk result (λ s. StepsAddUp profile.now (cargo_on arrival.now) s.ops s.steps) }
     ensures few { IfOk result (λ s. length s.ops ≤ 120000) }
     ensures refused { IfErr result (λ e. e ≢ RunFault.NoMemory

@@ -7,11 +7,14 @@ mod causes;
 mod chunks;
 mod columns;
 mod complete;
+mod failures;
 mod faults;
 mod inputs;
+mod jobs;
 mod lifts;
 mod lines;
 mod plans;
+mod prepared;
 mod refusals;
 mod runs;
 mod sections;
@@ -21,12 +24,14 @@ mod weights;
 
 pub use complete::Summary;
 pub use criteria::Criterion;
+pub use failures::first_fail;
 pub use faults::RunFault;
 pub use inputs::Inputs;
 pub use lifts::shown;
-pub use plans::CutPlan;
-pub use runs::report;
-pub use sink::{Sink, SinkFailed, Through};
+pub use lines::write_last_line;
+pub use plans::{CutPlan, Options};
+pub use runs::{report, report_from};
+pub use sink::{Sink, SinkFailed, Through, put_all};
 
 #[cfg(test)]
 mod tests;

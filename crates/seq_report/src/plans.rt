@@ -6,6 +6,7 @@ ghost use Rattle.seq_report.specs.Refusal.{TellsMemory, is_refusal, is_write};
 
 use crate::faults::RunFault;
 use crate::refusals::cuts_refusal;
+use claim_run::Workers;
 use prefix_scan::{CutFault, Cuts};
 use std::alloc::Global;
 
@@ -16,6 +17,15 @@ pub enum CutPlan<'a> {
     Every(u32),
     /// Chunks that end before these lines, the first line being 0; the last end is the number of lines.
     At(&'a [u32]),
+}
+
+/// How a report is made. It is the same whatever stands here.
+#[derive(Clone, Copy, Debug)]
+pub struct Options<'a> {
+    /// How many threads work at it.
+    pub workers: Workers,
+    /// Where its lines are cut into chunks.
+    pub cuts: CutPlan<'a>,
 }
 
 /// The cuts that a plan makes of so many lines, or the first fault of the plan.

@@ -1,21 +1,18 @@
-ghost use Rattle.std.specs.Prelude.{◌≡◌, ◌++◌, ◌+◌, ◌-◌, ◌<◌, ◌≤◌, [], length, map, IfOk, OnOk, None, option_map};
-ghost use Rattle.std.specs.List.{range_with_len};
+ghost use Rattle.std.specs.Prelude.{◌≡◌, ◌++◌, [], map, IfOk, OnOk, None, option_map};
 ghost use Rattle.std.specs.Option.{option_or};
-ghost use Rattle.prefix_scan.specs.Cut.{Divides};
-ghost use Rattle.moment_sums.specs.Kept.{size_of, values};
 ghost use Rattle.strength.specs.Hull.{IsHullOf};
-ghost use Rattle.seq_report.specs.Cases.{IsReady, before, line_in};
-ghost use Rattle.seq_report.specs.Chunks.{AreOffsets, chunk_of, part_of, parts_before};
-ghost use Rattle.seq_report.specs.Report.{failure_of, line_of, said};
+ghost use Rattle.seq_report.specs.Cases.{IsChunk, IsReady, line_in, lines_in, seen};
+ghost use Rattle.seq_report.specs.Chunks.{part_of};
+ghost use Rattle.seq_report.specs.Report.{failure_of, first_of, line_of, said};
 
-use crate::cases::Case;
-use crate::chunks::change_at;
+use crate::cases::CaseView;
+use crate::chunks::change_behind;
 use crate::lines::write_line;
 use crate::step_lines::StepLine;
 use criteria::{Criterion, Nearby};
 use lift_sequence::Op;
 use moment_sums::Totals;
-use prefix_scan::{Cuts, Monoid};
+use prefix_scan::Monoid;
 use std::alloc::{AllocError, Global};
 use std::marker::Model;
 use strength::Hull;
@@ -74,55 +71,57 @@ impl Section {
     }
 }
 
-/// The lines from `start` to `end`, before which the changes add up to this sum.
-fn make_section(
+/// Lines of a report that follow each other, with what is aboard at the first of them, added up.
+#[derive(Clone, Copy)]
+pub struct Chunk {
+    /// The first of the lines.
+    pub start: u32,
+    /// The line behind the last of them.
+    pub end: u32,
+    /// The sum at the first line.
+    pub first: Totals,
+}
+
+/// The lines of a chunk.
+pub fn make_section(
     alloc: Global,
-    case: &Case,
+    case: CaseView<'_>,
     hull: &Hull,
-    start: u32,
-    end: u32,
-    sum: Totals,
+    chunk: &Chunk,
 ) -> Result<Section, AllocError>
-    requires ready { IsReady case.now }
-    requires of { IsHullOf hull.now case.now.profile.ship }
-    requires some { start < end }
-    requires there { end ≤ length case.now.sequence.ops + 1 }
-    requires sum { values sum ≡ before case.now start }
-    requires size { size_of sum ≤ parts_before start }
+    requires ready { IsReady (seen case) }
+    requires of { IsHullOf hull.now case.profile.now.ship }
+    requires chunk { IsChunk (seen case) chunk.now }
     ensures { IfOk result
-        (λ s. s ≡ part_of (map (line_in case.now) (range_with_len start (end - start)))) }
+        (λ s. s ≡ part_of (map (line_in (seen case.entry)) (lines_in chunk.now))) }
 {
     let mut section = Section::new(alloc);
-    let mut sum = sum;
+    let mut sum = chunk.first;
     let mut near = Nearby::default();
-    for k in start..end {
-        sum = sum.join(&change_at(case, k));
-        let line = StepLine::judged(&case.profile, hull, k, &sum, &mut near);
+    for k in chunk.start..chunk.end {
+        let line = StepLine::judged(case.profile, hull, k, &sum, &mut near);
         section.add(case.lift(k), &line)?;
+        sum = sum.join(&change_behind(case, k));
     }
     Ok(section)
 }
 
-/// The lines of each chunk, by the sum before its first line.
-pub fn sections(
-    alloc: Global,
-    case: &Case,
-    cuts: &Cuts,
-    sums: &[Totals],
-) -> Result<Vec<Section>, AllocError>
-    requires ready { IsReady case.now }
-    requires cut { Divides cuts.now (length case.now.sequence.ops + 1) }
-    requires sums { AreOffsets case.now.profile.ship.frames
-        case.now.arrival.bodies case.now.sequence.steps cuts.now sums.now }
-    ensures { IfOk result (λ made. made.items ≡ map (λ chunk. part_of
-        (map (line_in case.now) (chunk_of cuts.now chunk))) (range_with_len 0 (length cuts.now))) }
+/// The first line of a chunk that fails, with its first criterion.
+pub fn first_failing(case: CaseView<'_>, hull: &Hull, chunk: &Chunk) -> Option<(u32, Criterion)>
+    requires ready { IsReady (seen case) }
+    requires of { IsHullOf hull.now case.profile.now.ship }
+    requires chunk { IsChunk (seen case) chunk.now }
+    ensures { result ≡ first_of (map (line_in (seen case.entry)) (lines_in chunk.now)) }
 {
-    let hull = Hull::new(&case.profile);
-    let mut made = Vec::new(alloc);
-    for chunk in 0..cuts.chunks() {
-        let lines = cuts.range(chunk);
-        let sum = sums[chunk];
-        made.push(make_section(alloc, case, &hull, lines.start, lines.end, sum)?)?;
+    let mut sum = chunk.first;
+    let mut near = Nearby::default();
+    for k in chunk.start..chunk.end {
+        let line = StepLine::judged(case.profile, hull, k, &sum, &mut near);
+        let failure = line.failure();
+        if failure.is_some() {
+            return failure;
+        }
+        sum = sum.join(&change_behind(case, k));
     }
-    Ok(made)
+    None
 }

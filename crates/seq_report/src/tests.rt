@@ -1,11 +1,15 @@
-use crate::{CutPlan, Inputs, RunFault, Summary, Through, report};
+ghost use Rattle.std.specs.Prelude.{◌≤◌};
+
+use crate::{CutPlan, Inputs, Options, RunFault, Summary, Through, first_fail, report};
 use box_ship::{
     BONJEAN, CELLS, EMPTY_PLAN, HYDRO, KN, LIMITS, LOAD_TO_STARBOARD, NO_MOVES, SHIP, TANKS,
 };
+use claim_run::{Open, Workers};
 use ship_profile::ProfileBytes;
-use std::alloc::Global;
 use std::process::Abort;
+use std::sync::Wait;
 use std::test::Fail;
+use std::thread::Threads;
 
 mod cuts;
 mod refusals;
@@ -73,29 +77,54 @@ const STARBOARD_LINE: &str =
 /// Chunks of 256 lines.
 const PLAN: CutPlan<'static> = CutPlan::Every(256);
 
-/// The report of a run, as text, and what it came to, made in the chunks of a plan.
+/// So many workers, 1 to 16, over the chunks of a plan.
+fn options(workers: u8, cuts: CutPlan<'_>) -> Options<'_>
+    requires { (1 ≤ workers) × (workers ≤ 16) }
+{
+    let Some(workers) = Workers::new(workers) else {
+        unreachable!()
+    };
+    Options { workers, cuts }
+}
+
+/// The report of a run, as text, and what it came to, made so. The first step that fails is asked for by itself, too, and is the same.
 fn written_by(
-    alloc: Global,
+    rt: &(impl Abort + AllocGlobal + Threads + Wait + Sync),
     run: &Run<'_>,
-    plan: CutPlan<'_>,
+    options: &Options<'_>,
 ) -> (Result<Summary, RunFault>, Vec<u8>) {
-    let mut taken = Vec::new(alloc);
-    let outcome = report(alloc, &run.inputs(), plan, &mut Through::new(&mut taken));
+    let mut taken = Vec::new(rt.alloc());
+    let outcome = report(
+        rt,
+        rt.alloc(),
+        &Open,
+        &run.inputs(),
+        options,
+        &mut Through::new(&mut taken),
+    );
+    let first = first_fail(rt, rt.alloc(), &Open, &run.inputs(), options);
+    match outcome {
+        Ok(summary) => assert_eq!(rt; first, Ok(summary.first)),
+        Err(fault) => assert_eq!(rt; first, Err(fault)),
+    }
     (outcome, taken)
 }
 
-fn written(alloc: Global, run: &Run<'_>) -> (Result<Summary, RunFault>, Vec<u8>) {
-    written_by(alloc, run, PLAN)
+fn written(
+    rt: &(impl Abort + AllocGlobal + Threads + Wait + Sync),
+    run: &Run<'_>,
+) -> (Result<Summary, RunFault>, Vec<u8>) {
+    written_by(rt, run, &options(2, PLAN))
 }
 
 /// A run in the chunks of a plan is refused so, and nothing is written.
 fn check_refusal_by(
-    rt: &(impl Abort + AllocGlobal),
+    rt: &(impl Abort + AllocGlobal + Threads + Wait + Sync),
     run: &Run<'_>,
     plan: CutPlan<'_>,
     refusal: &str,
 ) -> Result<(), Fail> {
-    let (outcome, text) = written_by(rt.alloc(), run, plan);
+    let (outcome, text) = written_by(rt, run, &options(2, plan));
     assert!(rt; text.is_empty());
     match outcome {
         Ok(_) => assert!(rt; false, "not refused: {refusal}"),
@@ -108,7 +137,7 @@ fn check_refusal_by(
 }
 
 fn check_refusal(
-    rt: &(impl Abort + AllocGlobal),
+    rt: &(impl Abort + AllocGlobal + Threads + Wait + Sync),
     run: &Run<'_>,
     refusal: &str,
 ) -> Result<(), Fail> {
@@ -117,12 +146,12 @@ fn check_refusal(
 
 /// A run in which all steps pass has these lines behind the heading.
 fn check_passes(
-    rt: &(impl Abort + AllocGlobal),
+    rt: &(impl Abort + AllocGlobal + Threads + Wait + Sync),
     run: &Run<'_>,
     steps: u32,
     lines: &str,
 ) -> Result<(), Fail> {
-    let (outcome, text) = written(rt.alloc(), run);
+    let (outcome, text) = written(rt, run);
     let expected = format!(in rt.alloc(); "{HEADER}\n{lines}\nALL PASS\n")?;
     assert_eq!(rt; text.as_slice(), expected.as_bytes());
     let summary = Summary {

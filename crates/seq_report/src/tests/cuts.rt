@@ -1,6 +1,9 @@
 use super::refusals::EMPTY_CELL_OUT;
-use super::{IDLE, Run, check_refusal_by, written_by};
-use crate::{CutPlan, Summary};
+use super::{IDLE, Run, check_refusal_by, options, written_by};
+use crate::{CutPlan, Summary, Through, report};
+use claim_run::Gate;
+use std::sync::atomic::Ordering::SeqCst;
+use std::sync::atomic::{AtomicBool, AtomicU64};
 use std::test::Fail;
 
 /// The container of 20,500 kg to starboard, and then one of 20,500 kg on deck amidships.
@@ -28,16 +31,68 @@ static PLANS: [CutPlan<'static>; 5] = [
 #[test]
 fn two_loads(rt: HostRuntime) {
     for plan in &PLANS {
-        let (outcome, text) = written_by(rt.alloc(), &TWICE, *plan);
-        assert_eq!(rt; text.as_slice(), LINES);
-        assert_eq!(rt;
-            outcome,
-            Ok(Summary {
-                lines: 3,
-                first: None
-            })
-        );
+        for workers in [1, 2, 16] {
+            let (outcome, text) = written_by(&rt, &TWICE, &options(workers, *plan));
+            assert_eq!(rt; text.as_slice(), LINES);
+            assert_eq!(rt;
+                outcome,
+                Ok(Summary {
+                    lines: 3,
+                    first: None
+                })
+            );
+        }
     }
+}
+
+/// How long a worker is held at most.
+const TURNS: u32 = 50_000_000;
+
+/// A gate that holds each run's chunk 0 until its chunk 1 has passed, and notes where it gave up waiting. A report on one thread, or under
+/// one lock from a draw to the chunk's end, would never let it through.
+#[derive(Drop)]
+struct SecondFirst {
+    zeros: AtomicU64,
+    ones: AtomicU64,
+    gave_up: AtomicBool,
+}
+
+impl Gate for SecondFirst {
+    fn pass(&self, _worker: u8, chunk: u32) {
+        if chunk == 1 {
+            self.ones.fetch_add(1, SeqCst);
+        }
+        if chunk == 0 {
+            let runs = self.zeros.fetch_add(1, SeqCst);
+            for _ in 0..TURNS {
+                if self.ones.load(SeqCst) > runs {
+                    return;
+                }
+            }
+            self.gave_up.store(true, SeqCst);
+        }
+    }
+}
+
+#[test]
+fn gated_workers(rt: HostRuntime) {
+    let gate = SecondFirst {
+        zeros: AtomicU64::new(0),
+        ones: AtomicU64::new(0),
+        gave_up: AtomicBool::new(false),
+    };
+    let mut taken = Vec::new(rt.alloc());
+    let outcome = report(
+        &rt,
+        rt.alloc(),
+        &gate,
+        &TWICE.inputs(),
+        &options(2, CutPlan::Every(1)),
+        &mut Through::new(&mut taken),
+    );
+    assert_eq!(rt; taken.as_slice(), LINES);
+    assert!(rt; outcome.is_ok());
+    assert!(rt; !gate.gave_up.load(SeqCst));
 }
 
 /// Plans that don't fit three lines, and what is told of each.

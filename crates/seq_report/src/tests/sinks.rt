@@ -1,7 +1,10 @@
-use super::{IDLE, PLAN};
+use super::{IDLE, PLAN, options};
 use crate::{RunFault, Sink, SinkFailed, Summary, Through, report};
+use claim_run::Open;
 use std::io;
 use std::io::{ErrorKind, Write};
+use std::sync::Wait;
+use std::thread::Threads;
 
 /// A writer that takes `left` bytes, `most` of them a call, and then fails.
 #[derive(Drop)]
@@ -27,6 +30,21 @@ impl<'a> Write for Failing<'a> {
     }
 }
 
+/// What the report of the empty plan comes to, written to this writer.
+fn written_to(
+    rt: &(impl AllocGlobal + Threads + Wait + Sync),
+    writer: Failing<'_>,
+) -> Result<Summary, RunFault> {
+    report(
+        rt,
+        rt.alloc(),
+        &Open,
+        &IDLE.inputs(),
+        &options(2, PLAN),
+        &mut Through::new(writer),
+    )
+}
+
 #[test]
 fn writer_fails_after_seven(rt: HostRuntime) {
     let mut taken = Vec::new(rt.alloc());
@@ -36,7 +54,7 @@ fn writer_fails_after_seven(rt: HostRuntime) {
             left: 7,
             most: 100,
         };
-        report(rt.alloc(), &IDLE.inputs(), PLAN, &mut Through::new(writer))
+        written_to(&rt, writer)
     };
     assert_eq!(rt; outcome, Err(RunFault::Write(7)));
     assert_eq!(rt; taken.as_slice(), b"STEP LI".as_slice());
@@ -56,7 +74,7 @@ fn failing_writers(rt: HostRuntime) {
                     left,
                     most,
                 };
-                report(rt.alloc(), &IDLE.inputs(), PLAN, &mut Through::new(writer))
+                written_to(&rt, writer)
             };
             let expected = if left < 181 {
                 Err(RunFault::Write(left))
@@ -76,7 +94,7 @@ fn failing_writers(rt: HostRuntime) {
         left: 1000,
         most: 0,
     };
-    let outcome = report(rt.alloc(), &IDLE.inputs(), PLAN, &mut Through::new(writer));
+    let outcome = written_to(&rt, writer);
     assert_eq!(rt; outcome, Err(RunFault::Write(0)));
 }
 

@@ -6,7 +6,9 @@ use box_ship::{LIMITS, LOAD_TO_STARBOARD, SHIP};
 use lift_sequence::Op;
 use std::alloc::Global;
 use std::process::Abort;
+use std::sync::Wait;
 use std::test::Fail;
+use std::thread::Threads;
 
 /// `ship.toml` of the box ship with a block of another mass and height.
 fn block(alloc: Global, kg: u32, z: i32) -> Result<String, Fail> {
@@ -16,7 +18,12 @@ fn block(alloc: Global, kg: u32, z: i32) -> Result<String, Fail> {
 }
 
 /// On arrival the box ship with such a block has this line, and passes.
-fn check_block(rt: &(impl Abort + AllocGlobal), kg: u32, z: i32, line: &str) -> Result<(), Fail> {
+fn check_block(
+    rt: &(impl Abort + AllocGlobal + Threads + Wait + Sync),
+    kg: u32,
+    z: i32,
+    line: &str,
+) -> Result<(), Fail> {
     let ship = block(rt.alloc(), kg, z)?;
     let run = Run {
         ship: ship.as_str(),
@@ -27,7 +34,7 @@ fn check_block(rt: &(impl Abort + AllocGlobal), kg: u32, z: i32, line: &str) -> 
 
 /// On arrival the box ship with such a block has this line, and fails this criterion.
 fn check_failing_block(
-    rt: &(impl Abort + AllocGlobal),
+    rt: &(impl Abort + AllocGlobal + Threads + Wait + Sync),
     kg: u32,
     z: i32,
     line: &str,
@@ -39,13 +46,13 @@ fn check_failing_block(
 
 /// On arrival a ship has this line, and fails this criterion.
 fn check_failing(
-    rt: &(impl Abort + AllocGlobal),
+    rt: &(impl Abort + AllocGlobal + Threads + Wait + Sync),
     ship: &str,
     line: &str,
     criterion: Criterion,
 ) -> Result<(), Fail> {
     let run = Run { ship, ..IDLE };
-    let (outcome, text) = written(rt.alloc(), &run);
+    let (outcome, text) = written(rt, &run);
     let code = criterion.code();
     let expected = format!(in rt.alloc(); "{HEADER}\n{line}\nFIRST FAIL 0 {code}\n")?;
     assert_eq!(rt; text.as_slice(), expected.as_bytes());
@@ -189,7 +196,7 @@ fn tank_steps(rt: HostRuntime) -> Result<(), Fail> {
         steps: Some(b"kind,a,b,c\ntank,DB1,500000,\ntank,DB1,0,\n"),
         ..IDLE
     };
-    let (outcome, text) = written(rt.alloc(), &run);
+    let (outcome, text) = written(&rt, &run);
     let filled =
         "1 TDB1 8700000 4168 4243 4243 4243 0 0 31906 51582 19675 1988 35 -1850 0/0;-124537/-1556718750;925/-5601875000;126388/-1510468750;1850/92500000 FAIL C9";
     let emptied =
@@ -224,7 +231,7 @@ fn first_failing_step(rt: HostRuntime) -> Result<(), Fail> {
         steps: Some(b"kind,a,b,c\ntank,DB1,400001,\ntank,DB1,0,\n"),
         ..IDLE
     };
-    let (outcome, text) = written(rt.alloc(), &run);
+    let (outcome, text) = written(&rt, &run);
     let expected =
         b"STEP LIFT KG GM MEAN AFT FWD TRIM LIST A30 A40 A3040 GZ ANGLE CLOSE FRAMES VERDICT\n0 - 11900000 2729 5804 5804 5804 0 0 31509 50888 19379 1958 35 -1800 0/0;450/5625000;900/22500000;1350/50625000;1800/90000000 PASS\n1 TDB1 12300001 OUTSIDE HYDRO\n2 TDB1 11900000 2729 5804 5804 5804 0 0 31509 50888 19379 1958 35 -1800 0/0;450/5625000;900/22500000;1350/50625000;1800/90000000 PASS\nFIRST FAIL 1 C0\n";
     assert_eq!(rt; text.as_slice(), expected.as_slice());

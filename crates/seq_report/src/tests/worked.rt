@@ -5,7 +5,9 @@ use crate::{Criterion, Summary};
 use box_ship::{BONJEAN, KN, LOAD_TO_STARBOARD, NO_MOVES};
 use std::alloc::Global;
 use std::process::Abort;
+use std::sync::Wait;
 use std::test::Fail;
+use std::thread::Threads;
 
 /// 20,500 kg into the cell at 25,000 mm.
 const AFT: &[u8] =
@@ -91,7 +93,10 @@ fn run_on<'a>(ship: &'a str, row: &Row) -> Run<'a> {
 }
 
 /// The report on a row.
-fn check_row(rt: &(impl Abort + AllocGlobal), row: &Row) -> Result<(), Fail> {
+fn check_row(
+    rt: &(impl Abort + AllocGlobal + Threads + Wait + Sync),
+    row: &Row,
+) -> Result<(), Fail> {
     let ship = ship(rt.alloc(), row)?;
     let run = run_on(ship.as_str(), row);
     let lines = row.lines;
@@ -103,7 +108,7 @@ fn check_row(rt: &(impl Abort + AllocGlobal), row: &Row) -> Result<(), Fail> {
         None => String::from_str(rt.alloc(), "ALL PASS")?,
     };
     let expected = format!(in rt.alloc(); "{HEADER}\n{lines}\n{last}\n")?;
-    let (outcome, text) = written(rt.alloc(), &run);
+    let (outcome, text) = written(rt, &run);
     assert_eq!(rt; text.as_slice(), expected.as_bytes());
     let summary = Summary {
         lines: if row.movins.len() == NO_MOVES.len() {

@@ -4,8 +4,8 @@ use Rattle.loadseq.proofs.StopLemmas.{of_line}
 use Rattle.loadseq.proofs.serving.run_words.Goals as goal
 
 pub returns-in-Ok-clause-told : goal.returns-in-Ok-clause-told
-returns-in-Ok-clause-told g c = IfOk-weaker c.check.result _ _ (λ status told. (c.in-Ok.line, c.in-Ok.ensures.ok, told)) c.check.ensures.told
+returns-in-Ok-clause-told g c = IfOk-weaker c.run_line.result _ _ (λ status told. (c.in-Ok.line, c.in-Ok.ensures.ok, told)) c.run_line.ensures.told
 
 pub returns-in-Ok-clause-stopped : goal.returns-in-Ok-clause-stopped
 returns-in-Ok-clause-stopped g c =
-    IfErr-weaker c.check.result _ _ (of_line (g.R.Readers.known c.args.files.now) (map (λ w. w.now) c.args.words.now) c.in-Ok.line c.in-Ok.ensures.ok) c.check.ensures.stopped
+    IfErr-weaker c.run_line.result _ _ (of_line (g.R.Readers.known c.args.files.now) (map (λ w. w.now) c.args.words.now) c.in-Ok.line c.in-Ok.ensures.ok) c.run_line.ensures.stopped

@@ -1,0 +1,49 @@
+use Rattle.std.proofs.Common.{◌∙◌, ◌+◌, ◌-◌, ◌≤◌, map, ap, sym, subst, arith}
+use Rattle.std.specs.List.{range_with_len}
+use Rattle.std.specs.Option.{option_or}
+use Rattle.moment_sums.specs.Bounded.{IsBounded}
+use Rattle.moment_sums.specs.Kept.{values}
+use Rattle.seq_report.specs.Cases.{line_in, seen}
+use Rattle.seq_report.specs.Report.{first_of}
+use Rattle.seq_report.proofs.ChunkLemmas.{first_here, or_other, or_some}
+use Rattle.seq_report.proofs.SumLemmas.{line_told, next_size, next_sum, room_for_next, sum_here}
+use Rattle.seq_report.proofs.sections.first_failing.Goals as goal
+
+pub judged-line-requires-clause-bounded : goal.judged-line-requires-clause-bounded
+judged-line-requires-clause-bounded c =
+    let case = seen c.args.case in
+    let ready = c.requires.ready in
+    let k = c.loop-k.k in
+    subst IsBounded (sym (c.loop-k.invariant.sum ∙ sum_here case ready k)) (ready.bounded k)
+
+pub join-sum-requires : goal.join-sum-requires
+join-sum-requires c =
+    room_for_next (seen c.args.case) c.requires.ready c.loop-k.k (omega (arith, c.loop-k-test.true, c.requires.chunk.inside)) c.loop-k.sum c.change_behind.result
+    c.loop-k.invariant.size c.change_behind.ensures
+
+pub returns-then-is_some : goal.returns-then-is_some
+returns-then-is_some c =
+    let case = seen c.args.case in
+    let k = c.loop-k.k in
+    let e = c.args.chunk.now.end in
+    let told = line_told case c.requires.ready k (values c.loop-k.sum) _ _ c.loop-k.invariant.sum c.judged-line.ensures c.failure-failure.ensures in
+    sym (c.loop-k.invariant.first ∙ first_here case k e c.loop-k-test.true
+    ∙ ap (λ o. option_or o (first_of (map (line_in case) (range_with_len (k + 1) (e - (k + 1)))))) (sym told)
+    ∙ or_some c.failure-failure.result _ (sym c.is_some.ensures ∙ c.if-is_some.true))
+
+pub loop-k-preserved : goal.loop-k-preserved
+loop-k-preserved c =
+    let case = seen c.args.case in
+    let ready = c.requires.ready in
+    let k = c.loop-k.k in
+    let e = c.args.chunk.now.end in
+    let inv = c.loop-k.invariant in
+    let told = line_told case ready k (values c.loop-k.sum) _ _ inv.sum c.judged-line.ensures c.failure-failure.ensures in
+    let inside : k ≤ 120000 = omega (arith, c.loop-k-test.true, c.requires.chunk.inside, ready.few) in
+    record {
+      first = inv.first ∙ first_here case k e c.loop-k-test.true
+          ∙ ap (λ o. option_or o (first_of (map (line_in case) (range_with_len (k + 1) (e - (k + 1)))))) (sym told)
+          ∙ or_other c.failure-failure.result _ (sym c.is_some.ensures ∙ c.if-is_some.false);
+      sum = next_sum case ready k c.loop-k.sum c.change_behind.result c.join-sum.result inv.sum c.change_behind.ensures c.join-sum.ensures;
+      size = next_size case ready k inside c.loop-k.sum c.change_behind.result c.join-sum.result inv.size c.change_behind.ensures c.join-sum.ensures;
+    }

@@ -1,0 +1,85 @@
+ghost use Rattle.std.specs.Prelude.{◌≡◌, ℕ, ◌≤◌, length, false, true, IfOk, IfErr, Ok, Err};
+ghost use Rattle.prefix_scan.specs.declared.divisions.CutFault.{CutFault as CutFaultValue};
+ghost use Rattle.seq_report.specs.Cases.{IsFirstStep, outcome_in, seen};
+ghost use Rattle.seq_report.specs.Plans.{Fits, IsPlanFault};
+ghost use Rattle.seq_report.specs.Refusal.{Outcome, TellsMemory, outcome_of, is_refusal, is_write};
+
+use crate::faults::RunFault;
+use crate::inputs::Inputs;
+use crate::jobs::Lines;
+use crate::plans::Options;
+use crate::prepared::{Prepared, prepare};
+use claim_run::{Gate, Workers, run_least};
+use criteria::Criterion;
+use std::alloc::{AllocError, Global};
+use std::sync::Wait;
+use std::thread::Threads;
+use strength::Hull;
+
+/// The first step that fails, with its criterion, where the least step that fails in any chunk is known.
+fn first_with(lines: &Lines<'_>, least: u32) -> Option<(u32, Criterion)>
+    requires { IsFirstStep (seen lines.now.case) lines.now.cuts.now least }
+    ensures { result ≡ (outcome_in (seen lines.now.case)).summary.first }
+{
+    for chunk in 0..lines.chunks() {
+        if least < lines.cuts.range(chunk as usize).end {
+            return lines.first_in(chunk);
+        }
+    }
+    None
+}
+
+/// The first step that fails, with its criterion. Workers look at the chunks, and leave out those that begin behind a step that is known
+/// to fail.
+fn first_in_chunks<G: Gate, R: Threads + Wait + Sync>(
+    rt: &R,
+    alloc: Global,
+    gate: &G,
+    workers: Workers,
+    lines: &Lines<'_>,
+) -> Result<Option<(u32, Criterion)>, AllocError>
+    ensures { IfOk result (λ first. first ≡ (outcome_in (seen lines.now.case)).summary.first) }
+{
+    match run_least(rt, alloc, gate, workers, lines.chunks(), lines)? {
+        Some(least) => Ok(first_with(lines, least)),
+        None => Ok(None),
+    }
+}
+
+/// The first step that fails, 0 being the condition on arrival, with its first criterion, as the report on the inputs names it; `None` where all
+/// steps pass. It is the same for every number of workers, every gate and every cut, and lines behind a step that is known to fail may be left out.
+///
+/// The inputs are refused in the order profile (F1), bay plan (F2), arrival (F3), movement instruction (F4), steps file
+/// (F9), sequence (F5), and then cuts that don't fit the lines (F6). Out of memory (F7) may stand for any refusal.
+pub fn first_fail<G: Gate, R: Threads + Wait + Sync>(
+    rt: &R,
+    alloc: Global,
+    gate: &G,
+    inputs: &Inputs<'_>,
+    options: &Options<'_>,
+) -> Result<Option<(u32, Criterion)>, RunFault>
+    ensures first { IfOk result (λ first. (outcome : Outcome)
+        × (outcome_of inputs.now ≡ Ok outcome) × (first ≡ outcome.summary.first)
+        × Fits options.now.cuts outcome.summary.lines) }
+    ensures refused { IfErr result (λ e. is_refusal e ≡ true → outcome_of inputs.now ≡ Err e) }
+    ensures unfit { IfErr result (λ e. (fault : CutFaultValue) → e ≡ RunFault.Cuts fault
+        → (outcome : Outcome) × (outcome_of inputs.now ≡ Ok outcome)
+        × IsPlanFault options.now.cuts outcome.summary.lines fault) }
+    ensures silent { is_write result ≡ false }
+    ensures memory { IfErr result TellsMemory }
+{
+    let Prepared { case, cuts, sums } = match prepare(rt, alloc, gate, inputs, options) {
+        Ok(prepared) => prepared,
+        Err(fault) => return Err(fault),
+    };
+    let lines = Lines {
+        case: case.view(),
+        hull: Hull::new(&case.profile),
+        cuts: &cuts,
+        sums: &sums,
+    };
+    match first_in_chunks(rt, alloc, gate, options.workers, &lines) {
+        Ok(first) => Ok(first),
+        Err(AllocError) => Err(RunFault::NoMemory),
+    }
+}
