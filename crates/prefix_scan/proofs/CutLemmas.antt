@@ -1,5 +1,5 @@
 -- Ends of equal chunks.
-use Rattle.std.proofs.Common.{◌≡◌, ℕ, zero, suc, ◌+◌, ◌-◌, ◌*◌, ◌<◌, ◌≤◌, List, [], ◌∷◌, ◌++◌, length, get_or, min, ap, ◌∙◌, sym, subst, refl, arith, length-append, mul-le-mul_right, below_more, add-mul}
+use Rattle.std.proofs.Common.{◌≡◌, ℕ, zero, suc, ◌+◌, ◌-◌, ◌*◌, ◌<◌, ◌≤◌, List, [], ◌∷◌, ◌++◌, length, get_or, min, ap, ◌∙◌, arith, length-append, mul-le-mul_right, below_more, add-mul}
 use Rattle.std.proofs.lemmas.List.{get_or_append_left}
 use Rattle.std.proofs.Math.Seq.{get_or-append_seam}
 use Rattle.prefix_scan.specs.Cut.{start_of, IsRising, Divides, IsEvery}

@@ -1,5 +1,5 @@
 -- What the laws give of folds and sizes.
-use Rattle.std.proofs.Common.{◌≡◌, ℕ, zero, suc, ◌+◌, ◌<◌, ◌≤◌, List, [], ◌∷◌, ◌++◌, length, take, drop, get_or, sum_by, sym, ap, ◌∙◌, refl, arith}
+use Rattle.std.proofs.Common.{◌≡◌, ℕ, zero, suc, ◌+◌, ◌<◌, ◌≤◌, List, [], ◌∷◌, ◌++◌, length, take, sum_by, sym, ap, ◌∙◌, refl, arith}
 use Rattle.std.specs.List.{fold, scan}
 use Rattle.prefix_scan.specs.Laws.{MonoidLaws}
 

@@ -1,5 +1,5 @@
 -- Sums so far, by place.
-use Rattle.std.proofs.Common.{◌≡◌, ℕ, zero, suc, ◌+◌, ◌<◌, ◌≤◌, List, [], ◌∷◌, length, take, get_or, sum_by, ap, ◌∙◌, sym, refl, arith}
+use Rattle.std.proofs.Common.{◌≡◌, ℕ, zero, suc, ◌+◌, ◌<◌, List, [], ◌∷◌, length, take, get_or, ap, ◌∙◌, refl, arith}
 use Rattle.std.specs.List.{fold, scan}
 use Rattle.prefix_scan.specs.Folds.{sums_from}
 

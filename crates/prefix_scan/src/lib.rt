@@ -4,17 +4,21 @@
 //! Nothing here rests on the order of two values: `join` isn't commutative. It knows no ship.
 #![tactic(auto)]
 
+mod counted_joins;
 mod divisions;
 mod folds;
 mod last_values;
 mod monoids;
 mod running_joins;
+mod totals_tree;
+mod tree_rows;
 
 pub use divisions::{CutFault, Cuts};
 pub use folds::{fold, offsets};
 pub use last_values::Last;
 pub use monoids::{MAX_PARTS, Monoid};
 pub use running_joins::Running;
+pub use totals_tree::TotalsTree;
 
 #[cfg(test)]
 mod tests;

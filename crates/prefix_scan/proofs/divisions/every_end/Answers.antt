@@ -1,6 +1,5 @@
-use Rattle.std.proofs.Common.{arith, ◌≡◌, ◌∙◌, ◌++◌, ◌∷◌, [], sym, subst}
-use Rattle.prefix_scan.specs.Cut.{IsEvery}
-use Rattle.prefix_scan.proofs.CutLemmas.{every_done, times_more}
+use Rattle.std.proofs.Common.{arith}
+use Rattle.prefix_scan.proofs.CutLemmas.{every_done}
 use Rattle.prefix_scan.proofs.divisions.every_end.Goals as goal
 
 pub returns : goal.returns

@@ -1,4 +1,4 @@
-use Rattle.std.proofs.Common.{◌≡◌, ℕ, suc, ◌<◌, ◌*◌, ◌+◌, ◌-◌, get_or, length}
+use Rattle.std.proofs.Common.{◌≡◌, ℕ, ◌<◌, ◌*◌, ◌+◌, ◌-◌, get_or, length}
 use Rattle.prefix_scan.proofs.divisions.every_end.Given as goal
 
 abbrev pub invariant-next : goal.invariant-next

@@ -1,4 +1,4 @@
-use Rattle.std.proofs.Common.{rules, arith, take, ap, sym, ◌∙◌, ◌≡◌, ◌<◌, ◌+◌, length}
+use Rattle.std.proofs.Common.{rules, arith, ap, ◌∙◌, ◌≡◌, ◌<◌, ◌+◌, length}
 use Rattle.std.proofs.lemmas.List.Sums.{fold_more, sum_by_more, sum_by_more_le}
 use Rattle.prefix_scan.proofs.FoldLemmas.{scan_more}
 use Rattle.prefix_scan.proofs.folds.offsets.Goals as goal

@@ -1,4 +1,4 @@
-use Rattle.std.proofs.Common.{arith, ◌≡◌, ◌+◌, ◌∙◌, take}
+use Rattle.std.proofs.Common.{arith, ◌+◌, ◌∙◌, take}
 use Rattle.std.proofs.lemmas.List.Sums.{sum_by-take-le}
 use Rattle.prefix_scan.proofs.FoldLemmas.{fold-join}
 use Rattle.prefix_scan.proofs.SumLemmas.{length-sums, sums-at}

@@ -1,0 +1,30 @@
+-- How many rows there are.
+use Rattle.std.proofs.Common.{◌≡◌, ℕ, zero, suc, ◌+◌, ◌*◌, ◌/◌, ◌^◌, ◌<◌, ◌≤◌, arith, ap, mul-le-mul_left, lt_of_not-le, refl}
+use Rattle.std.proofs.Math.Nat.{pow-succ'}
+use Rattle.std.proofs.Math.Pow.{pow_mono}
+use mathlib.Core.Logic.{dite}
+use native.Mathlib.Decide.{dec_le}
+
+pub grow_tall : (n len most : ℕ) → 2 ^ n * len ≤ most → 0 < len → 2 ^ suc n ≤ 2 * most + 1
+grow_tall n len most h some = let one : 1 ≤ len = omega arith in omega (arith, pow-succ' 2 n, mul-le-mul_left (2 ^ n) one)
+
+pub grow_low : (n len most : ℕ) → 2 ^ n * len ≤ most → 2 ^ suc n * (len / 2) ≤ most
+grow_low n len most h =
+    let le : 2 * (len / 2) ≤ len = omega arith in
+    let two = ap (λ p. p * (len / 2)) (pow-succ' 2 n) in
+    omega (arith, two, mul-le-mul_left (2 ^ n) le)
+
+-- with n values of which 2 ^ k is at least as many, there are at most k + 1 rows
+pub few_rows : (rows n k : ℕ) → 2 ^ rows ≤ 2 * n + 1 → n ≤ 2 ^ k → rows ≤ k + 1
+few_rows rows n k tall fits =
+    dite (dec_le rows (k + 1)) (λ le. le) (λ not.
+    let more : suc (suc k) ≤ rows = let lt = lt_of_not-le not in omega arith in
+    let high = pow_mono more in
+    let a = pow-succ' 2 (suc k) in
+    let b = pow-succ' 2 k in
+    let one : 1 ≤ 2 ^ k = pow_mono (let z : 0 ≤ k = omega arith in z) in
+    absurd (omega arith))
+
+pub no_rows : (rows : ℕ) → 2 ^ rows ≤ 1 → rows ≡ 0
+no_rows zero h = refl
+no_rows (suc rows) h = let one : 1 ≤ 2 ^ rows = pow_mono (let z : 0 ≤ rows = omega arith in z) in absurd (omega (arith, pow-succ' 2 rows))

@@ -1,0 +1,30 @@
+-- Bookkeeping: the rows of a tree. Each row has the joins of each two neighbours of the row below it.
+use Rattle.std.specs.Prelude.{◌≡◌, ℕ, zero, suc, ◌+◌, ◌*◌, ◌^◌, ◌<◌, ◌≤◌, List, [], ◌∷◌, length, Vec}
+use Rattle.std.specs.declared.alloc.Global.{Global}
+
+-- each two neighbours joined; a last one that is alone is left out
+abbrev pub paired : {M : Type 0} → (M → M → M) → List M → List M
+paired op [] = []
+paired op (x ∷ []) = []
+paired op (x ∷ y ∷ xs) = op x y ∷ paired op xs
+
+-- so many rows up
+abbrev pub lifted : {M : Type 0} → (M → M → M) → ℕ → List M → List M
+lifted op zero xs = xs
+lifted op (suc l) xs = paired op (lifted op l xs)
+
+-- the row of a number; empty past the last one
+abbrev pub row_at : {M : Type 0} → List (Vec M Global) → ℕ → List M
+row_at [] l = []
+row_at (r ∷ rs) zero = r.items
+row_at (r ∷ rs) (suc l) = row_at rs l
+
+-- the first row is the list
+abbrev pub first_row : {M : Type 0} → List (Vec M Global) → List M
+first_row rows = row_at rows 0
+
+-- each row but the first is the one above the row before it, none is above the last, and each is at most half as long as the one below
+pub record AreRows {M : Type 0} (op : M → M → M) (rows : List (Vec M Global)) : Type 0 where
+  pub each : (l : ℕ) → l < length rows → row_at rows l ≡ lifted op l (first_row rows)
+  pub done : lifted op (length rows) (first_row rows) ≡ []
+  pub tall : 2 ^ length rows ≤ 2 * length (first_row rows) + 1

@@ -1,0 +1,100 @@
+//! Prefixes of a list whose values change.
+ghost use Rattle.std.specs.Prelude.{◌≡◌, ℕ, ◌+◌, ◌^◌, ◌<◌, ◌≤◌, length, sum_by, slice_set, IfOk};
+ghost use Rattle.prefix_scan.specs.Folds.{prefix};
+ghost use Rattle.prefix_scan.specs.Laws.{most_parts};
+
+use crate::monoids::Monoid;
+use crate::tree_rows::{join_first, replace, rows_over};
+use std::alloc::{AllocError, Global};
+use std::marker::Model;
+
+/// A list of values, kept with the joins of its parts, so that a value is changed and a prefix is told with about as many joins as the number of
+/// values has binary digits. It counts those joins.
+///
+/// To its callers it is the list `values` and the number `joins`.
+#[derive(Drop)]
+pub struct TotalsTree<M: Monoid + Drop> {
+    rows: Vec<Vec<M>>,
+    count: u64,
+}
+
+impl<M: Monoid + Drop> Model for TotalsTree<M> {
+    ghost use Rattle.std.specs.Prelude.{◌≤◌, sum_by};
+    ghost use Rattle.prefix_scan.specs.Counted.{Counted};
+    ghost use Rattle.prefix_scan.specs.Laws.{most_parts};
+    ghost use Rattle.prefix_scan.specs.Rows.{AreRows, first_row};
+
+    ghost Value = { Counted M };
+
+    ghost view = { λ t. record { values = first_row t.rows.items; joins = t.count } };
+
+    ghost invariant = { λ t. AreRows M.op t.rows.items
+        × (sum_by M.weight (first_row t.rows.items) ≤ most_parts) };
+}
+
+impl<M: Monoid + Drop> TotalsTree<M> {
+    /// A tree over the values, with a count of 0: the joins made here aren't counted. The sizes of the values add up to at most
+    /// [`crate::MAX_PARTS`]. The one error is out of memory.
+    pub fn build(alloc: Global, values: &[M]) -> Result<TotalsTree<M>, AllocError>
+        requires { sum_by M.weight values.now ≤ most_parts }
+        ensures { IfOk result (λ t. (t.values ≡ values.now) × (t.joins ≡ 0)) }
+    {
+        let rows = rows_over(alloc, values)?;
+        Ok(TotalsTree { rows, count: 0 })
+    }
+
+    /// How many values there are.
+    pub fn len(&self) -> usize
+        ensures { result ≡ length self.now.values }
+    {
+        match self.rows.first() {
+            Some(row) => row.len(),
+            None => 0,
+        }
+    }
+
+    /// How many joins `set` and `prefix` have made since the tree was built, up to the greatest number of the type.
+    pub fn joins(&self) -> u64
+        ensures { result ≡ self.now.joins }
+    {
+        self.count
+    }
+
+    /// Puts a value in the place of the `i`-th. The sizes of the values that are then in the list add up to at most [`crate::MAX_PARTS`].
+    ///
+    /// The count never falls, and where there are at most 2^k values it rises by at most k + 1.
+    pub fn set(&mut self, i: usize, value: M)
+        requires within { i < length self.old.values }
+        requires sizes { sum_by M.weight (slice_set self.old.values i value) ≤ most_parts }
+        ensures values { self.new.values ≡ slice_set self.old.values i value }
+        ensures grows { self.old.joins ≤ self.new.joins }
+        ensures cost { (k : ℕ) → length self.old.values ≤ 2 ^ k
+            → self.new.joins ≤ self.old.joins + (k + 1) }
+    {
+        replace(&mut self.rows, i, value, &mut self.count);
+    }
+
+    /// The first `i` values joined in their order; the unit where `i` is 0.
+    ///
+    /// The count never falls, and where there are at most 2^k values it rises by at most k + 1. Where there is no value it stays.
+    pub fn prefix(&mut self, i: usize) -> M
+        requires { i ≤ length self.old.values }
+        ensures value { result ≡ prefix M.empty M.op self.old.values i }
+        ensures values { self.new.values ≡ self.old.values }
+        ensures grows { self.old.joins ≤ self.new.joins }
+        ensures cost { (k : ℕ) → length self.old.values ≤ 2 ^ k
+            → self.new.joins ≤ self.old.joins + (k + 1) }
+        ensures empty { length self.old.values ≡ 0 → self.new.joins ≡ self.old.joins }
+    {
+        join_first(&self.rows, i, &mut self.count)
+    }
+
+    /// As [`TotalsTree::prefix`], for whoever has the tree only to read; its joins aren't counted.
+    pub fn peek(&self, i: usize) -> M
+        requires { i ≤ length self.now.values }
+        ensures { result ≡ prefix M.empty M.op self.now.values i }
+    {
+        let mut uncounted = 0;
+        join_first(&self.rows, i, &mut uncounted)
+    }
+}

@@ -1,0 +1,89 @@
+//! The rows of a tree: the first is the list of values, and each other has the joins of each two neighbours of the row below it. A value that
+//! is alone at the end of a row is left out of the row above.
+ghost use Rattle.std.specs.Prelude.{◌≡◌, ℕ, ◌+◌, ◌<◌, ◌≤◌, length, sum_by, slice_set, IfOk};
+ghost use Rattle.prefix_scan.specs.Folds.{prefix};
+ghost use Rattle.prefix_scan.specs.Laws.{most_parts};
+ghost use Rattle.prefix_scan.specs.Rows.{paired, first_row, AreRows};
+
+use crate::counted_joins::counted_join;
+use crate::monoids::Monoid;
+use std::alloc::{AllocError, Global};
+
+/// The row above a row.
+fn row_above<M: Monoid + Drop>(alloc: Global, row: &[M]) -> Result<Vec<M>, AllocError>
+    requires { sum_by M.weight row.now ≤ most_parts }
+    ensures { IfOk result (λ v. v.items ≡ paired M.op row.now) }
+{
+    let mut joined = Vec::with_capacity(alloc, row.len() / 2)?;
+    for k in 0..row.len() / 2 {
+        joined.push(row[2 * k].join(&row[2 * k + 1]))?;
+    }
+    Ok(joined)
+}
+
+/// The same values in a list of their own.
+pub fn copied<M: Monoid + Drop>(alloc: Global, values: &[M]) -> Result<Vec<M>, AllocError>
+    ensures { IfOk result (λ v. v.items ≡ values.now) }
+{
+    values.iter().copied().collect(alloc)
+}
+
+/// All rows over a list, the list itself first. None for the empty list. The joins aren't counted.
+pub fn rows_over<M: Monoid + Drop>(alloc: Global, values: &[M]) -> Result<Vec<Vec<M>>, AllocError>
+    requires { sum_by M.weight values.now ≤ most_parts }
+    ensures { IfOk result (λ v. AreRows M.op v.items × (first_row v.items ≡ values.now)) }
+{
+    let mut rows = Vec::new(alloc);
+    let mut row = copied(alloc, values)?;
+    'up: while !row.is_empty() {
+        let next = row_above(alloc, &row)?;
+        rows.push(row)?;
+        row = next;
+    }
+    Ok(rows)
+}
+
+/// The first `i` values of the list joined in their order, with at most one join for each row. One value of a row is read where the part of the
+/// list that is left has an odd number of values of that row.
+pub fn join_first<M: Monoid + Drop>(rows: &[Vec<M>], i: usize, count: &mut u64) -> M
+    requires rows { AreRows M.op rows.now }
+    requires sizes { sum_by M.weight (first_row rows.now) ≤ most_parts }
+    requires within { i ≤ length (first_row rows.now) }
+    ensures value { result ≡ prefix M.empty M.op (first_row rows.now) i }
+    ensures grows { count.old ≤ count.new }
+    ensures cost { count.new ≤ count.old + length rows.now }
+{
+    let mut at = i;
+    let mut after = M::unit();
+    for row in rows {
+        if at % 2 == 1 {
+            after = counted_join(count, &row[at - 1], &after);
+        }
+        at /= 2;
+    }
+    after
+}
+
+/// Puts a value in the place of the `i`-th, and renews the one value of each row above that it shows in, up to the row where it stands alone at
+/// the end.
+pub fn replace<M: Monoid + Drop>(rows: &mut [Vec<M>], i: usize, value: M, count: &mut u64)
+    requires rows { AreRows M.op rows.old }
+    requires within { i < length (first_row rows.old) }
+    requires sizes { sum_by M.weight (slice_set (first_row rows.old) i value) ≤ most_parts }
+    ensures rows { AreRows M.op rows.new }
+    ensures list { first_row rows.new ≡ slice_set (first_row rows.old) i value }
+    ensures grows { count.old ≤ count.new }
+    ensures cost { count.new ≤ count.old + length rows.old }
+{
+    let mut at = i;
+    let mut value = value;
+    for row in rows.iter_mut() {
+        row[at] = value;
+        let left = at / 2 * 2;
+        if left + 1 >= row.len() {
+            return;
+        }
+        value = counted_join(count, &row[left], &row[left + 1]);
+        at /= 2;
+    }
+}
