@@ -1,5 +1,5 @@
 -- Ends of equal chunks.
-use Rattle.std.proofs.Common.{◌≡◌, ℕ, zero, suc, ◌+◌, ◌-◌, ◌*◌, ◌<◌, ◌≤◌, List, [], ◌∷◌, ◌++◌, length, get_or, min, ap, ◌∙◌, arith, length-append, mul-le-mul_right, below_more, add-mul}
+use Rattle.std.proofs.Common.{◌≡◌, ℕ, zero, suc, ◌+◌, ◌-◌, ◌*◌, ◌<◌, ◌≤◌, List, sym, [], ◌∷◌, ◌++◌, length, get_or, min, ap, ◌∙◌, arith, length-append, mul-le-mul_right, below_more, add-mul}
 use Rattle.std.proofs.lemmas.List.{get_or_append_left}
 use Rattle.std.proofs.Math.Seq.{get_or-append_seam}
 use Rattle.prefix_scan.specs.Cut.{start_of, IsRising, Divides, IsEvery}
@@ -43,10 +43,24 @@ every_done n len at ends some is short near each =
       each = every_place;
     }
 
-rises_to : (ends : List ℕ) → IsRising ends → (j k : ℕ) → k + j ≡ length ends → start_of ends k ≤ start_of ends (length ends)
-rises_to ends up zero k e = let same : k ≡ length ends = omega arith in let h = ap (start_of ends) same in omega arith
-rises_to ends up (suc j) k e = let here = up k (omega arith) in let later = rises_to ends up j (suc k) (omega arith) in omega arith
+rises_by : (ends : List ℕ) → IsRising ends → (j k last : ℕ) → k + j ≡ last → last ≤ length ends → start_of ends k ≤ start_of ends last
+rises_by ends up zero k last e h = let same : k ≡ last = omega arith in let le = ap (start_of ends) same in omega arith
+rises_by ends up (suc j) k last e h = let here = up k (omega arith) in let later = rises_by ends up j (suc k) last (omega arith) h in omega arith
+
+-- a chunk begins where an earlier one does or later
+pub rises_to : (ends : List ℕ) (k last : ℕ) → IsRising ends → k ≤ last → last ≤ length ends → start_of ends k ≤ start_of ends last
+rises_to ends k last up le h = rises_by ends up (last - k) k last (omega arith) h
 
 -- where a chunk begins or ends, the list hasn't ended before
 pub start_within : (ends : List ℕ) (len k : ℕ) → Divides ends len → k ≤ length ends → start_of ends k ≤ len
-start_within ends len k d h = let w = d.whole in let r = rises_to ends d.rising (length ends - k) k (omega arith) in omega arith
+start_within ends len k d h = let w = d.whole in let r = rises_to ends k (length ends) d.rising h (omega arith) in omega arith
+
+-- the last chunk begins within a list that the cuts divide, or that is one shorter
+pub last_start_within : (ends : List ℕ) (len n : ℕ) → Divides ends len → len ≤ n + 1 → start_of ends (length ends - 1) ≤ n
+last_start_within ends len n d h =
+    let last = length ends - 1 in
+    let some = d.some in
+    let rise = d.rising last (omega arith) in
+    let count : length ends ≡ last + 1 = omega arith in
+    let top = sym (start_of-more ends last) ∙ ap (start_of ends) (sym count) ∙ d.whole in
+    omega arith

@@ -4,4 +4,5 @@ pub mod HeightLemmas
 pub mod PairLemmas
 pub mod ReachLemmas
 pub mod RowLemmas
+pub mod StoredLemmas
 pub mod SumLemmas

@@ -1,6 +1,7 @@
 -- What the row above a row keeps of it.
 use Rattle.std.proofs.Common.{◌≡◌, ℕ, zero, suc, ◌+◌, ◌*◌, ◌/◌, ◌%◌, ◌<◌, ◌≤◌, List, [], ◌∷◌, length, take, set, get_or, sum_by, sym, ap, ◌∙◌, refl, subst, arith, ⊎_elim, get_or-set_same, get_or-set_other}
 use Rattle.std.proofs.Math.Nat.{eq-or-lt_of_le}
+use Rattle.std.proofs.lemmas.List.{set_past}
 use Rattle.std.proofs.lemmas.List.Sums.{sum_by_more, sum_by_more_le}
 use Rattle.std.specs.List.{fold}
 use mathlib.Core.Logic.{dite}
@@ -44,11 +45,6 @@ paired-set_odd op d v (x ∷ y ∷ xs) (suc k) zero e = absurd (omega arith)
 paired-set_odd op d v (x ∷ y ∷ xs) (suc k) (suc zero) e = absurd (omega arith)
 paired-set_odd op d v (x ∷ y ∷ xs) (suc k) (suc (suc i)) e = ap (λ l. op x y ∷ l) (paired-set_odd op d v xs k i (omega arith))
 
-pub set_past : {M : Type 0} (v : M) (xs : List M) (k : ℕ) → length xs ≤ k → set xs k v ≡ xs
-set_past v [] k h = refl
-set_past v (x ∷ xs) zero h = absurd (omega arith)
-set_past v (x ∷ xs) (suc k) h = ap (λ l. x ∷ l) (set_past v xs k (omega arith))
-
 -- rows that are equal are equal from there up
 pub lifted_same : {M : Type 0} (op : M → M → M) (xs ys : List M) (a l : ℕ) → lifted op a xs ≡ lifted op a ys → a ≤ l → lifted op l xs ≡ lifted op l ys
 lifted_same op xs ys a zero e h = let z : a ≡ 0 = omega arith in subst (λ n. lifted op n xs ≡ lifted op n ys) z e
@@ -81,9 +77,9 @@ paired-alone op v xs at alone =
     let h = at / 2 in
     let short : length (paired op xs) ≤ h = omega (arith, length-paired op xs) in
     dite (ℕ_discrete (at % 2) 0)
-    (λ no. paired-set_even op v v xs h at (omega arith) ∙ set_past (op v (get_or xs (suc at) v)) (paired op xs) h short)
+    (λ no. paired-set_even op v v xs h at (omega arith) ∙ set_past (paired op xs) h (op v (get_or xs (suc at) v)) short)
     (λ yes. let e : at ≡ suc (2 * h) = omega arith in
-    ap (λ n. paired op (set xs n v)) e ∙ paired-set_odd op v v xs h (2 * h) refl ∙ set_past (op (get_or xs (2 * h) v) v) (paired op xs) h short)
+    ap (λ n. paired op (set xs n v)) e ∙ paired-set_odd op v v xs h (2 * h) refl ∙ set_past (paired op xs) h (op (get_or xs (2 * h) v) v) short)
 
 module _ {M : Type 0} {most : ℕ} {empty : M} {op : M → M → M} {weight : M → ℕ} (laws : MonoidLaws most empty op weight) where
   pub paired-weight : (xs : List M) → sum_by weight xs ≤ most → sum_by weight (paired op xs) ≤ sum_by weight xs

@@ -1,5 +1,6 @@
 -- Rows by their numbers, and rows that were renewed from the first one up.
 use Rattle.std.proofs.Common.{◌≡◌, ℕ, zero, suc, ◌+◌, ◌*◌, ◌^◌, ◌<◌, ◌≤◌, List, [], ◌∷◌, ◌++◌, length, set, get_or, sym, ap, ◌∙◌, refl, subst, arith, lt_of_not-le}
+use Rattle.std.proofs.lemmas.List.{nil_from_length}
 use Rattle.std.specs.Prelude.{Vec}
 use Rattle.std.specs.declared.alloc.Global.{Global}
 use mathlib.Core.Logic.{dite}
@@ -33,12 +34,8 @@ row_at-before [] r l h = absurd (omega arith)
 row_at-before (x ∷ rs) r zero h = refl
 row_at-before (x ∷ rs) r (suc l) h = row_at-before rs r l (omega arith)
 
-pub no_items : {A : Type 0} (xs : List A) → length xs ≡ 0 → xs ≡ []
-no_items [] h = refl
-no_items (x ∷ xs) h = absurd (omega arith)
-
 pub first_is : {M : Type 0} (op : M → M → M) (xs : List M) (rows : List (Vec M Global)) → ((k : ℕ) → k < length rows → row_at rows k ≡ lifted op k xs) → length (lifted op (length rows) xs) ≡ 0 → row_at rows 0 ≡ xs
-first_is op xs [] each none = sym (no_items xs none)
+first_is op xs [] each none = sym (nil_from_length xs none)
 first_is op xs (r ∷ rs) each none = each 0 (omega arith)
 
 -- rows that were renewed up to the row l, above which nothing changes

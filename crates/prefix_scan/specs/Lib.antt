@@ -5,3 +5,4 @@ pub mod Lasts
 pub mod Laws
 pub mod Printed
 pub mod Rows
+pub mod Stored

@@ -1,5 +1,5 @@
 ghost use Rattle.std.specs.Prelude.{◌≡◌, ◌<◌, length, slice_index, IfOk, IfErr};
-ghost use Rattle.prefix_scan.specs.Cut.{Divides, IsEvery, IsFault, IsFaultOfEvery, start_of};
+ghost use Rattle.prefix_scan.specs.Cut.{Divides, IsEvery, IsFault, IsFaultOfEvery, IsRising, start_of};
 
 use std::alloc::{AllocError, Global};
 use std::error::Error;
@@ -135,5 +135,12 @@ impl Cuts {
     {
         let start = if i == 0 { 0 } else { self.ends[i - 1] };
         start..self.ends[i]
+    }
+    /// The ends of the chunks, each above the one before it.
+    pub(crate) fn ends(&self) -> &[u32]
+        ensures items { result.now ≡ self.now }
+        ensures rising { IsRising self.now }
+    {
+        &self.ends
     }
 }

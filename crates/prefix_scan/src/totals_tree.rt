@@ -4,6 +4,7 @@ ghost use Rattle.prefix_scan.specs.Folds.{prefix};
 ghost use Rattle.prefix_scan.specs.Laws.{most_parts};
 
 use crate::monoids::Monoid;
+use crate::prefixes::Prefixes;
 use crate::tree_rows::{join_first, replace, rows_over};
 use std::alloc::{AllocError, Global};
 use std::marker::Model;
@@ -96,5 +97,17 @@ impl<M: Monoid + Drop> TotalsTree<M> {
     {
         let mut uncounted = 0;
         join_first(&self.rows, i, &mut uncounted)
+    }
+}
+
+impl<M: Monoid + Drop> Prefixes<M> for TotalsTree<M> {
+    ghost values = { λ t. t.values };
+
+    fn len(&self) -> usize {
+        TotalsTree::len(self)
+    }
+
+    fn prefix(&mut self, i: usize) -> M {
+        TotalsTree::prefix(self, i)
     }
 }

@@ -38,7 +38,7 @@ counted_join-after-requires g c =
     let items : c.row-item.result.items ≡ row = ap (λ (v : _). v.items) c.row-item.is ∙ is in
     let half : at - 1 ≡ 2 * (at / 2) = omega arith in
     let read : c.index.result.now ≡ get_or row (2 * (at / 2)) m.empty = c.index.ensures ∙ get_or_default c.row-item.result.items (at - 1) c.index.result.now m.empty (omega (arith, reached.within, ap length items)) ∙ ap (λ (t : List g.row.M.Denot × ℕ). get_or t.0 t.1 m.empty) (λ i. (items i, half i)) in
-    omega (arith, odd-fits g.met.M.Monoid.laws row at (at / 2) c.loop-row.after _ (omega arith) reached, ap m.weight read)
+    omega (arith, odd-fits g.met.M.Monoid.laws row at (at / 2) c.loop-row.after (fold m.op m.empty (take c.args.i (first_row rows))) (omega arith) reached, ap m.weight read)
 
 pub loop-row-preserved : goal.loop-row-preserved
 loop-row-preserved g c =
@@ -80,4 +80,4 @@ returns-clause-value g c =
     let rows = c.args.rows.now in
     let all : c.loop-row.row-index ≡ length rows = omega arith in
     let none : lifted m.op c.loop-row.row-index (first_row rows) ≡ [] = ap (λ n. lifted m.op n (first_row rows)) all ∙ c.requires.rows.done in
-    ends g.met.M.Monoid.laws c.loop-row.at c.loop-row.after _ (subst (λ (k : List g.row.M.Denot). Reached g.met.M.Monoid.laws k c.loop-row.at c.loop-row.after (fold m.op m.empty (take c.args.i (first_row rows)))) none c.loop-row.invariant.reached)
+    ends g.met.M.Monoid.laws c.loop-row.at c.loop-row.after (fold m.op m.empty (take c.args.i (first_row rows))) (subst (λ (k : List g.row.M.Denot). Reached g.met.M.Monoid.laws k c.loop-row.at c.loop-row.after (fold m.op m.empty (take c.args.i (first_row rows)))) none c.loop-row.invariant.reached)

@@ -1,9 +1,10 @@
 use Rattle.std.proofs.Common.{rules, arith, ◌≡◌, ℕ, suc, ◌+◌, ◌*◌, ◌/◌, ◌<◌, ◌≤◌, ◌^◌, length, ap, ◌∙◌, sym, subst, List, [], ◌++◌, ◌∷◌, below_more, length-append}
+use Rattle.std.proofs.lemmas.List.{nil_from_length}
 use Rattle.std.proofs.lemmas.Grind.{common_steps}
 use Rattle.std.specs.List.{sum_by}
 use Rattle.prefix_scan.specs.Rows.{paired, lifted, row_at, first_row}
 use Rattle.prefix_scan.proofs.PairLemmas.{lifted-weight, length-paired}
-use Rattle.prefix_scan.proofs.RowLemmas.{row_at-more, row_at-before, first_is, no_items}
+use Rattle.prefix_scan.proofs.RowLemmas.{row_at-more, row_at-before, first_is}
 use Rattle.prefix_scan.proofs.HeightLemmas.{grow_tall, grow_low}
 use Rattle.prefix_scan.proofs.tree_rows.rows_over.Goals as goal
 
@@ -66,7 +67,7 @@ returns g c =
     let inv = c.up.invariant in
     let none : length row.items ≡ 0 = grind (rules, common_steps, row.ok) in
     let first : first_row rows ≡ xs = first_is m.op xs rows inv.each (ap length (sym inv.next) ∙ none) in
-    let done : lifted m.op (length rows) xs ≡ [] = no_items _ (ap length (sym inv.next) ∙ none) in (
+    let done : lifted m.op (length rows) xs ≡ [] = nil_from_length (lifted m.op (length rows) xs) (ap length (sym inv.next) ∙ none) in (
       record {
         each = λ k h. inv.each k h ∙ ap (lifted m.op k) (sym first);
         done = ap (lifted m.op (length rows)) first ∙ done;
