@@ -1,5 +1,6 @@
 -- What the laws give of folds and sizes.
-use Rattle.std.proofs.Common.{◌≡◌, ℕ, zero, suc, ◌+◌, ◌<◌, ◌≤◌, List, [], ◌∷◌, ◌++◌, length, take, sum_by, sym, ap, ◌∙◌, refl, arith}
+use Rattle.std.proofs.Common.{◌≡◌, ℕ, zero, suc, ◌+◌, ◌<◌, ◌≤◌, List, [], ◌∷◌, ◌++◌, length, take, set, sum_by, sym, ap, ◌∙◌, refl, arith}
+use Rattle.std.proofs.lemmas.List.Sums.{sum_by-set}
 use Rattle.std.specs.List.{fold, scan}
 use Rattle.prefix_scan.specs.Laws.{MonoidLaws}
 
@@ -10,6 +11,10 @@ weighed_from w a (x ∷ xs) = omega (arith, weighed_from w (a + w x) xs, weighed
 
 pub sum_by-cons : {M : Type 0} (w : M → ℕ) (x : M) (xs : List M) → sum_by w (x ∷ xs) ≡ w x + sum_by w xs
 sum_by-cons w x xs = omega (arith, weighed_from w (0 + w x) xs)
+
+-- a new value in a place adds at most its own size
+pub sum_by-set_le : {M : Type 0} (w : M → ℕ) (xs : List M) (i : ℕ) (y : M) → i < length xs → sum_by w (set xs i y) ≤ sum_by w xs + w y
+sum_by-set_le w xs i y h = omega (arith, sum_by-set w xs i y y h)
 
 scan_suc : {M : Type 0} (op : M → M → M) (a : M) (xs : List M) (i : ℕ) → i < length xs → scan op (λ s x. s) a (take (suc i) xs) ≡ scan op (λ s x. s) a (take i xs) ++ fold op a (take i xs) ∷ []
 scan_suc op a [] i h = absurd (omega arith)

@@ -1,6 +1,10 @@
+ghost use Rattle.std.specs.Prelude.{◌≡◌};
+
 use crate::{CutFault, Cuts, Last, MAX_PARTS, Monoid, Running, fold, offsets};
 use std::alloc::Global;
 use std::test::Fail;
+
+mod trees;
 
 /// Three values of one part each. Joined in their order they are 3; joined in the reverse order they would be 1.
 static VALUES: [Last; 3] = [
@@ -19,7 +23,9 @@ static VALUES: [Last; 3] = [
 ];
 
 /// The value that so many parts are joined to.
-fn joined(value: Option<u32>, parts: u32) -> Last {
+fn joined(value: Option<u32>, parts: u32) -> Last
+    ensures { result.parts ≡ parts }
+{
     Last { value, parts }
 }
 
