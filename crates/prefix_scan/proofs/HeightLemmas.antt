@@ -1,4 +1,4 @@
--- How many rows there are.
+-- How many rows there are, and how the count of joins rises.
 use Rattle.std.proofs.Common.{◌≡◌, ℕ, zero, suc, ◌+◌, ◌*◌, ◌/◌, ◌^◌, ◌<◌, ◌≤◌, arith, ap, mul-le-mul_left, lt_of_not-le, refl}
 use Rattle.std.proofs.Math.Nat.{pow-succ'}
 use Rattle.std.proofs.Math.Pow.{pow_mono}
@@ -28,3 +28,7 @@ few_rows rows n k tall fits =
 pub no_rows : (rows : ℕ) → 2 ^ rows ≤ 1 → rows ≡ 0
 no_rows zero h = refl
 no_rows (suc rows) h = let one : 1 ≤ 2 ^ rows = pow_mono (let z : 0 ≤ rows = omega arith in z) in absurd (omega (arith, pow-succ' 2 rows))
+
+-- with one more join below its greatest value the count is above every earlier one that was below it
+pub count_rises : (before old new most : ℕ) → before ≤ old → before < most → (old < most → new ≡ old + 1) → old ≤ new → before < new
+count_rises before old new most le low one grows = dite (dec_le most old) (λ full. omega arith) (λ not. let more = one (lt_of_not-le not) in omega arith)

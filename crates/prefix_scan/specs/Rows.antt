@@ -23,7 +23,8 @@ row_at (r ∷ rs) (suc l) = row_at rs l
 abbrev pub first_row : {M : Type 0} → List (Vec M Global) → List M
 first_row rows = row_at rows 0
 
--- each row but the first is the one above the row before it, none is above the last, and each is at most half as long as the one below
+-- each row but the first is the one above the row before it, none is above the last, and they are few: two to the power of their number is at
+-- most one more than twice the length of the list
 pub record AreRows {M : Type 0} (op : M → M → M) (rows : List (Vec M Global)) : Type 0 where
   pub each : (l : ℕ) → l < length rows → row_at rows l ≡ lifted op l (first_row rows)
   pub done : lifted op (length rows) (first_row rows) ≡ []

@@ -1,5 +1,5 @@
 //! What comes before each chunk.
-ghost use Rattle.std.specs.Prelude.{◌≡◌, ℕ, ◌-◌, ◌<◌, ◌≤◌, length, slice_index_or, IfOk, vec_len};
+ghost use Rattle.std.specs.Prelude.{◌≡◌, ℕ, ◌-◌, ◌<◌, ◌≤◌, length, slice_index_or, IfOk};
 ghost use Rattle.prefix_scan.specs.Cut.{start_of};
 ghost use Rattle.prefix_scan.specs.Folds.{prefix};
 
@@ -17,9 +17,10 @@ pub fn offsets_tree<M: Monoid + Drop>(
     cuts: &Cuts,
 ) -> Result<Vec<M>, AllocError>
     requires { start_of cuts.now (length cuts.now - 1) ≤ length tree.now.values }
-    ensures count { IfOk result (λ v. vec_len v ≡ length cuts.now) }
+    ensures count { IfOk result (λ v. length v.items ≡ length cuts.now) }
     ensures each { IfOk result (λ v. (c : ℕ) (d : _) → c < length cuts.now
-        → slice_index_or v.items c d ≡ prefix M.empty M.op tree.now.values (start_of cuts.now c)) }
+        → slice_index_or v.items c d
+        ≡ prefix M.empty M.op tree.now.values (start_of cuts.now c)) }
 {
     let ends = cuts.ends();
     let mut all = Vec::with_capacity(alloc, ends.len())?;

@@ -1,5 +1,5 @@
 //! A scan over the values of any monoid that tells their sizes, in the order in which they stand: what they are joined to, what those before
-//! each are joined to, and where a list is cut into chunks.
+//! each are joined to, and where a list is cut into chunks. A tree tells the same of a list whose values change, and counts its joins.
 //!
 //! Nothing here rests on the order of two values: `join` isn't commutative. It knows no ship.
 #![tactic(auto)]

@@ -1,5 +1,5 @@
 //! Prefixes of a list whose values change.
-ghost use Rattle.std.specs.Prelude.{◌≡◌, ℕ, ◌+◌, ◌^◌, ◌<◌, ◌≤◌, length, sum_by, slice_set, IfOk};
+ghost use Rattle.std.specs.Prelude.{◌≡◌, ℕ, ◌+◌, ◌-◌, ◌^◌, ◌<◌, ◌≤◌, length, sum_by, slice_set, IfOk};
 ghost use Rattle.prefix_scan.specs.Folds.{prefix};
 ghost use Rattle.prefix_scan.specs.Laws.{most_parts};
 
@@ -63,7 +63,8 @@ impl<M: Monoid + Drop> TotalsTree<M> {
 
     /// Puts a value in the place of the `i`-th. The sizes of the values that are then in the list add up to at most [`crate::MAX_PARTS`].
     ///
-    /// The count never falls, and where there are at most 2^k values it rises by at most k + 1.
+    /// The count never falls, and where there are at most 2^k values it rises by at most k + 1. Below the greatest number of its type it rises,
+    /// unless the value is the last one.
     pub fn set(&mut self, i: usize, value: M)
         requires within { i < length self.old.values }
         requires sizes { sum_by M.weight (slice_set self.old.values i value) ≤ most_parts }
@@ -71,13 +72,16 @@ impl<M: Monoid + Drop> TotalsTree<M> {
         ensures grows { self.old.joins ≤ self.new.joins }
         ensures cost { (k : ℕ) → length self.old.values ≤ 2 ^ k
             → self.new.joins ≤ self.old.joins + (k + 1) }
+        ensures counted { i + 1 < length self.old.values → self.old.joins < 2 ^ 64 - 1
+            → self.old.joins < self.new.joins }
     {
         replace(&mut self.rows, i, value, &mut self.count);
     }
 
     /// The first `i` values joined in their order; the unit where `i` is 0.
     ///
-    /// The count never falls, and where there are at most 2^k values it rises by at most k + 1. Where there is no value it stays.
+    /// The count never falls, and where there are at most 2^k values it rises by at most k + 1. Below the greatest number of its type it rises,
+    /// unless `i` is 0. Where there is no value it stays.
     pub fn prefix(&mut self, i: usize) -> M
         requires { i ≤ length self.old.values }
         ensures value { result ≡ prefix M.empty M.op self.old.values i }
@@ -85,6 +89,7 @@ impl<M: Monoid + Drop> TotalsTree<M> {
         ensures grows { self.old.joins ≤ self.new.joins }
         ensures cost { (k : ℕ) → length self.old.values ≤ 2 ^ k
             → self.new.joins ≤ self.old.joins + (k + 1) }
+        ensures counted { 0 < i → self.old.joins < 2 ^ 64 - 1 → self.old.joins < self.new.joins }
         ensures empty { length self.old.values ≡ 0 → self.new.joins ≡ self.old.joins }
     {
         join_first(&self.rows, i, &mut self.count)

@@ -1,6 +1,6 @@
 //! The rows of a tree: the first is the list of values, and each other has the joins of each two neighbours of the row below it. A value that
 //! is alone at the end of a row is left out of the row above.
-ghost use Rattle.std.specs.Prelude.{◌≡◌, ℕ, ◌+◌, ◌<◌, ◌≤◌, length, sum_by, slice_set, IfOk};
+ghost use Rattle.std.specs.Prelude.{◌≡◌, ℕ, ◌+◌, ◌-◌, ◌^◌, ◌<◌, ◌≤◌, length, sum_by, slice_set, IfOk};
 ghost use Rattle.prefix_scan.specs.Folds.{prefix};
 ghost use Rattle.prefix_scan.specs.Laws.{most_parts};
 ghost use Rattle.prefix_scan.specs.Rows.{paired, first_row, AreRows};
@@ -43,8 +43,8 @@ pub fn rows_over<M: Monoid + Drop>(alloc: Global, values: &[M]) -> Result<Vec<Ve
     Ok(rows)
 }
 
-/// The first `i` values of the list joined in their order, with at most one join for each row. One value of a row is read where the part of the
-/// list that is left has an odd number of values of that row.
+/// The first `i` values of the list joined in their order, with at most one join for each row: where the values of a row that are left to join are
+/// odd in number, the last of them is joined before all that was joined so far, and the others are joined two by two in the row above.
 pub fn join_first<M: Monoid + Drop>(rows: &[Vec<M>], i: usize, count: &mut u64) -> M
     requires rows { AreRows M.op rows.now }
     requires sizes { sum_by M.weight (first_row rows.now) ≤ most_parts }
@@ -52,6 +52,7 @@ pub fn join_first<M: Monoid + Drop>(rows: &[Vec<M>], i: usize, count: &mut u64) 
     ensures value { result ≡ prefix M.empty M.op (first_row rows.now) i }
     ensures grows { count.old ≤ count.new }
     ensures cost { count.new ≤ count.old + length rows.now }
+    ensures counted { 0 < i → count.old < 2 ^ 64 - 1 → count.old < count.new }
 {
     let mut at = i;
     let mut after = M::unit();
@@ -64,8 +65,8 @@ pub fn join_first<M: Monoid + Drop>(rows: &[Vec<M>], i: usize, count: &mut u64) 
     after
 }
 
-/// Puts a value in the place of the `i`-th, and renews the one value of each row above that it shows in, up to the row where it stands alone at
-/// the end.
+/// Puts a value in the place of the `i`-th, and renews the one value of each row above that it is part of, up to the row where that one is alone
+/// at the end.
 pub fn replace<M: Monoid + Drop>(rows: &mut [Vec<M>], i: usize, value: M, count: &mut u64)
     requires rows { AreRows M.op rows.old }
     requires within { i < length (first_row rows.old) }
@@ -74,6 +75,8 @@ pub fn replace<M: Monoid + Drop>(rows: &mut [Vec<M>], i: usize, value: M, count:
     ensures list { first_row rows.new ≡ slice_set (first_row rows.old) i value }
     ensures grows { count.old ≤ count.new }
     ensures cost { count.new ≤ count.old + length rows.old }
+    ensures counted { i + 1 < length (first_row rows.old) → count.old < 2 ^ 64 - 1
+        → count.old < count.new }
 {
     let mut at = i;
     let mut value = value;

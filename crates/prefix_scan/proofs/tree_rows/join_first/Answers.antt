@@ -1,7 +1,8 @@
-use Rattle.std.proofs.Common.{arith, ◌≡◌, ℕ, ◌+◌, ◌*◌, length, take, ◌-◌, ◌/◌, get_or, ap, ◌∙◌, sym, subst, List, [], suc}
+use Rattle.std.proofs.Common.{arith, ◌-◌, ◌^◌, ◌≡◌, ℕ, ◌+◌, ◌*◌, length, take, ◌/◌, get_or, ap, ◌∙◌, sym, subst, List, [], suc}
 use Rattle.std.proofs.lemmas.List.{get_or_default}
 use Rattle.std.specs.List.{fold}
 use Rattle.prefix_scan.specs.Rows.{paired, lifted, first_row}
+use Rattle.prefix_scan.proofs.HeightLemmas.{count_rises}
 use Rattle.prefix_scan.proofs.ReachLemmas.{Reached, begins, ends, even, odd, odd-fits}
 use Rattle.prefix_scan.proofs.RowLemmas.{row_at-is}
 use Rattle.prefix_scan.proofs.tree_rows.join_first.Goals as goal
@@ -16,6 +17,7 @@ loop-row-init g c =
       grows = omega arith;
       cost = omega arith;
       within = omega arith;
+      counted = λ some low. omega arith;
     }
 
 pub index-requires : goal.index-requires
@@ -64,6 +66,7 @@ loop-row-preserved g c =
             grows = omega arith;
             cost = omega arith;
             within = omega arith;
+            counted = λ some low. let more = count_rises c.args.count.now c.loop-row.count w.counted_join-after.new.count (2 ^ 64 - 1) inv.grows low w.counted_join-after.ensures.one_more w.counted_join-after.ensures.bound.0 in omega arith;
           }
       | else-at-eq1 w ↦
           record {
@@ -71,6 +74,7 @@ loop-row-preserved g c =
             grows = omega arith;
             cost = omega arith;
             within = omega arith;
+            counted = λ some low. let more = inv.counted some low in omega arith;
           }
     ]
 

@@ -1,4 +1,4 @@
-use Rattle.std.proofs.Common.{◌≤◌, ◌+◌, length, take}
+use Rattle.std.proofs.Common.{◌<◌, ◌≤◌, ◌+◌, ◌-◌, ◌^◌, length, take}
 use Rattle.std.specs.List.{fold}
 use Rattle.prefix_scan.specs.Rows.{lifted, first_row}
 use Rattle.prefix_scan.proofs.ReachLemmas.{Reached}
@@ -12,4 +12,5 @@ invariant-loop-row g l =
       grows : l.fn.count ≤ l.count;
       cost : l.count ≤ l.fn.count + l.row-index;
       within : l.row-index ≤ length l.rows;
+      counted : 0 < l.i → l.fn.count < 2 ^ 64 - 1 → 0 < l.at + (l.count - l.fn.count);
     }

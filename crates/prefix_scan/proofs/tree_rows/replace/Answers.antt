@@ -1,7 +1,10 @@
-use Rattle.std.proofs.Common.{arith, ◌≡◌, suc, ◌+◌, ◌*◌, ◌/◌, ◌<◌, length, ap, ◌∙◌, sym, refl, List, below_more, length-set, set, get_or}
+use Rattle.std.proofs.Common.{arith, ◌-◌, ◌^◌, ◌≡◌, suc, ◌+◌, ◌*◌, ◌/◌, ◌<◌, length, ap, ◌∙◌, sym, refl, List, below_more, length-set, set, get_or}
 use Rattle.std.proofs.lemmas.List.{get_or_default}
 use Rattle.std.specs.Vec.{with_item}
 use Rattle.prefix_scan.specs.Rows.{paired, lifted, row_at, first_row}
+use mathlib.Core.Logic.{dite}
+use native.Mathlib.Decide.{ℕ_discrete}
+use Rattle.prefix_scan.proofs.HeightLemmas.{count_rises}
 use Rattle.prefix_scan.proofs.PairLemmas.{paired-set, paired-alone, two-weight, lifted-weight, length-paired}
 use Rattle.prefix_scan.proofs.RowLemmas.{row_at-is, row_at-set_same, row_at-set_other, renewed}
 use Rattle.prefix_scan.proofs.tree_rows.replace.Goals as goal
@@ -37,6 +40,21 @@ returns-then-left-len-clause-rows g c =
     (below_more (λ k. row_at rows k ≡ lifted m.op k new) l (λ k h. row_at-set_other c.loop-row.rows l k (with_item row at v) (λ e. absurd (omega arith)) ∙ inv.below k h) mine)
     (λ k h. row_at-set_other c.loop-row.rows l k (with_item row at v) (λ e. absurd (omega arith)) ∙ inv.above k (omega arith))
     (up xs ∙ sym alone ∙ ap (paired m.op) (sym inv.here) ∙ sym (up new))).0
+
+pub returns-then-left-len-clause-counted : goal.returns-then-left-len-clause-counted
+returns-then-left-len-clause-counted g c more low =
+    let m = g.M.Monoid in
+    let l = c.loop-row.row-index in
+    let inv = c.loop-row.invariant in
+    let d = c.row-item.result in
+    let xs = first_row c.args.rows.now in
+    let row = get_or c.loop-row.rows l d in
+    let items : row.items ≡ lifted m.op l xs = sym (row_at-is c.loop-row.rows l d (omega arith)) ∙ inv.above l (omega arith) ∙ c.requires.rows.each l c.loop-row-test.true in
+    dite (ℕ_discrete l 0)
+    (λ none.
+    let first : length (lifted m.op l xs) ≡ length xs = ap (λ n. length (lifted m.op n xs)) none in
+    absurd (omega (arith, inv.first none, c.if-left-len.true, c.len.ensures, row.ok, ap length items, first, more)))
+    (λ some. inv.counted (omega arith) low)
 
 pub counted_join-value-requires : goal.counted_join-value-requires
 counted_join-value-requires g c =
@@ -93,4 +111,6 @@ loop-row-preserved g c =
       grows = omega (arith, c.counted_join-value.ensures.bound);
       cost = omega (arith, c.counted_join-value.ensures.bound);
       within = omega (arith, length-set c.loop-row.rows l (with_item row at v));
+      counted = λ some low. count_rises c.args.count.now c.loop-row.count c.counted_join-value.new.count (2 ^ 64 - 1) inv.grows low c.counted_join-value.ensures.one_more c.counted_join-value.ensures.bound.0;
+      first = λ none. absurd (omega arith);
     }

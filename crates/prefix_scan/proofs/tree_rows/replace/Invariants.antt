@@ -1,4 +1,4 @@
-use Rattle.std.proofs.Common.{◌≡◌, ◌≤◌, ◌<◌, ◌+◌, ℕ, length, set}
+use Rattle.std.proofs.Common.{◌≡◌, ◌≤◌, ◌<◌, ◌+◌, ◌-◌, ◌^◌, ℕ, length, set}
 use Rattle.prefix_scan.specs.Rows.{lifted, first_row, row_at}
 use Rattle.prefix_scan.proofs.tree_rows.replace.Given as goal
 
@@ -12,8 +12,10 @@ invariant-loop-row g l =
       above : (k : ℕ) → l.row-index ≤ k → row_at l.rows k ≡ row_at l.fn.rows k;
       here : lifted op l.row-index new ≡ set (lifted op l.row-index old) l.at l.value;
       at_within : l.at < length (lifted op l.row-index old);
+      first : l.row-index ≡ 0 → l.at ≡ l.i;
       same_length : length l.rows ≡ length l.fn.rows;
       grows : l.fn.count ≤ l.count;
       cost : l.count ≤ l.fn.count + l.row-index;
       within : l.row-index ≤ length l.rows;
+      counted : 0 < l.row-index → l.fn.count < 2 ^ 64 - 1 → l.fn.count < l.count;
     }
