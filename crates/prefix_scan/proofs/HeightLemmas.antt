@@ -5,9 +5,11 @@ use Rattle.std.proofs.Math.Pow.{pow_mono}
 use mathlib.Core.Logic.{dite}
 use native.Mathlib.Decide.{dec_le}
 
+-- one row more, above a row that isn't empty: two to the power of their number stays within twice the length and one
 pub grow_tall : (n len most : ℕ) → 2 ^ n * len ≤ most → 0 < len → 2 ^ suc n ≤ 2 * most + 1
 grow_tall n len most h some = let one : 1 ≤ len = omega arith in omega (arith, pow-succ' 2 n, mul-le-mul_left (2 ^ n) one)
 
+-- and the row above has at most half the length
 pub grow_low : (n len most : ℕ) → 2 ^ n * len ≤ most → 2 ^ suc n * (len / 2) ≤ most
 grow_low n len most h =
     let le : 2 * (len / 2) ≤ len = omega arith in
@@ -25,6 +27,7 @@ few_rows rows n k tall fits =
     let one : 1 ≤ 2 ^ k = pow_mono (let z : 0 ≤ k = omega arith in z) in
     absurd (omega arith))
 
+-- over the empty list there is none
 pub no_rows : (rows : ℕ) → 2 ^ rows ≤ 1 → rows ≡ 0
 no_rows zero h = refl
 no_rows (suc rows) h = let one : 1 ≤ 2 ^ rows = pow_mono (let z : 0 ≤ rows = omega arith in z) in absurd (omega (arith, pow-succ' 2 rows))

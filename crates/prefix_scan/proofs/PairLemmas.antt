@@ -10,6 +10,7 @@ use Rattle.prefix_scan.specs.Laws.{MonoidLaws}
 use Rattle.prefix_scan.specs.Rows.{paired, lifted}
 use Rattle.prefix_scan.proofs.FoldLemmas.{sum_by-cons}
 
+-- half as many, and the pair at each place
 pub length-paired : {M : Type 0} (op : M → M → M) (xs : List M) → length (paired op xs) ≡ length xs / 2
 length-paired op [] = refl
 length-paired op (x ∷ []) = refl
@@ -54,6 +55,7 @@ lifted_same op xs ys a (suc l) e h =
     (λ (le : a < suc l). ap (paired op) (lifted_same op xs ys a l e (omega arith)))
     (eq-or-lt_of_le h)
 
+-- a value that is set shows in the pair at half its place
 pub paired-set : {M : Type 0} (op : M → M → M) (d v : M) (xs : List M) (at left : ℕ) → left ≡ at / 2 * 2 → at < length xs → left + 1 < length xs
     → paired op (set xs at v) ≡ set (paired op xs) (at / 2) (op (get_or (set xs at v) left d) (get_or (set xs at v) (left + 1) d))
 paired-set op d v xs at left is low both =
@@ -82,6 +84,7 @@ paired-alone op v xs at alone =
     ap (λ n. paired op (set xs n v)) e ∙ paired-set_odd op v v xs h (2 * h) refl ∙ set_past (paired op xs) h (op (get_or xs (2 * h) v) v) short)
 
 module _ {M : Type 0} {most : ℕ} {empty : M} {op : M → M → M} {weight : M → ℕ} (laws : MonoidLaws most empty op weight) where
+  -- the sizes of a row above add up to no more
   pub paired-weight : (xs : List M) → sum_by weight xs ≤ most → sum_by weight (paired op xs) ≤ sum_by weight xs
   paired-weight [] h = omega arith
   paired-weight (x ∷ []) h = let z : sum_by weight (paired op (x ∷ [])) ≡ 0 = refl in omega arith

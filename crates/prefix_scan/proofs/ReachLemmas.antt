@@ -15,8 +15,9 @@ module _ {M : Type 0} {most : ℕ} {empty : M} {op : M → M → M} {weight : M 
     pub within : at ≤ length row
     pub row_fits : sum_by weight row ≤ most
 
-  pub begins : (xs : List M) (i : ℕ) → i ≤ length xs → sum_by weight xs ≤ most → Reached xs i empty (fold op empty (take i xs))
-  begins xs i h w =
+  -- at first nothing was joined, and the answer is the fold of the first row's values before the place
+  pub reached_first : (xs : List M) (i : ℕ) → i ≤ length xs → sum_by weight xs ≤ most → Reached xs i empty (fold op empty (take i xs))
+  reached_first xs i h w =
       let le = sum_by-take-le weight xs i in
       let none = laws.empty_weight in
       record {
@@ -26,11 +27,13 @@ module _ {M : Type 0} {most : ℕ} {empty : M} {op : M → M → M} {weight : M 
         row_fits = w;
       }
 
-  pub ends : (at : ℕ) (after answer : M) → Reached [] at after answer → after ≡ answer
-  ends at after answer r = let none : at ≡ 0 = omega (arith, r.within) in let f = r.fits in sym (r.same ∙ ap (λ n. op (fold op empty (take n [])) after) none ∙ laws.left_identity after (omega arith))
+  -- past the last row no value is left to join
+  pub reached_end : (at : ℕ) (after answer : M) → Reached [] at after answer → after ≡ answer
+  reached_end at after answer r = let none : at ≡ 0 = omega (arith, r.within) in let f = r.fits in sym (r.same ∙ ap (λ n. op (fold op empty (take n [])) after) none ∙ laws.left_identity after (omega arith))
 
-  pub even : (row : List M) (at k : ℕ) (after answer : M) → at ≡ 2 * k → Reached row at after answer → Reached (paired op row) k after answer
-  even row at k after answer e r =
+  -- an even number of values is as many joins in the row above, half the number
+  pub reached_even : (row : List M) (at k : ℕ) (after answer : M) → at ≡ 2 * k → Reached row at after answer → Reached (paired op row) k after answer
+  reached_even row at k after answer e r =
       let w = r.row_fits in
       let f = r.fits in
       let none = laws.empty_weight in
@@ -47,16 +50,18 @@ module _ {M : Type 0} {most : ℕ} {empty : M} {op : M → M → M} {weight : M 
         row_fits = omega arith;
       }
 
-  pub odd-fits : (row : List M) (at k : ℕ) (after answer : M) → at ≡ 2 * k + 1 → Reached row at after answer → weight (get_or row (2 * k) empty) + weight after ≤ most
-  odd-fits row at k after answer e r =
+  -- of an odd number the last value fits beside what was joined after it
+  pub reached_odd-fits : (row : List M) (at k : ℕ) (after answer : M) → at ≡ 2 * k + 1 → Reached row at after answer → weight (get_or row (2 * k) empty) + weight after ≤ most
+  reached_odd-fits row at k after answer e r =
       let low : 2 * k < length row = omega (arith, r.within) in
       let part = sum_by_more weight row (2 * k) empty low in
       let part_is : sum_by weight (take at row) ≡ sum_by weight (take (2 * k + 1) row) = ap (λ n. sum_by weight (take n row)) e in
       let f = r.fits in
       omega arith
 
-  pub odd : (row : List M) (at k : ℕ) (after answer : M) → at ≡ 2 * k + 1 → Reached row at after answer → Reached (paired op row) k (op (get_or row (2 * k) empty) after) answer
-  odd row at k after answer e r =
+  -- of an odd number the last value is joined first, and an even number is left
+  pub reached_odd : (row : List M) (at k : ℕ) (after answer : M) → at ≡ 2 * k + 1 → Reached row at after answer → Reached (paired op row) k (op (get_or row (2 * k) empty) after) answer
+  reached_odd row at k after answer e r =
       let w = r.row_fits in
       let x = get_or row (2 * k) empty in
       let low : 2 * k < length row = omega (arith, r.within) in
@@ -67,7 +72,7 @@ module _ {M : Type 0} {most : ℕ} {empty : M} {op : M → M → M} {weight : M 
       let more = ap (λ n. fold op empty (take n row)) e ∙ fold_more op empty row (2 * k) empty low in
       let some = fold-weight laws (take (2 * k) row) (omega arith) in
       let joined = laws.op_weight x after (omega arith) in
-      even row (2 * k) k (op x after) answer refl record {
+      reached_even row (2 * k) k (op x after) answer refl record {
         same = r.same ∙ ap (λ y. op y after) more ∙ laws.assoc (fold op empty (take (2 * k) row)) x after (omega arith);
         fits = omega arith;
         within = omega arith;

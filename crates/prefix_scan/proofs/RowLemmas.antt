@@ -13,6 +13,7 @@ row_at-is [] l d h = absurd (omega arith)
 row_at-is (r ∷ rs) zero d h = refl
 row_at-is (r ∷ rs) (suc l) d h = row_at-is rs l d (omega arith)
 
+-- a row that is set, and the others
 pub row_at-set_same : {M : Type 0} (rows : List (Vec M Global)) (l : ℕ) (r : Vec M Global) → l < length rows → row_at (set rows l r) l ≡ r.items
 row_at-set_same [] l r h = absurd (omega arith)
 row_at-set_same (x ∷ rs) zero r h = refl
@@ -25,6 +26,7 @@ row_at-set_other (x ∷ rs) zero (suc k) r n = refl
 row_at-set_other (x ∷ rs) (suc l) zero r n = refl
 row_at-set_other (x ∷ rs) (suc l) (suc k) r n = row_at-set_other rs l k r (λ e. n (ap suc e))
 
+-- a row that is put behind the others
 pub row_at-more : {M : Type 0} (rows : List (Vec M Global)) (r : Vec M Global) → row_at (rows ++ r ∷ []) (length rows) ≡ r.items
 row_at-more [] r = refl
 row_at-more (x ∷ rs) r = row_at-more rs r
@@ -34,6 +36,7 @@ row_at-before [] r l h = absurd (omega arith)
 row_at-before (x ∷ rs) r zero h = refl
 row_at-before (x ∷ rs) r (suc l) h = row_at-before rs r l (omega arith)
 
+-- where every row is what it has to be and none is above the last, the first is the list
 pub first_is : {M : Type 0} (op : M → M → M) (xs : List M) (rows : List (Vec M Global)) → ((k : ℕ) → k < length rows → row_at rows k ≡ lifted op k xs) → length (lifted op (length rows) xs) ≡ 0 → row_at rows 0 ≡ xs
 first_is op xs [] each none = sym (nil_from_length xs none)
 first_is op xs (r ∷ rs) each none = each 0 (omega arith)

@@ -3,7 +3,7 @@ use Rattle.std.proofs.lemmas.List.{get_or_default}
 use Rattle.std.specs.List.{fold}
 use Rattle.prefix_scan.specs.Rows.{paired, lifted, first_row}
 use Rattle.prefix_scan.proofs.HeightLemmas.{count_rises}
-use Rattle.prefix_scan.proofs.ReachLemmas.{Reached, begins, ends, even, odd, odd-fits}
+use Rattle.prefix_scan.proofs.ReachLemmas.{Reached, reached_first, reached_end, reached_even, reached_odd, reached_odd-fits}
 use Rattle.prefix_scan.proofs.RowLemmas.{row_at-is}
 use Rattle.prefix_scan.proofs.tree_rows.join_first.Goals as goal
 use Rattle.prefix_scan.proofs.tree_rows.join_first.Goals.{then-at-eq1, else-at-eq1}
@@ -13,7 +13,7 @@ loop-row-init g c =
     let m = g.M.Monoid in
     let xs = first_row c.args.rows.now in
     record {
-      reached = subst (λ (a : _). Reached g.met.M.Monoid.laws xs c.args.i a (fold m.op m.empty (take c.args.i xs))) (sym c.unit-after.ensures) (begins g.met.M.Monoid.laws xs c.args.i c.requires.within c.requires.sizes);
+      reached = subst (λ (a : _). Reached g.met.M.Monoid.laws xs c.args.i a (fold m.op m.empty (take c.args.i xs))) (sym c.unit-after.ensures) (reached_first g.met.M.Monoid.laws xs c.args.i c.requires.within c.requires.sizes);
       grows = omega arith;
       cost = omega arith;
       within = omega arith;
@@ -40,7 +40,7 @@ counted_join-after-requires g c =
     let items : c.row-item.result.items ≡ row = ap (λ (v : _). v.items) c.row-item.is ∙ is in
     let half : at - 1 ≡ 2 * (at / 2) = omega arith in
     let read : c.index.result.now ≡ get_or row (2 * (at / 2)) m.empty = c.index.ensures ∙ get_or_default c.row-item.result.items (at - 1) c.index.result.now m.empty (omega (arith, reached.within, ap length items)) ∙ ap (λ (t : List g.row.M.Denot × ℕ). get_or t.0 t.1 m.empty) (λ i. (items i, half i)) in
-    omega (arith, odd-fits g.met.M.Monoid.laws row at (at / 2) c.loop-row.after (fold m.op m.empty (take c.args.i (first_row rows))) (omega arith) reached, ap m.weight read)
+    omega (arith, reached_odd-fits g.met.M.Monoid.laws row at (at / 2) c.loop-row.after (fold m.op m.empty (take c.args.i (first_row rows))) (omega arith) reached, ap m.weight read)
 
 pub loop-row-preserved : goal.loop-row-preserved
 loop-row-preserved g c =
@@ -62,7 +62,7 @@ loop-row-preserved g c =
           let read : w.index.result.now ≡ get_or row (2 * h) m.empty = w.index.ensures ∙ get_or_default c.row-item.result.items (at - 1) w.index.result.now m.empty (omega (arith, reached.within, ap length items)) ∙ ap (λ (t : List g.row.M.Denot × ℕ). get_or t.0 t.1 m.empty) (λ i. (items i, half i)) in
           let after : m.op (get_or row (2 * h) m.empty) c.loop-row.after ≡ c.if-at-eq1.after = ap (λ x. m.op x c.loop-row.after) (sym read) ∙ sym w.counted_join-after.ensures.value ∙ sym w.after-is in
           record {
-            reached = subst (λ (t : List g.row.M.Denot × g.row.M.Denot). Reached g.met.M.Monoid.laws t.0 h t.1 answer) (λ i. (sym up i, after i)) (odd g.met.M.Monoid.laws row at h c.loop-row.after answer (omega arith) reached);
+            reached = subst (λ (t : List g.row.M.Denot × g.row.M.Denot). Reached g.met.M.Monoid.laws t.0 h t.1 answer) (λ i. (sym up i, after i)) (reached_odd g.met.M.Monoid.laws row at h c.loop-row.after answer (omega arith) reached);
             grows = omega arith;
             cost = omega arith;
             within = omega arith;
@@ -70,7 +70,7 @@ loop-row-preserved g c =
           }
       | else-at-eq1 w ↦
           record {
-            reached = subst (λ (t : List g.row.M.Denot × g.row.M.Denot). Reached g.met.M.Monoid.laws t.0 h t.1 answer) (λ i. (sym up i, sym w.after-is i)) (even g.met.M.Monoid.laws row at h c.loop-row.after answer (omega arith) reached);
+            reached = subst (λ (t : List g.row.M.Denot × g.row.M.Denot). Reached g.met.M.Monoid.laws t.0 h t.1 answer) (λ i. (sym up i, sym w.after-is i)) (reached_even g.met.M.Monoid.laws row at h c.loop-row.after answer (omega arith) reached);
             grows = omega arith;
             cost = omega arith;
             within = omega arith;
@@ -84,4 +84,4 @@ returns-clause-value g c =
     let rows = c.args.rows.now in
     let all : c.loop-row.row-index ≡ length rows = omega arith in
     let none : lifted m.op c.loop-row.row-index (first_row rows) ≡ [] = ap (λ n. lifted m.op n (first_row rows)) all ∙ c.requires.rows.done in
-    ends g.met.M.Monoid.laws c.loop-row.at c.loop-row.after (fold m.op m.empty (take c.args.i (first_row rows))) (subst (λ (k : List g.row.M.Denot). Reached g.met.M.Monoid.laws k c.loop-row.at c.loop-row.after (fold m.op m.empty (take c.args.i (first_row rows)))) none c.loop-row.invariant.reached)
+    reached_end g.met.M.Monoid.laws c.loop-row.at c.loop-row.after (fold m.op m.empty (take c.args.i (first_row rows))) (subst (λ (k : List g.row.M.Denot). Reached g.met.M.Monoid.laws k c.loop-row.at c.loop-row.after (fold m.op m.empty (take c.args.i (first_row rows)))) none c.loop-row.invariant.reached)
