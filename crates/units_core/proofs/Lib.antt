@@ -1,5 +1,6 @@
 pub mod Decisions
 pub mod Intervals
+pub mod ListLemmas
 pub mod Order
 pub mod OutcomeLemmas
 pub mod Ranges

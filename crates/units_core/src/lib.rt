@@ -5,6 +5,7 @@
 mod angles;
 mod bodies;
 mod cells;
+mod equality;
 mod fractions;
 mod measures;
 mod tables;
@@ -12,6 +13,7 @@ mod tables;
 pub use angles::{Angle, cosine, sine};
 pub use bodies::{Body, Place};
 pub use cells::{Cell, conflicts, span};
+pub use equality::{Exact, same_items, same_rows};
 pub use fractions::{Frac, at_least, at_most, floor, interp, interp_floor};
 pub use measures::{Kg, Mm};
 pub use tables::{enclosing, enclosing_near, gap, read};

@@ -1,7 +1,8 @@
 use crate::{
     Angle, Body, Cell, Frac, Kg, Mm, Place, at_least, at_most, conflicts, cosine, enclosing,
-    enclosing_near, floor, gap, interp, interp_floor, read, sine, span,
+    enclosing_near, floor, gap, interp, interp_floor, read, same_items, same_rows, sine, span,
 };
+use std::alloc::{AllocError, Global};
 
 /// Masses in kg, and whether each is one of a container.
 static MASSES: [(u32, bool); 3] = [(0, true), (999_999, true), (1_000_000, false)];
@@ -299,5 +300,132 @@ fn searches_from_anywhere(rt: HostRuntime) {
             );
             assert_eq!(rt; near, found.unwrap_or(start), "{x} from {start}");
         }
+    }
+}
+
+/// Two lists of numbers, and whether they are equal.
+static LISTS: [(&[i128], &[i128], bool); 6] = [
+    (&[], &[], true),
+    (&[-3, 5], &[-3, 5], true),
+    (&[-3, 5], &[-3], false),
+    (&[-3], &[-3, 5], false),
+    (&[-3, 5], &[5, -3], false),
+    (&[-3, 5], &[-3, 6], false),
+];
+
+#[test]
+fn equal_lists(rt: HostRuntime) {
+    for (a, b, want) in &LISTS {
+        assert_eq!(rt; same_items(a, b), *want, "{a:?} {b:?}");
+    }
+}
+
+/// A list of the words of a text.
+fn words(alloc: Global, texts: &[&[u8]]) -> Result<Vec<Vec<u8>>, AllocError> {
+    let mut words = Vec::new(alloc);
+    for text in texts {
+        words.push(text.to_vec(alloc)?)?;
+    }
+    Ok(words)
+}
+
+/// Two lists of words, and whether they are equal.
+static ROWS: [(&[&[u8]], &[&[u8]], bool); 5] = [
+    (&[b"AB", b"C"], &[b"AB", b"C"], true),
+    (&[b"AB", b"C"], &[b"A", b"BC"], false),
+    (&[b"AB", b"C"], &[b"AB"], false),
+    (&[b"AB", b"C"], &[b"C", b"AB"], false),
+    (&[b""], &[], false),
+];
+
+#[test]
+fn equal_lists_of_lists(rt: HostRuntime) -> Result<(), AllocError> {
+    for (a, b, want) in &ROWS {
+        let first = words(rt.alloc(), a)?;
+        let second = words(rt.alloc(), b)?;
+        assert_eq!(rt; same_rows(&first, &second), *want);
+    }
+    Ok(())
+}
+
+/// Cells that differ in one number each.
+static CELLS: [Cell; 4] = [
+    Cell {
+        bay: 1,
+        row: 2,
+        tier: 84,
+    },
+    Cell {
+        bay: 3,
+        row: 2,
+        tier: 84,
+    },
+    Cell {
+        bay: 1,
+        row: 4,
+        tier: 84,
+    },
+    Cell {
+        bay: 1,
+        row: 2,
+        tier: 86,
+    },
+];
+
+/// A place that differs from another one in a single length.
+fn place(x: i32, y: i32, z: i32, half: i32) -> Option<Place> {
+    Some(Place {
+        x: Mm::new(x)?,
+        y: Mm::new(y)?,
+        z: Mm::new(z)?,
+        half: Mm::new(half)?,
+    })
+}
+
+/// A body of 21 kg at a place, with a free surface moment of 34 kg mm but for what is changed.
+fn body(kg: u32, x: i32, fsm: i64) -> Option<Body> {
+    Body::new(kg, place(x, -5, 8, 13)?, fsm)
+}
+
+/// Bodies that differ in one number each.
+static BODIES: [(u32, i32, i64); 4] = [(21, 3, 34), (22, 3, 34), (21, 4, 34), (21, 3, 35)];
+
+/// Places that differ in one length each.
+static PLACES: [(i32, i32, i32, i32); 5] = [
+    (3, -5, 8, 13),
+    (4, -5, 8, 13),
+    (3, 5, 8, 13),
+    (3, -5, 9, 13),
+    (3, -5, 8, 14),
+];
+
+#[test]
+fn cells_and_places_are_told_apart(rt: HostRuntime) {
+    for (number, cell) in CELLS.iter().enumerate() {
+        assert_eq!(rt; same_items(&CELLS[..1], &[*cell]), number == 0, "{cell:?}");
+    }
+    for (x, y, z, half) in &PLACES {
+        let (Some(first), Some(other)) = (place(3, -5, 8, 13), place(*x, *y, *z, *half)) else {
+            assert!(rt; false);
+            return;
+        };
+        let is_first = *x == 3 && *y == -5 && *z == 8 && *half == 13;
+        assert_eq!(rt; same_items(&[first], &[other]), is_first, "{other:?}");
+        assert_eq!(rt;
+            same_items(&[first.x, first.y], &[other.x, other.y]),
+            *x == 3 && *y == -5
+        );
+    }
+}
+
+#[test]
+fn bodies_are_told_apart(rt: HostRuntime) {
+    for (kg, x, fsm) in &BODIES {
+        let (Some(first), Some(other)) = (body(21, 3, 34), body(*kg, *x, *fsm)) else {
+            assert!(rt; false);
+            return;
+        };
+        let is_first = *kg == 21 && *x == 3 && *fsm == 34;
+        assert_eq!(rt; same_items(&[first], &[other]), is_first, "{other:?}");
     }
 }
