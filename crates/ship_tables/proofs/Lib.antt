@@ -1,4 +1,5 @@
 pub mod CurveLemmas
+pub mod EqualityLemmas
 pub mod Examples
 pub mod FieldWalks
 pub mod FileLemmas

@@ -1,4 +1,4 @@
-ghost use Rattle.std.specs.Prelude.{◌≡◌, ◌≢◌, ◌<◌, length, option_map, slice_get, Ok, Err, IfOk, IfErr};
+ghost use Rattle.std.specs.Prelude.{◌≡◌, ◌≢◌, ◌↔◌, IsTrue, ◌<◌, length, option_map, slice_get, Ok, Err, IfOk, IfErr};
 ghost use Rattle.ship_tables.specs.Curves.{curve};
 ghost use Rattle.ship_tables.specs.Tables.{form_of};
 ghost use Rattle.ship_tables.specs.Record.{numbers_of, curve_table, curves_in, bonjean_form, least_gm_in, text_of};
@@ -10,6 +10,7 @@ use crate::reading::read_file;
 use crate::rows::Row;
 use std::alloc::Global;
 use std::marker::Model;
+use units_core::{same_items, same_rows};
 
 /// A table of curves over one argument, kept by columns: the arguments, which rise, and each curve's values at them.
 #[derive(Debug, Drop)]
@@ -60,6 +61,13 @@ impl Curves {
             Some(column) => column,
             None => &[],
         }
+    }
+
+    /// Whether two tables are equal, number by number.
+    pub fn same(&self, other: &Curves) -> bool
+        ensures { IsTrue result ↔ (self.now ≡ other.now) }
+    {
+        same_items(&self.arguments, &other.arguments) && same_rows(&self.columns, &other.columns)
     }
 }
 

@@ -1,4 +1,4 @@
-ghost use Rattle.std.specs.Prelude.{◌≡◌, ◌≢◌, Ok, Err, IfOk, IfErr};
+ghost use Rattle.std.specs.Prelude.{◌≡◌, ◌≢◌, ◌↔◌, IsTrue, Ok, Err, IfOk, IfErr};
 ghost use Rattle.ship_tables.specs.Record.{HydroTable, IsHydroTable, hydro_table, hydro_in};
 
 use crate::curves::numbers;
@@ -8,6 +8,7 @@ use crate::reading::read_file;
 use crate::rows::Row;
 use std::alloc::Global;
 use std::marker::Model;
+use units_core::same_items;
 
 /// The hydrostatic table, column by column: at each displacement the draught on even keel and what the ship's
 /// form makes of it. It has 2 to 200 rows, and the displacements rise.
@@ -78,6 +79,18 @@ impl Hydro {
         ensures sound { IsHydroTable self.now }
     {
         self.mct.as_slice()
+    }
+
+    /// Whether two tables are equal, number by number.
+    pub fn same(&self, other: &Hydro) -> bool
+        ensures { IsTrue result ↔ (self.now ≡ other.now) }
+    {
+        same_items(&self.kg, &other.kg)
+            && same_items(&self.draught, &other.draught)
+            && same_items(&self.kmt, &other.kmt)
+            && same_items(&self.lcb, &other.lcb)
+            && same_items(&self.lcf, &other.lcf)
+            && same_items(&self.mct, &other.mct)
     }
 }
 

@@ -1,4 +1,4 @@
-ghost use Rattle.std.specs.Prelude.{◌≡◌, ◌≢◌, Ok, Err, IfOk, IfErr, All, map, slice_get, ◌≤◌, ◌^◌, unsigned_abs};
+ghost use Rattle.std.specs.Prelude.{◌≡◌, ◌≢◌, ◌↔◌, IsTrue, Ok, Err, IfOk, IfErr, All, map, slice_get, ◌≤◌, ◌^◌, unsigned_abs};
 ghost use Rattle.std.specs.Map.{lookup};
 ghost use Rattle.units_core.specs.Cells.{cell_eq};
 ghost use Rattle.ship_tables.specs.Record.{IsPlace, place_at, places_in};
@@ -11,7 +11,7 @@ use crate::rows::Row;
 use indexmap::IndexSet;
 use std::alloc::Global;
 use std::marker::Model;
-use units_core::{Cell, Mm, Place};
+use units_core::{Cell, Mm, Place, same_items};
 
 /// The cells of a ship in the order of their file, each with where a container in it stands.
 #[derive(Debug, Drop)]
@@ -21,13 +21,15 @@ pub struct CellPlaces {
 }
 
 impl Model for CellPlaces {
-    ghost use Rattle.std.specs.Prelude.{List, zip};
+    ghost use Rattle.std.specs.Prelude.{◌≡◌, List, length, zip};
     ghost use Rattle.units_core.specs.declared.cells.Cell.{Cell};
     ghost use Rattle.units_core.specs.declared.bodies.Place.{Place};
 
     ghost Value = { List (Cell × Place) };
 
     ghost view = { λ c. zip c.cells.keys c.places.items };
+
+    ghost invariant = { λ c. length c.places.items ≡ length c.cells.keys };
 }
 
 /// The place at an index.
@@ -48,6 +50,14 @@ impl CellPlaces {
     {
         let index = self.cells.get_index_of(&cell)?;
         place_number(self.places.as_slice(), index)
+    }
+
+    /// Whether two ships have the same cells, in the same order and at the same places.
+    pub fn same(&self, other: &CellPlaces) -> bool
+        ensures { IsTrue result ↔ (self.now ≡ other.now) }
+    {
+        same_items(self.cells.as_slice(), other.cells.as_slice())
+            && same_items(&self.places, &other.places)
     }
 }
 

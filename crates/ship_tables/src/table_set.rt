@@ -1,4 +1,4 @@
-ghost use Rattle.std.specs.Prelude.{◌≡◌, ◌≢◌, ◌≤◌, length, option_map, Ok, Err, IfOk, IfErr, IfSome};
+ghost use Rattle.std.specs.Prelude.{◌≡◌, ◌≢◌, ◌↔◌, IsTrue, ◌≤◌, length, option_map, Ok, Err, IfOk, IfErr, IfSome};
 ghost use Rattle.ship_tables.specs.Record.{texts_of, tables_of, place_of, tank_of, tank_body, IsSound, IsHydroTable, IsLeverTable, IsBonjeanTable, IsLeastGmTable, IsPlace};
 ghost use Rattle.ship_tables.specs.Written.{IsWritten};
 
@@ -129,5 +129,29 @@ impl Tables {
         ensures placed { IfSome result (λ b. IsPlace b.place) }
     {
         self.tanks.item(tank, kg)
+    }
+
+    /// Whether two ships have equal tables: the same rows in the same order, and either both or none a table of least metacentric
+    /// heights. It takes no memory, and time in the length of the tables.
+    pub fn same(&self, other: &Tables) -> bool
+        ensures { IsTrue result ↔ (self.now ≡ other.now) }
+    {
+        self.cells.same(&other.cells)
+            && self.hydro.same(&other.hydro)
+            && self.levers.same(&other.levers)
+            && self.bonjean.same(&other.bonjean)
+            && self.tanks.same(&other.tanks)
+            && same_limits(&self.least_gm, &other.least_gm)
+    }
+}
+
+/// Whether two tables that may be missing are equal.
+fn same_limits(a: &Option<Curves>, b: &Option<Curves>) -> bool
+    ensures { IsTrue result ↔ (a.now ≡ b.now) }
+{
+    match (a, b) {
+        (Some(a), Some(b)) => a.same(b),
+        (None, None) => true,
+        _ => false,
     }
 }

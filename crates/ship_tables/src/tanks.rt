@@ -1,4 +1,4 @@
-ghost use Rattle.std.specs.Prelude.{◌≡◌, ◌≢◌, ◌≤◌, ◌<◌, ◌+◌, ◌^◌, ℕ, pos, ◌≤ℤ◌, length, map, slice_get, position, option_map, unsigned_abs, All, Ok, Err, IfOk, IfErr, IfSome};
+ghost use Rattle.std.specs.Prelude.{◌≡◌, ◌≢◌, ◌↔◌, IsTrue, ◌≤◌, ◌<◌, ◌+◌, ◌^◌, ℕ, pos, ◌≤ℤ◌, length, map, slice_get, position, option_map, unsigned_abs, All, Ok, Err, IfOk, IfErr, IfSome};
 ghost use Rattle.std.specs.Str.{bytes_eq};
 ghost use Rattle.units_core.specs.Bodies.{IsWithinLimits};
 ghost use Rattle.units_core.specs.Interpolation.{at, interval, reading, Encloses, Rises, IsWithin};
@@ -14,7 +14,7 @@ use crate::rows::Row;
 use indexmap::IndexSet;
 use std::alloc::Global;
 use std::marker::Model;
-use units_core::{Body, Mm, Place, enclosing, interp_floor};
+use units_core::{Body, Mm, Place, enclosing, interp_floor, same_items, same_rows};
 
 /// The table of a tank, column by column: at each mass of its filling where that stands, and its free surface moment. It has 2 to
 /// 64 rows, and the masses rise.
@@ -121,6 +121,33 @@ impl TankRows {
         let row = enclosing(self.kg.as_slice(), i128::from(kg))?;
         Body::new(kg, self.place(row, kg), self.moment(row, kg))
     }
+
+    /// Whether two tables are equal, number by number.
+    fn same(&self, other: &TankRows) -> bool
+        ensures { IsTrue result ↔ (self.now ≡ other.now) }
+    {
+        same_items(&self.kg, &other.kg)
+            && same_items(&self.x, &other.x)
+            && same_items(&self.y, &other.y)
+            && same_items(&self.z, &other.z)
+            && same_items(&self.half, &other.half)
+            && same_items(&self.fsm, &other.fsm)
+    }
+}
+
+/// Whether the tables of tanks are equal, one by one.
+fn same_tables(a: &[TankRows], b: &[TankRows]) -> bool
+    ensures { IsTrue result ↔ (a.now ≡ b.now) }
+{
+    if a.len() != b.len() {
+        return false;
+    }
+    for number in 0..a.len() {
+        if !a[number].same(&b[number]) {
+            return false;
+        }
+    }
+    true
 }
 
 /// The filling with so many kg by the table of a number.
@@ -176,6 +203,14 @@ impl Tanks {
         ensures placed { IfSome result (λ b. IsPlace b.place) }
     {
         filling_of(self.tables.as_slice(), usize::from(tank), kg)
+    }
+
+    /// Whether two ships have the same tanks in the same order.
+    pub fn same(&self, other: &Tanks) -> bool
+        ensures { IsTrue result ↔ (self.now ≡ other.now) }
+    {
+        same_rows(self.names.as_slice(), other.names.as_slice())
+            && same_tables(&self.tables, &other.tables)
     }
 }
 

@@ -373,3 +373,48 @@ static BOX: [(Asked, &str); 11] = [
 fn tank_fill(rt: HostRuntime) -> Result<(), Fail> {
     check_answers(&rt, &box_texts(), &BOX)
 }
+
+/// Whether tables are those that these texts write.
+fn are_of(alloc: Global, tables: &Tables, texts: &TableTexts<'_>) -> Result<bool, Fail> {
+    let read = Tables::read(alloc, widest(), 5, texts);
+    seen(read, |other: &Tables| tables.same(other))
+}
+
+/// Whether the tables of two ships' texts are equal.
+fn are_same(alloc: Global, first: &TableTexts<'_>, second: &TableTexts<'_>) -> Result<bool, Fail> {
+    let read = Tables::read(alloc, widest(), 5, first);
+    seen(read, |tables: &Tables| are_of(alloc, tables, second))?
+}
+
+/// The files of tables.
+static FILES: [File; 6] = [
+    File::Cells,
+    File::Hydro,
+    File::Levers,
+    File::Bonjean,
+    File::Tanks,
+    File::LeastGm,
+];
+
+/// A file of the box ship.
+fn box_text(file: File) -> &'static str {
+    match file {
+        File::Ship => "",
+        File::Cells => CELLS,
+        File::Hydro => HYDRO,
+        File::Levers => LEVERS,
+        File::Bonjean => BONJEAN,
+        File::Tanks => TANKS,
+        File::LeastGm => LEAST_GM,
+    }
+}
+
+#[test]
+fn equal_tables(rt: HostRuntime) -> Result<(), Fail> {
+    assert!(rt; are_same(rt.alloc(), &unlike_texts(), &unlike_texts())?);
+    for file in &FILES {
+        let other = with_text(unlike_texts(), *file, box_text(*file).as_bytes());
+        assert!(rt; !are_same(rt.alloc(), &unlike_texts(), &other)?, "{file}");
+    }
+    Ok(())
+}
