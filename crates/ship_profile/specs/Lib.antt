@@ -1,5 +1,7 @@
+pub mod Equality
 pub mod Faults
 pub mod Keys
+pub mod Limits
 pub mod Outcome
 pub mod Printed
 pub mod Record

@@ -5,6 +5,7 @@
 
 mod arrays;
 mod blocks;
+mod equality;
 mod faults;
 mod fills;
 mod frames;

@@ -1,4 +1,4 @@
-ghost use Rattle.std.specs.Prelude.{◌≡◌, ◌≢◌, Ok, Err, IfOk, IfErr, length, option_map};
+ghost use Rattle.std.specs.Prelude.{◌≡◌, ◌≢◌, ◌↔◌, IsTrue, Ok, Err, IfOk, IfErr, length, option_map};
 ghost use Rattle.ship_profile.specs.Record.{texts_of, tables_in, record_of, place_of, tank_of, tank_body, IsSound};
 ghost use Rattle.ship_profile.specs.Ship.{extent_of, IsSoundShip};
 ghost use Rattle.ship_profile.specs.Written.{IsWritten};
@@ -12,7 +12,7 @@ use crate::ships::{Ship, extent_of, read_ship};
 use ship_tables::{Curves, Hydro, TableTexts, Tables};
 use std::alloc::Global;
 use std::marker::Model;
-use units_core::{Body, Cell, Mm, Place};
+use units_core::{Body, Cell, Mm, Place, same_items};
 
 /// The texts of a profile's files.
 #[derive(Clone, Copy, Debug)]
@@ -228,5 +228,15 @@ impl Profile {
         ensures sound { IsSound self.now }
     {
         self.tables.least_gm()
+    }
+
+    /// Whether two profiles are equal: `ship.toml` says the same of both ships, and the rows of their tables are the same in the same
+    /// order. It takes no memory, and time in the length of the tables.
+    pub fn same(&self, other: &Profile) -> bool
+        ensures { IsTrue result ↔ (self.now ≡ other.now) }
+    {
+        self.ship.same(&other.ship)
+            && self.tables.same(&other.tables)
+            && same_items(&self.fills, &other.fills)
     }
 }

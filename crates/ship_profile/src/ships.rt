@@ -1,5 +1,6 @@
-ghost use Rattle.std.specs.Prelude.{◌≡◌, ◌≤◌, ◌≢◌, length, Ok, Err, IfOk, IfErr};
+ghost use Rattle.std.specs.Prelude.{◌≡◌, ◌↔◌, IsTrue, ◌≤◌, ◌≢◌, length, Ok, Err, IfOk, IfErr};
 ghost use Rattle.toml.specs.View.{table_view};
+ghost use Rattle.ship_profile.specs.Limits.{HaveSameLimits};
 ghost use Rattle.ship_profile.specs.Ship.{ship_of, downflooding_of, extent_of, IsSoundShip};
 
 use crate::blocks::read_blocks;
@@ -11,7 +12,7 @@ use ship_tables::Extent;
 use std::alloc::Global;
 use std::marker::Model;
 use toml::Table;
-use units_core::{Body, Mm};
+use units_core::{Body, Mm, same_items};
 
 /// What `ship.toml` says of the ship but for the fills.
 #[derive(Debug, Drop)]
@@ -33,6 +34,30 @@ impl Model for Ship {
     ghost Value = { ShipRecord };
 
     ghost view = { λ s. record { lbp = s.lbp; downflooding = s.downflooding; draught_max = s.draught_max; trim_max = s.trim_max; list_max = s.list_max; closing_max = s.closing_max; stations = s.stations.items; blocks = s.blocks.items; frames = s.frames } };
+}
+
+impl Ship {
+    /// Whether two ships have the same length and limits.
+    fn same_limits(&self, other: &Ship) -> bool
+        ensures { IsTrue result ↔ HaveSameLimits self.now other.now }
+    {
+        self.lbp == other.lbp
+            && self.downflooding == other.downflooding
+            && self.draught_max == other.draught_max
+            && self.trim_max == other.trim_max
+            && self.list_max == other.list_max
+            && self.closing_max == other.closing_max
+    }
+
+    /// Whether `ship.toml` says the same of two ships: length and limits, stations, blocks and frames.
+    pub fn same(&self, other: &Ship) -> bool
+        ensures { IsTrue result ↔ (self.now ≡ other.now) }
+    {
+        self.same_limits(other)
+            && same_items(&self.stations, &other.stations)
+            && same_items(&self.blocks, &other.blocks)
+            && same_items(self.frames.as_slice(), other.frames.as_slice())
+    }
 }
 
 /// The angle of down-flooding in degrees.

@@ -1,3 +1,4 @@
+mod equality;
 mod files;
 mod keys;
 mod profiles;

@@ -13,7 +13,7 @@ fn box_ship() -> ProfileBytes<'static> {
 }
 
 /// Files, one of them in another form.
-fn with_text<'a>(files: ProfileBytes<'a>, file: File, text: &'a [u8]) -> ProfileBytes<'a> {
+pub fn with_text<'a>(files: ProfileBytes<'a>, file: File, text: &'a [u8]) -> ProfileBytes<'a> {
     match file {
         File::Ship => ProfileBytes {
             ship: text,
