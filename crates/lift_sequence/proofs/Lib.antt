@@ -1,6 +1,7 @@
 pub mod ArrivalSums
 pub mod Changes
 pub mod CountLemmas
+pub mod EqualityLemmas
 pub mod FirstFaults
 pub mod Listings
 pub mod Overlaps

@@ -1,4 +1,4 @@
-ghost use Rattle.std.specs.Prelude.{◌≡◌, ◌≤◌, ◌++◌, [], length, OnOk, IfOk, IfErr, Some, None};
+ghost use Rattle.std.specs.Prelude.{◌≡◌, ◌↔◌, IsTrue, ◌≤◌, ◌++◌, [], length, OnOk, IfOk, IfErr, Some, None};
 ghost use Rattle.ship_profile.specs.Record.{IsSound};
 ghost use Rattle.lift_sequence.specs.Aboard.{cargo_in, nothing, with_item, container_of};
 ghost use Rattle.lift_sequence.specs.Arrival.{AddUpTo, AreFilledOnce, TellsAt, arrival_bodies, arrival_fault, cargo_on, fill_bodies, fills_fault, item_bodies, items_fault, on_arrival, with_fills, with_items};
@@ -7,13 +7,14 @@ ghost use Rattle.lift_sequence.specs.Legal.{Tells, stand_fault};
 ghost use Rattle.lift_sequence.specs.Sequence.{IsOf};
 
 use crate::containers::container_of;
+use crate::equality::same_plan;
 use crate::faults::{NO_MEMORY, SeqCode, SeqFault, fault_at};
 use crate::stowage::Stowage;
 use ship_profile::{Profile, TankFill};
 use std::alloc::{AllocError, Global};
 use std::marker::Model;
 use stow_messages::Item;
-use units_core::Body;
+use units_core::{Body, same_items};
 
 /// The condition on arrival: the containers of the bay plan in their cells, and the fillings in their tanks.
 #[derive(Debug, Drop)]
@@ -171,6 +172,16 @@ impl Arrival {
         ensures { result.now ≡ self.now.bodies }
     {
         self.bodies.as_slice()
+    }
+
+    /// Whether two conditions are equal: the items and the fills are the same in the same order, and so are the bodies that they make
+    /// with the light ship. It takes no memory, and time in the number of bodies.
+    pub fn same(&self, other: &Arrival) -> bool
+        ensures { IsTrue result ↔ (self.now ≡ other.now) }
+    {
+        same_plan(&self.items, &other.items)
+            && same_items(&self.fills, &other.fills)
+            && same_items(&self.bodies, &other.bodies)
     }
 
     /// What is aboard, to go on from.

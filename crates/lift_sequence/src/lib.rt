@@ -9,6 +9,7 @@
 
 mod arrivals;
 mod containers;
+mod equality;
 mod faults;
 mod laws;
 mod operations;

@@ -1,4 +1,5 @@
 mod arrivals;
+mod equality;
 mod faults;
 mod laws;
 mod operations;
