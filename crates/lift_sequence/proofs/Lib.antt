@@ -3,9 +3,12 @@ pub mod Changes
 pub mod CountLemmas
 pub mod EqualityLemmas
 pub mod FirstFaults
+pub mod FollowLemmas
 pub mod Listings
+pub mod MemoryLemmas
 pub mod Overlaps
 pub mod PlaceLemmas
 pub mod RivalLemmas
 pub mod States
 pub mod Totals
+pub mod WalkLemmas

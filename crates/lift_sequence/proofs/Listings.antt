@@ -81,7 +81,7 @@ stood None taken rival h = absurd (cc)
 stood (Some p) true rival h = absurd (cc)
 stood (Some p) false rival h = ((p, refl), refl)
 
-is_free : (o : Option Container) → is_some o ≡ false → o ≡ None
+pub is_free : (o : Option Container) → is_some o ≡ false → o ≡ None
 is_free None h = refl
 is_free (Some c) h = absurd (cc)
 

@@ -2,6 +2,7 @@ pub mod Aboard
 pub mod Arrival
 pub mod Bodies
 pub mod Faults
+pub mod Follow
 pub mod Legal
 pub mod Places
 pub mod Printed

@@ -16,6 +16,7 @@ ghost use Rattle.lift_sequence.specs.Aboard.{Aboard, after_all, with_cell};
 ghost use Rattle.lift_sequence.specs.Arrival.{arrival_bodies, arrival_fault, on_arrival};
 ghost use Rattle.lift_sequence.specs.Bodies.{bodies};
 ghost use Rattle.lift_sequence.specs.Faults.{IsArrivalFault, IsLegalArrival, IsLegalSequence, IsSequenceFault};
+ghost use Rattle.lift_sequence.specs.Follow.{AreReweighedOnce, FewMoves, Reweighs, ReweighsSequences};
 ghost use Rattle.lift_sequence.specs.Legal.{overlap};
 ghost use Rattle.lift_sequence.specs.Places.{HasLift, HasPlaces, filled_tanks, taken_cells};
 ghost use Rattle.lift_sequence.specs.Rivals.{HaveShortBays, HasNoRival, IsLeastRival};
@@ -89,4 +90,14 @@ pub fn nobody_is_lost()
         length (ops_of lifts (Some rows)) ≡ length rows }
     ensures once { (lifts : List Lift) (rows : List StepRow) →
         EachLiftOnce (length lifts) rows → All (HasLift lifts) rows }
+{}
+
+/// Another weight of one load changes what its own step puts in, and what the restows of its container behind it and its discharge take
+/// out and put in: these are then bodies of the new weight. No other step changes, which says what every step does (`once`), and where
+/// each step could be done, each still can. Behind its load a container is moved by one step more than its restows at most.
+pub fn weights_change_few_steps()
+    ensures steps { Reweighs }
+    ensures sequences { ReweighsSequences }
+    ensures once { AreReweighedOnce }
+    ensures few { FewMoves }
 {}

@@ -5,6 +5,7 @@
 //! steps that [`ops`] makes of a movement instruction and a steps file, and tells of each the body that it takes out and the one that it
 //! puts in. Both answer the first item, fill or step that can't be, and why. What is aboard is known to this crate alone: the bodies on
 //! arrival and those of each step are all that a sum needs. A look-up takes constant time; so does the search for a cell that overlaps.
+//! [`Sequence::reweigh`] changes the weight of one load afterwards, and with it what the steps do that move its container.
 #![tactic(auto)]
 
 mod arrivals;
@@ -23,7 +24,7 @@ pub use arrivals::Arrival;
 pub use faults::{SeqCode, SeqFault};
 pub use laws::{
     arrivals_have_one_answer, cargo_has_places, nobody_is_lost, overlaps_are_least,
-    sequences_have_one_answer,
+    sequences_have_one_answer, weights_change_few_steps,
 };
 pub use operations::{Op, ops};
 pub use sequences::Sequence;

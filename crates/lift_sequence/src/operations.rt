@@ -1,11 +1,13 @@
 ghost use Rattle.std.specs.Prelude.{◌≡◌, IfOk, option_map, Some, None};
 ghost use Rattle.stow_messages.specs.declared.step_rows.StepRow.{StepRow};
+ghost use Rattle.units_core.specs.Cells.{cell_eq};
+ghost use Rattle.lift_sequence.specs.Follow.{loaded_cell, moves, next_cell, reweighed};
 ghost use Rattle.lift_sequence.specs.Sequence.{lift_at, op_of, ops_of};
 
 use arrayvec::ArrayVec;
 use std::alloc::{AllocError, Global};
-use stow_messages::{Lift, StepRow, copied};
-use units_core::Cell;
+use stow_messages::{Item, Lift, StepRow, copied};
+use units_core::{Cell, Kg};
 
 /// A step of a sequence.
 #[derive(Debug, Drop, PartialEq, Eq)]
@@ -25,6 +27,13 @@ pub enum Op {
     },
 }
 
+/// Two cells are one.
+fn same_cell(a: Cell, b: Cell) -> bool
+    ensures { result ≡ cell_eq a b }
+{
+    a == b
+}
+
 impl Op {
     /// An equal step.
     pub fn copy(&self) -> Op
@@ -41,6 +50,64 @@ impl Op {
                 to: *to,
                 id: copied(id),
             },
+        }
+    }
+
+    /// The cell into which the step loads a container; `None` where it is no load.
+    pub fn loaded_cell(&self) -> Option<Cell>
+        ensures { result ≡ loaded_cell self.now }
+    {
+        match self {
+            Op::Lift(Lift::Load(item)) => Some(item.cell),
+            _ => None,
+        }
+    }
+
+    /// The step with another weight of the container that it loads; an equal one where it is no load.
+    pub fn reweighed(&self, kg: Kg) -> Op
+        ensures { result ≡ reweighed kg self.now }
+    {
+        match self {
+            Op::Lift(Lift::Load(item)) => Op::Lift(Lift::Load(Item {
+                cell: item.cell,
+                id: copied(&item.id),
+                kg,
+            })),
+            _ => self.copy(),
+        }
+    }
+
+    /// Whether the step moves the container that stands in a cell. No step moves one that is ashore (`None`).
+    pub fn moves(&self, cell: Option<Cell>) -> bool
+        ensures { result ≡ moves cell self.now }
+    {
+        match (cell, self) {
+            (Some(stands), Op::Lift(Lift::Discharge { cell, .. })) => same_cell(stands, *cell),
+            (Some(stands), Op::Restow { from, .. }) => same_cell(stands, *from),
+            _ => false,
+        }
+    }
+
+    /// Where the container that stood in a cell stands after the step; `None` where it is ashore.
+    pub fn next_cell(&self, cell: Option<Cell>) -> Option<Cell>
+        ensures { result ≡ next_cell cell self.now }
+    {
+        match (cell, self) {
+            (Some(stands), Op::Lift(Lift::Discharge { cell, .. })) => {
+                if same_cell(stands, *cell) {
+                    None
+                } else {
+                    Some(stands)
+                }
+            }
+            (Some(stands), Op::Restow { from, to, .. }) => {
+                if same_cell(stands, *from) {
+                    Some(*to)
+                } else {
+                    Some(stands)
+                }
+            }
+            (cell, _) => cell,
         }
     }
 }

@@ -1,7 +1,9 @@
-ghost use Rattle.std.specs.Prelude.{◌≡◌, ◌≤◌, ◌<◌, ◌-◌, ◌++◌, ◌∷◌, [], length, slice_get, option_map, OnOk, IfOk, IfErr, Some, None};
+ghost use Rattle.std.specs.Prelude.{◌≡◌, ◌≤◌, ◌<◌, ◌-◌, ◌++◌, ◌∷◌, [], length, take, drop, slice_get, option_map, OnOk, IfOk, IfErr, Some, None};
+ghost use Rattle.ship_profile.specs.Record.{ProfileRecord};
 ghost use Rattle.lift_sequence.specs.Arrival.{TellsAt, cargo_on, fault_at};
-ghost use Rattle.lift_sequence.specs.Aboard.{cargo_in, after_step};
+ghost use Rattle.lift_sequence.specs.Aboard.{Aboard, cargo_in, after_step};
 ghost use Rattle.lift_sequence.specs.Bodies.{step_of, steps_of};
+ghost use Rattle.lift_sequence.specs.Follow.{AreReweighed, IsLoad, steps_weighed, weighed_at};
 ghost use Rattle.lift_sequence.specs.Legal.{fault_of};
 ghost use Rattle.lift_sequence.specs.Sequence.{AreSteps, IsOf, StepsAddUp, first_fault, sequence_fault};
 
@@ -13,6 +15,7 @@ use crate::stowage::Stowage;
 use ship_profile::Profile;
 use std::alloc::Global;
 use std::marker::Model;
+use units_core::{Cell, Kg};
 
 /// The greatest number of steps.
 const MAX_STEPS: usize = 120_000;
@@ -64,6 +67,35 @@ fn make_all(
         }
     }
     Ok(steps)
+}
+
+/// Gives another weight to the bodies of those steps, from the place `first` on, that move the container which stands in `cell` before
+/// them.
+fn weigh_moves(ops: &[Op], steps: &mut [Step], first: usize, cell: Option<Cell>, kg: Kg)
+    requires { length steps.old ≡ length ops.now }
+    ensures steps { steps.new ≡ take first steps.old
+        ++ steps_weighed kg cell (drop first ops.now) (drop first steps.old) }
+    ensures as_many { length steps.new ≡ length ops.now }
+{
+    let mut cell = cell;
+    for place in first..ops.len() {
+        let op = &ops[place];
+        if op.moves(cell) {
+            steps[place] = steps[place].weighed(kg);
+        }
+        cell = op.next_cell(cell);
+    }
+}
+
+/// Gives another weight to the bodies of the load at a place, and of those steps behind it that move its container.
+fn weigh_steps(ops: &[Op], steps: &mut [Step], place: usize, kg: Kg)
+    requires within { place < length ops.now }
+    requires as_many { length steps.old ≡ length ops.now }
+    ensures steps { AreReweighed kg place ops.now steps.old steps.new }
+    ensures as_many { length steps.new ≡ length ops.now }
+{
+    steps[place] = steps[place].weighed(kg);
+    weigh_moves(ops, steps, place + 1, ops[place].loaded_cell(), kg);
 }
 
 impl Sequence {
@@ -126,5 +158,33 @@ impl Sequence {
         ensures { slice_get self.now.ops (k - 1) ≡ Some result.now }
     {
         &self.ops[k - 1]
+    }
+
+    /// What the steps order, in their order.
+    pub fn ops(&self) -> &[Op]
+        ensures { result.now ≡ self.now.ops }
+    {
+        self.ops.as_slice()
+    }
+
+    /// Gives the container that step `k` loads, the first step being 1, another weight. That changes what this step puts in, and what the
+    /// steps behind it take out and put in that move the same container; all else stays. Wherever the sequence could be carried out, it
+    /// still can, since no step is judged by a weight. It takes no memory, and time linear in the number of steps.
+    pub fn reweigh(&mut self, k: usize, kg: Kg)
+        requires first { 1 ≤ k }
+        requires load { IsLoad self.old.ops (k - 1) }
+        ensures ops { self.new.ops ≡ weighed_at kg (k - 1) self.old.ops }
+        ensures steps { AreReweighed kg (k - 1) self.old.ops self.old.steps self.new.steps }
+        ensures legal { (ship : ProfileRecord) (at : Aboard) →
+            sequence_fault ship at self.old.ops ≡ None →
+            sequence_fault ship at self.new.ops ≡ None }
+        ensures done { (ship : ProfileRecord) (at : Aboard) →
+            sequence_fault ship at self.old.ops ≡ None →
+            self.old.steps ≡ steps_of ship at self.old.ops →
+            self.new.steps ≡ steps_of ship at self.new.ops }
+    {
+        let place = k - 1;
+        weigh_steps(&self.ops, &mut self.steps, place, kg);
+        self.ops[place] = self.ops[place].reweighed(kg);
     }
 }

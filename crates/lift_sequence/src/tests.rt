@@ -4,5 +4,6 @@ mod faults;
 mod laws;
 mod operations;
 mod orders;
+mod reweighing;
 mod sequences;
 mod ships;

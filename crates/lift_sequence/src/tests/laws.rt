@@ -1,6 +1,6 @@
 use crate::{
     arrivals_have_one_answer, cargo_has_places, nobody_is_lost, overlaps_are_least,
-    sequences_have_one_answer,
+    sequences_have_one_answer, weights_change_few_steps,
 };
 
 #[test]
@@ -10,4 +10,5 @@ fn laws() {
     overlaps_are_least();
     cargo_has_places();
     nobody_is_lost();
+    weights_change_few_steps();
 }

@@ -21,6 +21,8 @@ pub enum Order {
     Load(Cell),
     /// A container of another identification does.
     Loaded(Cell, &'static str),
+    /// A container of so many kg does.
+    Weighing(Cell, u32),
     /// The container of an identification goes ashore from a cell.
     Discharge(Cell, &'static str),
     /// A tank holds so many kg.
@@ -36,12 +38,17 @@ pub fn short<const MOST: usize>(text: &str) -> ArrayVec<u8, MOST> {
     bytes
 }
 
+/// So many kg, or the greatest mass of a container.
+pub fn mass(kg: u32) -> Kg {
+    Kg::new(kg.min(Kg::MAX)).unwrap()
+}
+
 /// A container in a cell.
-fn item(cell: Cell, id: &str) -> Item {
+fn item(cell: Cell, id: &str, kg: u32) -> Item {
     Item {
         cell,
         id: short(id),
-        kg: Kg::new(CONTAINER_KG).unwrap(),
+        kg: mass(kg),
     }
 }
 
@@ -49,7 +56,7 @@ fn item(cell: Cell, id: &str) -> Item {
 pub fn items(alloc: Global, cells: &[Cell]) -> Result<Vec<Item>, AllocError> {
     let mut items = Vec::new(alloc);
     for cell in cells {
-        items.push(item(*cell, ABCU))?;
+        items.push(item(*cell, ABCU, CONTAINER_KG))?;
     }
     Ok(items)
 }
@@ -57,8 +64,9 @@ pub fn items(alloc: Global, cells: &[Cell]) -> Result<Vec<Item>, AllocError> {
 /// The step of an order.
 pub fn op(order: &Order) -> Op {
     match order {
-        Order::Load(cell) => Op::Lift(Lift::Load(item(*cell, ABCU))),
-        Order::Loaded(cell, id) => Op::Lift(Lift::Load(item(*cell, id))),
+        Order::Load(cell) => Op::Lift(Lift::Load(item(*cell, ABCU, CONTAINER_KG))),
+        Order::Loaded(cell, id) => Op::Lift(Lift::Load(item(*cell, id, CONTAINER_KG))),
+        Order::Weighing(cell, kg) => Op::Lift(Lift::Load(item(*cell, ABCU, *kg))),
         Order::Discharge(cell, id) => Op::Lift(Lift::Discharge {
             cell: *cell,
             id: short(id),
