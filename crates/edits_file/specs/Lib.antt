@@ -1,0 +1,4 @@
+pub mod Faults
+pub mod Forms
+pub mod Reading
+pub mod Words
