@@ -21,7 +21,7 @@ struct Condition {
     fill: u32,
 }
 
-/// The condition that others are compared with.
+/// The plain condition, with which others are compared.
 static PLAIN: Condition = Condition {
     name: "as it is",
     cells: &[FORE, MIDDLE],
@@ -124,7 +124,7 @@ fn arrival(alloc: Global, profile: &Profile, condition: &Condition) -> Result<Ar
     Arrival::new(alloc, profile, items, &fills)
 }
 
-/// Whether an arrival is that of a ship in a condition.
+/// Whether an arrival is equal to that of a ship in a condition.
 fn is_of(
     alloc: Global,
     made: &Arrival,
@@ -136,7 +136,7 @@ fn is_of(
     })
 }
 
-/// Whether the arrival of a ship as she is, is that of another ship in a condition.
+/// Whether the arrival of a ship in the plain condition is equal to that of another ship in a condition.
 fn are_same(
     alloc: Global,
     profile: &Profile,
@@ -177,7 +177,7 @@ fn with_ship<'a>(files: ProfileBytes<'a>, ship: &'a [u8]) -> ProfileBytes<'a> {
     ProfileBytes { ship, ..files }
 }
 
-/// Whether the arrival of a ship as she is, is that of the box ship with a block of so many kg.
+/// Whether the arrival of a ship in the plain condition is equal to that of the box ship with a block of so many kg.
 fn is_same_with_block(alloc: Global, profile: &Profile, kg: u32) -> Result<bool, Fail> {
     let ship = format!(in alloc;
         "{LIMITS}[[blocks]]\nkg = {kg}\nx_mm = 50000\ny_mm = 0\nz_mm = 6000\nhalf_mm = 50000\n"
@@ -188,7 +188,7 @@ fn is_same_with_block(alloc: Global, profile: &Profile, kg: u32) -> Result<bool,
     })?
 }
 
-/// Compares the same condition on the box ship and on a ship of another block.
+/// Compares the plain condition on the box ship and on a ship of another block.
 #[derive(Clone, Copy)]
 struct OnTwoShips;
 
