@@ -44,6 +44,19 @@ impl<M: Monoid + Drop> TotalsTree<M> {
         Ok(TotalsTree { rows, count: 0 })
     }
 
+    /// A tree over other values, be they more or fewer, whose count goes on from that of this one. The sizes of the values add up to at most
+    /// [`crate::MAX_PARTS`], and the joins made here aren't counted. The one error is out of memory.
+    pub fn rebuilt(&self, alloc: Global, values: &[M]) -> Result<TotalsTree<M>, AllocError>
+        requires { sum_by M.weight values.now ≤ most_parts }
+        ensures { IfOk result (λ t. (t.values ≡ values.now) × (t.joins ≡ self.now.joins)) }
+    {
+        let rows = rows_over(alloc, values)?;
+        Ok(TotalsTree {
+            rows,
+            count: self.count,
+        })
+    }
+
     /// How many values there are.
     pub fn len(&self) -> usize
         ensures { result ≡ length self.now.values }

@@ -157,3 +157,19 @@ fn a_tree_as_the_plain_form(rt: HostRuntime) -> Result<(), Fail> {
     }
     Ok(())
 }
+
+// Three values made four by 5 before them: the prefixes are those of the new list, the first three being 5, 1 and none, and the count goes on from
+// the one join that the set made.
+#[test]
+fn a_tree_rebuilt(rt: HostRuntime) -> Result<(), Fail> {
+    let mut tree = TotalsTree::build(rt.alloc(), &VALUES)?;
+    tree.set(0, FIVE);
+    assert_eq!(rt; tree.joins(), 1);
+    let longer = [FIVE, VALUES[0], VALUES[1], VALUES[2]];
+    let tree = tree.rebuilt(rt.alloc(), &longer)?;
+    assert_eq!(rt; tree.len(), 4);
+    assert_eq!(rt; tree.joins(), 1);
+    assert_eq!(rt; tree.peek(3), joined(Some(1), 3));
+    assert_eq!(rt; tree.peek(4), joined(Some(3), 4));
+    Ok(())
+}
