@@ -167,6 +167,13 @@ impl Arrival {
         })
     }
 
+    /// The items of the bay plan, in their order.
+    pub fn items(&self) -> &[Item]
+        ensures { result.now ≡ self.now.items }
+    {
+        self.items.as_slice()
+    }
+
     /// The bodies aboard: the blocks of the light ship, the fillings, the containers.
     pub fn bodies(&self) -> &[Body]
         ensures { result.now ≡ self.now.bodies }

@@ -1,3 +1,4 @@
+pub mod CaseLemmas
 pub mod ChunkLemmas
 pub mod Digits
 pub mod FirstLemmas

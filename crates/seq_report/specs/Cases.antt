@@ -1,22 +1,23 @@
 -- Bookkeeping: a ship, what is aboard of her on arrival, and the steps from there, all of which can be done.
-use Rattle.std.specs.Prelude.{◌≡◌, ℕ, ◌+◌, ◌-◌, ◌<◌, ◌≤◌, ℤ, ◌+ℤ◌, List, length, map, take, slice_get, Option, None, Some}
+use Rattle.std.specs.Prelude.{◌≡◌, ℕ, ◌+◌, ◌-◌, ◌<◌, ◌≤◌, ℤ, ◌+ℤ◌, List, length, map, take, slice_get, Option, None, Some, Ok}
 use Rattle.std.specs.List.{range_with_len}
 use Rattle.units_core.specs.Bodies.{Mass}
 use Rattle.lift_sequence.specs.Aboard.{Aboard, after_all}
 use Rattle.ship_profile.specs.Record.{ProfileRecord}
 use Rattle.lift_sequence.specs.Arrival.{ArrivalRecord, cargo_on}
-use Rattle.lift_sequence.specs.Bodies.{bodies}
-use Rattle.lift_sequence.specs.Sequence.{IsOf, SequenceRecord}
+use Rattle.lift_sequence.specs.Bodies.{bodies, steps_of}
+use Rattle.lift_sequence.specs.Sequence.{IsOf, SequenceRecord, sequence_fault}
 use Rattle.lift_sequence.specs.Totals.{change, total}
 use Rattle.moment_sums.specs.Bounded.{IsBounded}
-use Rattle.moment_sums.specs.Kept.{size_of, values}
-use Rattle.moment_sums.specs.Sum.{Sum}
+use Rattle.moment_sums.specs.Kept.{Kept, size_of, values}
+use Rattle.moment_sums.specs.Sum.{Sum, sum_of}
 use Rattle.seq_report.specs.declared.cases.Case.{Case}
 use Rattle.seq_report.specs.declared.cases.CaseView.{CaseView}
 use Rattle.claim_board.specs.Claims.{IsLeastFound}
 use Rattle.seq_report.specs.declared.sections.Chunk.{Chunk}
 use Rattle.seq_report.specs.Chunks.{chunk_of, parts_to, step_of_first, sum_to}
-use Rattle.seq_report.specs.Refusal.{Outcome, outcome_on}
+use Rattle.seq_report.specs.declared.inputs.Inputs.{Inputs}
+use Rattle.seq_report.specs.Refusal.{Outcome, items_in, orders_in, outcome_on, ship_in}
 use Rattle.seq_report.specs.Report.{Line, line_at, lines_of, sum_at}
 
 abbrev pub case_on : ProfileRecord → ArrivalRecord → SequenceRecord → Case
@@ -52,6 +53,23 @@ pub record HasArrived (ship : ProfileRecord) (arrival : ArrivalRecord) : Type 0 
   pub of : IsOf ship arrival
   pub few : length arrival.bodies ≤ 30400
   pub adds_up : (f : Mass → ℤ) → total f arrival.bodies ≡ total f (bodies ship (cargo_on arrival))
+
+-- a sequence made with this ship and this arrival: its list can be done from there, and its steps are what that does
+pub record IsMade (ship : ProfileRecord) (arrival : ArrivalRecord) (sequence : SequenceRecord) : Type 0 where
+  pub legal : sequence_fault ship (cargo_on arrival) sequence.ops ≡ None
+  pub steps : sequence.steps ≡ steps_of ship (cargo_on arrival) sequence.ops
+
+-- Inputs tell of this case: its ship, the items and the fills that are aboard on arrival, and its list of steps.
+pub record IsToldBy (inputs : Inputs) (case : Case) : Type 0 where
+  pub ship : ship_in inputs ≡ Ok case.profile
+  pub items : items_in inputs ≡ Ok case.arrival.items
+  pub fills : case.arrival.fills ≡ case.profile.fills
+  pub orders : orders_in inputs ≡ Ok case.sequence.ops
+
+-- everything aboard on arrival, added up
+pub record IsArrivalTotal (ship : ProfileRecord) (arrival : ArrivalRecord) (total : Kept) : Type 0 where
+  pub sum : values total ≡ sum_of ship.ship.frames arrival.bodies
+  pub size : size_of total ≤ 30400
 
 -- Few enough frames, bodies and steps for every sum; and whatever value is added up, what is aboard after k steps is what is aboard on arrival with
 -- what these steps change.

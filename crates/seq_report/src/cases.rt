@@ -1,8 +1,8 @@
 ghost use Rattle.std.specs.List.{AllByRecursion};
 ghost use Rattle.std.specs.Prelude.{◌≡◌, ◌≢◌, ◌+◌, ◌^◌, ◌≤◌, length, option_map, false, IfOk, IfErr, Ok, Err};
 ghost use Rattle.lift_sequence.specs.Arrival.{cargo_on};
-ghost use Rattle.seq_report.specs.Cases.{HasArrived, IsReady, outcome_in, seen};
-ghost use Rattle.seq_report.specs.Refusal.{TellsMemory, outcome_for, outcome_from, outcome_of, outcome_with, is_cut, is_write};
+ghost use Rattle.seq_report.specs.Cases.{HasArrived, IsMade, IsReady, IsToldBy, outcome_in, seen};
+ghost use Rattle.seq_report.specs.Refusal.{TellsMemory, items_in, orders_in, outcome_for, outcome_from, outcome_of, outcome_with, is_cut, is_write};
 ghost use Rattle.seq_report.specs.Report.{lift_to};
 
 use crate::faults::RunFault;
@@ -73,7 +73,12 @@ fn case_on_ops(
     requires light { AllByRecursion (λ item. item.kg ≤ 10 ^ 9) arrival.items }
     ensures ok { IfOk result
         (λ case. outcome_with profile (cargo_on arrival) ops.items ≡ Ok (outcome_in case)) }
+    ensures ship { IfOk result (λ case. case.profile ≡ profile) }
+    ensures arrival { IfOk result (λ case. case.arrival ≡ arrival) }
+    ensures ops { IfOk result (λ case. case.sequence.ops ≡ ops.items) }
     ensures ready { IfOk result IsReady }
+    ensures arrived { IfOk result (λ case. HasArrived case.profile case.arrival) }
+    ensures made { IfOk result (λ case. IsMade case.profile case.arrival case.sequence) }
     ensures refused { IfErr result
         (λ e. e ≢ RunFault.NoMemory → outcome_with profile (cargo_on arrival) ops.items ≡ Err e) }
     ensures memory { IfErr result TellsMemory }
@@ -100,7 +105,12 @@ fn case_from_arrival(
     requires light { AllByRecursion (λ item. item.kg ≤ 10 ^ 9) arrival.items }
     ensures ok { IfOk result
         (λ case. outcome_from profile (cargo_on arrival) inputs.now ≡ Ok (outcome_in case)) }
+    ensures ship { IfOk result (λ case. case.profile ≡ profile) }
+    ensures arrival { IfOk result (λ case. case.arrival ≡ arrival) }
+    ensures orders { IfOk result (λ case. orders_in inputs.now ≡ Ok case.sequence.ops) }
     ensures ready { IfOk result IsReady }
+    ensures arrived { IfOk result (λ case. HasArrived case.profile case.arrival) }
+    ensures made { IfOk result (λ case. IsMade case.profile case.arrival case.sequence) }
     ensures refused { IfErr result
         (λ e. e ≢ RunFault.NoMemory → outcome_from profile (cargo_on arrival) inputs.now ≡ Err e) }
     ensures memory { IfErr result TellsMemory }
@@ -114,7 +124,13 @@ fn case_from_arrival(
 /// The case of a ship, or the first refusal of the other inputs.
 fn case_on_ship(alloc: Global, profile: Profile, inputs: &Inputs<'_>) -> Result<Case, RunFault>
     ensures ok { IfOk result (λ case. outcome_for profile inputs.now ≡ Ok (outcome_in case)) }
+    ensures ship { IfOk result (λ case. case.profile ≡ profile) }
+    ensures items { IfOk result (λ case. items_in inputs.now ≡ Ok case.arrival.items) }
+    ensures fills { IfOk result (λ case. case.arrival.fills ≡ case.profile.fills) }
+    ensures orders { IfOk result (λ case. orders_in inputs.now ≡ Ok case.sequence.ops) }
     ensures ready { IfOk result IsReady }
+    ensures arrived { IfOk result (λ case. HasArrived case.profile case.arrival) }
+    ensures made { IfOk result (λ case. IsMade case.profile case.arrival case.sequence) }
     ensures refused { IfErr result
         (λ e. e ≢ RunFault.NoMemory → outcome_for profile inputs.now ≡ Err e) }
     ensures memory { IfErr result TellsMemory }
@@ -127,10 +143,13 @@ fn case_on_ship(alloc: Global, profile: Profile, inputs: &Inputs<'_>) -> Result<
     case_from_arrival(alloc, profile, arrival, inputs)
 }
 
-/// The case that the inputs tell of, or the first refusal.
+/// The case that the inputs tell of, or the first refusal, in the order of [`crate::report`]. Out of memory may stand for any refusal.
 pub fn case_of(alloc: Global, inputs: &Inputs<'_>) -> Result<Case, RunFault>
     ensures ok { IfOk result (λ case. outcome_of inputs.now ≡ Ok (outcome_in case)) }
+    ensures told { IfOk result (IsToldBy inputs.now) }
     ensures ready { IfOk result IsReady }
+    ensures arrived { IfOk result (λ case. HasArrived case.profile case.arrival) }
+    ensures made { IfOk result (λ case. IsMade case.profile case.arrival case.sequence) }
     ensures refused { IfErr result (λ e. e ≢ RunFault.NoMemory → outcome_of inputs.now ≡ Err e) }
     ensures memory { IfErr result TellsMemory }
     ensures silent { is_write result ≡ false }

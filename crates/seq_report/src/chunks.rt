@@ -1,22 +1,25 @@
 ghost use Rattle.std.specs.Prelude.{◌≡◌, ◌+◌, ◌-◌, ◌^◌, ◌<◌, ◌≤◌, ℕ, length, map, slice_index_or, IfOk};
 ghost use Rattle.std.specs.List.{range_with_len};
 ghost use Rattle.moment_sums.specs.Kept.{Kept, both_kept, size_of, values};
-ghost use Rattle.seq_report.specs.Cases.{IsReady, seen, sum_in};
+ghost use Rattle.moment_sums.specs.Sum.{sum_of};
+ghost use Rattle.seq_report.specs.Cases.{IsReady, seen};
 ghost use Rattle.seq_report.specs.Chunks.{change_behind, changes_behind};
 
 use crate::cases::CaseView;
+use lift_sequence::Arrival;
 use moment_sums::Totals;
 use prefix_scan::Monoid;
+use ship_profile::Profile;
 use std::alloc::{AllocError, Global};
 
-/// Everything that is aboard on arrival, added up.
-pub fn arrival_total(case: CaseView<'_>) -> Totals
-    requires { length case.arrival.now.bodies ≤ 30400 }
-    ensures sum { values result ≡ sum_in (seen case.entry) 0 }
+/// Everything that is aboard on arrival, added up. There are at most 30,400 bodies; the arrival is one that was made with this profile.
+pub fn arrival_total(profile: &Profile, arrival: &Arrival) -> Totals
+    requires { length arrival.now.bodies ≤ 30400 }
+    ensures sum { values result ≡ sum_of profile.now.ship.frames arrival.now.bodies }
     ensures size { size_of result ≤ 30400 }
 {
-    let frames = case.profile.frames();
-    let bodies = case.arrival.bodies();
+    let frames = profile.frames();
+    let bodies = arrival.bodies();
     let mut sum = Totals::unit();
     for body in bodies {
         sum = sum.join(&Totals::of(body, frames));

@@ -1,16 +1,22 @@
 ghost use Rattle.std.specs.Prelude.{◌≡◌, ℕ, ◌≤◌, length, false, true, IfOk, IfErr, Ok, Err};
 ghost use Rattle.prefix_scan.specs.declared.divisions.CutFault.{CutFault as CutFaultValue};
-ghost use Rattle.seq_report.specs.Cases.{IsFirstStep, outcome_in, seen};
+ghost use Rattle.seq_report.specs.Cases.{HasArrived, IsArrivalTotal, IsFirstStep, IsMade, IsReady, case_on, outcome_in, seen};
 ghost use Rattle.seq_report.specs.Plans.{Fits, IsPlanFault};
 ghost use Rattle.seq_report.specs.Refusal.{Outcome, TellsMemory, outcome_of, is_refusal, is_write};
 
+use crate::cases::CaseView;
 use crate::faults::RunFault;
 use crate::inputs::Inputs;
 use crate::jobs::Lines;
 use crate::plans::Options;
 use crate::prepared::{Prepared, prepare};
+use crate::sections::{Chunk, first_failing};
+use crate::weights::{items_are_light, ops_are_light};
 use claim_run::{Gate, Workers, run_least};
 use criteria::Criterion;
+use lift_sequence::{Arrival, Sequence};
+use moment_sums::Totals;
+use ship_profile::Profile;
 use std::alloc::{AllocError, Global};
 use std::sync::Wait;
 use std::thread::Threads;
@@ -82,4 +88,41 @@ pub fn first_fail<G: Gate, R: Threads + Wait + Sync>(
         Ok(first) => Ok(first),
         Err(AllocError) => Err(RunFault::NoMemory),
     }
+}
+
+/// The first step that fails of a sequence that was made with this profile and arrival, 0 being the condition on arrival, with its first criterion,
+/// as a report on it names it; `None` where all steps pass. `total` is everything that is aboard on arrival, added up.
+pub fn first_fail_from(
+    profile: &Profile,
+    arrival: &Arrival,
+    sequence: &Sequence,
+    total: &Totals,
+) -> Option<(u32, Criterion)>
+    requires arrived { HasArrived profile.now arrival.now }
+    requires made { IsMade profile.now arrival.now sequence.now }
+    requires total { IsArrivalTotal profile.now arrival.now total.now }
+    ensures { result ≡ (outcome_in (case_on profile.now arrival.now sequence.now)).summary.first }
+{
+    items_are_light(arrival.items());
+    ops_are_light(sequence.ops());
+    let case = CaseView {
+        profile,
+        arrival,
+        sequence,
+    };
+    first_of_case(case, total)
+}
+
+/// The same of a case that is ready for a report.
+fn first_of_case(case: CaseView<'_>, total: &Totals) -> Option<(u32, Criterion)>
+    requires ready { IsReady (seen case) }
+    requires total { IsArrivalTotal case.profile.now case.arrival.now total.now }
+    ensures { result ≡ (outcome_in (seen case.entry)).summary.first }
+{
+    let whole = Chunk {
+        start: 0,
+        end: case.lines(),
+        first: *total,
+    };
+    first_failing(case, &Hull::new(case.profile), &whole)
 }

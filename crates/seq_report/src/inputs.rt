@@ -1,7 +1,7 @@
 ghost use Rattle.std.specs.Prelude.{◌≡◌, ◌≢◌, ◌≤◌, length, option_map, false, IfOk, IfErr, Ok, Err};
-ghost use Rattle.lift_sequence.specs.Sequence.{AreSteps, IsOf, StepsAddUp};
+ghost use Rattle.lift_sequence.specs.Sequence.{IsOf};
 ghost use Rattle.lift_sequence.specs.Arrival.{cargo_on};
-ghost use Rattle.seq_report.specs.Cases.{HasArrived};
+ghost use Rattle.seq_report.specs.Cases.{HasArrived, IsMade};
 ghost use Rattle.seq_report.specs.Refusal.{TellsMemory, arrival_in, is_cut, is_write, items_in, lifts_in, orders_in, orders_on, rows_of, sequence_in, ship_in};
 
 use crate::faults::RunFault;
@@ -60,6 +60,7 @@ pub fn arrival(alloc: Global, profile: &Profile, items: Vec<Item>) -> Result<Arr
     ensures ok { IfOk result (λ a. arrival_in profile.now items.items ≡ Ok (cargo_on a)) }
     ensures arrived { IfOk result (λ a. HasArrived profile.now a) }
     ensures items { IfOk result (λ a. a.items ≡ items.items) }
+    ensures fills { IfOk result (λ a. a.fills ≡ profile.now.fills) }
     ensures refused { IfErr result
         (λ e. e ≢ RunFault.NoMemory → arrival_in profile.now items.items ≡ Err e) }
     ensures memory { IfErr result TellsMemory }
@@ -146,9 +147,7 @@ pub fn sequence(
     ensures ok { IfOk result
         (λ s. sequence_in profile.now (cargo_on arrival.now) ops.items ≡ Ok s.ops) }
     ensures ops { IfOk result (λ s. s.ops ≡ ops.items) }
-    ensures each { IfOk result (λ s. AreSteps profile.now (cargo_on arrival.now) s.ops s.steps) }
-    ensures sums { IfOk result (λ s. StepsAddUp profile.now (cargo_on arrival.now) s.ops s.steps) }
-    ensures few { IfOk result (λ s. length s.ops ≤ 120000) }
+    ensures made { IfOk result (λ s. IsMade profile.now arrival.now s) }
     ensures refused { IfErr result (λ e. e ≢ RunFault.NoMemory
         → sequence_in profile.now (cargo_on arrival.now) ops.items ≡ Err e) }
     ensures memory { IfErr result TellsMemory }

@@ -22,16 +22,19 @@ mod sink;
 mod step_lines;
 mod weights;
 
+pub use cases::{Case, case_of};
+pub use chunks::{arrival_total, joined_to_arrival};
 pub use complete::Summary;
 pub use criteria::Criterion;
-pub use failures::first_fail;
+pub use failures::{first_fail, first_fail_from};
 pub use faults::RunFault;
 pub use inputs::Inputs;
 pub use lifts::shown;
 pub use lines::write_last_line;
-pub use plans::{CutPlan, Options};
+pub use plans::{CutPlan, Options, cuts_of};
 pub use runs::{report, report_from};
 pub use sink::{Sink, SinkFailed, Through, put_all};
+pub use weights::{items_are_light, ops_are_light};
 
 #[cfg(test)]
 mod tests;

@@ -44,7 +44,8 @@ fn first_sums<G: Gate, R: Threads + Wait + Sync>(
 {
     let totals = run(rt, alloc, gate, workers, changes.chunks(), changes)?;
     let before = offsets(alloc, &totals)?;
-    joined_to_arrival(alloc, &arrival_total(changes.case), &before)
+    let case = changes.case;
+    joined_to_arrival(alloc, &arrival_total(case.profile, case.arrival), &before)
 }
 
 /// The same of a case and its cuts.

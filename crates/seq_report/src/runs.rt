@@ -2,7 +2,7 @@ ghost use Rattle.std.specs.Prelude.{◌≡◌, ◌≢◌, ℕ, ◌+◌, ◌<◌,
 ghost use Rattle.std.specs.Io.KnownBytes.{Appends};
 ghost use Rattle.prefix_scan.specs.Cut.{Divides};
 ghost use Rattle.prefix_scan.specs.declared.divisions.CutFault.{CutFault as CutFaultValue};
-ghost use Rattle.seq_report.specs.Cases.{IsReady, case_on, outcome_in, seen};
+ghost use Rattle.seq_report.specs.Cases.{HasArrived, IsMade, IsReady, case_on, outcome_in, seen};
 ghost use Rattle.seq_report.specs.Chunks.{AreFirstSums};
 ghost use Rattle.seq_report.specs.Plans.{Fits, IsPlanFault};
 ghost use Rattle.seq_report.specs.Refusal.{IsOfRun, Outcome, TellsMemory, outcome_of, is_refusal, is_write, is_write_fault};
@@ -15,6 +15,7 @@ use crate::jobs::Lines;
 use crate::plans::Options;
 use crate::prepared::{Prepared, prepare};
 use crate::sink::{Sink, put_all};
+use crate::weights::{items_are_light, ops_are_light};
 use claim_run::{Gate, Workers, run};
 use lift_sequence::{Arrival, Sequence};
 use moment_sums::Totals;
@@ -55,12 +56,8 @@ fn put_report<S: Sink>(made: &CompleteReport, sink: &mut S) -> Result<Summary, R
     }
 }
 
-/// Writes the report on a ship, what is aboard of her on arrival and the steps from there to a sink that has not failed. The sequence is
-/// one that was made with this profile and arrival, the cuts divide its lines (the condition on arrival and one line for each step), and
-/// `sums` has, for each chunk, everything that is aboard at its first line added up.
-///
-/// Nothing is written out of memory (F7). Where the sink fails, it holds a prefix of the report, of the length that F8 says.
-pub fn report_from<'a, G: Gate, R: Threads + Wait + Sync, S: Sink>(
+/// Writes the report on a case that is ready for it, from the sums at the first lines of its chunks.
+fn report_ready<'a, G: Gate, R: Threads + Wait + Sync, S: Sink>(
     rt: &R,
     alloc: Global,
     gate: &G,
@@ -108,6 +105,51 @@ pub fn report_from<'a, G: Gate, R: Threads + Wait + Sync, S: Sink>(
     }
 }
 
+/// Writes the report on a ship, what is aboard of her on arrival and the steps from there to a sink that has not failed. The sequence is
+/// one that was made with this profile and arrival, the cuts divide its lines (the condition on arrival and one line for each step), and
+/// `sums` has, for each chunk, everything that is aboard at its first line added up.
+///
+/// Nothing is written out of memory (F7). Where the sink fails, it holds a prefix of the report, of the length that F8 says.
+pub fn report_from<'a, G: Gate, R: Threads + Wait + Sync, S: Sink>(
+    rt: &R,
+    alloc: Global,
+    gate: &G,
+    profile: &'a Profile,
+    arrival: &'a Arrival,
+    sequence: &'a Sequence,
+    workers: Workers,
+    cuts: &'a Cuts,
+    sums: &'a [Totals],
+    sink: &mut S,
+) -> Result<Summary, RunFault>
+    requires arrived { HasArrived profile.now arrival.now }
+    requires made { IsMade profile.now arrival.now sequence.now }
+    requires cut { Divides cuts.now (length sequence.now.ops + 1) }
+    requires sums { AreFirstSums profile.now.ship.frames
+        arrival.now.bodies sequence.now.steps cuts.now sums.now }
+    requires sound { S.has_failed sink.old ≡ false }
+    ensures written { IfOk result (λ summary.
+        (summary
+        ≡ (outcome_in (case_on profile.entry.now arrival.entry.now sequence.entry.now)).summary)
+        × Appends (S.contents sink.old) (S.contents sink.new)
+        (outcome_in (case_on profile.entry.now arrival.entry.now sequence.entry.now)).text) }
+    ensures untouched { IfErr result
+        (λ e. is_write_fault e ≡ false → S.contents sink.new ≡ S.contents sink.old) }
+    ensures failed { S.has_failed sink.new ≡ is_write result }
+    ensures fault { IfErr result IsOfRun }
+    ensures cut_short { IfErr result (λ e. (m : ℕ) → e ≡ RunFault.Write m
+        → (m < length
+        (outcome_in (case_on profile.entry.now arrival.entry.now sequence.entry.now)).text)
+        × Appends (S.contents sink.old) (S.contents sink.new)
+        (take m (outcome_in (case_on profile.entry.now arrival.entry.now sequence.entry.now)).text)) }
+{
+    items_are_light(arrival.items());
+    ops_are_light(sequence.ops());
+    report_ready(
+        rt, alloc, gate, profile, arrival, sequence, workers, cuts, sums, sink,
+    )
+}
+
 /// Writes the report on a case in its chunks, from the sums at their first lines.
 fn report_prepared<G: Gate, R: Threads + Wait + Sync, S: Sink>(
     rt: &R,
@@ -129,7 +171,7 @@ fn report_prepared<G: Gate, R: Threads + Wait + Sync, S: Sink>(
         × Appends (S.contents sink.old) (S.contents sink.new)
         (take m (outcome_in made.now.case).text)) }
 {
-    report_from(
+    report_ready(
         rt,
         alloc,
         gate,

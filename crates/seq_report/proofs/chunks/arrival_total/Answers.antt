@@ -17,10 +17,10 @@ loop-body-preserved c =
     let so_far = c.loop-body.invariant in
     let inside = c.loop-body-test.true in
     let few = c.requires in
-    let count : length c.bodies-bodies.result.now ≡ length c.args.case.arrival.now.bodies = ap length c.bodies-bodies.ensures in
+    let count : length c.bodies-bodies.result.now ≡ length c.args.arrival.now.bodies = ap length c.bodies-bodies.ensures in
     let both = kept_laws.op_weight c.loop-body.sum c.of.result (omega (arith, so_far.size, c.of.ensures.size, inside, few, count)) in
     record {
-      sum = body_more c.args.case.profile.now.ship.frames c.bodies-bodies.result.now c.loop-body.body-index c.body-item.result _ _ _
+      sum = body_more c.args.profile.now.ship.frames c.bodies-bodies.result.now c.loop-body.body-index c.body-item.result _ _ _
           inside c.body-item.is so_far.sum (c.of.ensures.values ∙ ap (λ f. of_body f c.body-item.result) c.frames-frames.ensures.value)
           (ap values c.join-sum.ensures ∙ values_both c.loop-body.sum c.of.result);
       size = omega (arith, ap size_of c.join-sum.ensures, both, so_far.size, c.of.ensures.size);
@@ -30,4 +30,4 @@ pub returns-clause-sum : goal.returns-clause-sum
 returns-clause-sum c =
     let past : length c.bodies-bodies.result.now ≤ c.loop-body.body-index = omega (arith, c.loop-body-test.false) in
     c.loop-body.invariant.sum
-    ∙ ap (sum_of c.args.case.profile.now.ship.frames) (take_past c.bodies-bodies.result.now c.loop-body.body-index past ∙ c.bodies-bodies.ensures)
+    ∙ ap (sum_of c.args.profile.now.ship.frames) (take_past c.bodies-bodies.result.now c.loop-body.body-index past ∙ c.bodies-bodies.ensures)

@@ -5,6 +5,6 @@ use Rattle.seq_report.proofs.chunks.arrival_total.Given as goal
 
 abbrev pub invariant-loop-body : goal.invariant-loop-body
 invariant-loop-body l = record {
-  sum : values l.sum ≡ sum_of l.case.profile.now.ship.frames (take l.body-index l.bodies);
+  sum : values l.sum ≡ sum_of l.profile.ship.frames (take l.body-index l.bodies);
   size : size_of l.sum ≡ l.body-index;
 }

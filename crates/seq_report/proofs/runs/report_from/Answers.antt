@@ -1,14 +1,12 @@
-use Rattle.std.proofs.Common.{◌∙◌, ap, subst}
-use Rattle.std.specs.Io.KnownBytes.{Appends}
-use Rattle.std.proofs.lemmas.Result.{IfOk-weaker}
-use Rattle.seq_report.specs.Refusal.{Outcome}
+use Rattle.std.proofs.Common.{◌^◌, ◌≤◌, subst}
+use Rattle.std.specs.List.{AllByRecursion}
+use Rattle.stow_messages.specs.declared.items.Item.{Item}
+use Rattle.moment_sums.specs.Bounded.{IsLight}
+use Rattle.seq_report.proofs.CaseLemmas.{ready}
 use Rattle.seq_report.proofs.runs.report_from.Goals as goal
 
-pub returns-in-Ok-clause-written : goal.returns-in-Ok-clause-written
-returns-in-Ok-clause-written g c =
-    IfOk-weaker c.put_report.result _ _
-    (λ summary h. (
-      h.0 ∙ ap (λ (o : Outcome). o.summary) c.in-Ok.ensures,
-      subst (λ (o : Outcome). Appends (g.S.Sink.contents c.args.sink.now) (g.S.Sink.contents c.put_report.new.sink) o.text) c.in-Ok.ensures h.1,
-    ))
-    c.put_report.ensures.written
+pub report_ready-requires-clause-ready : goal.report_ready-requires-clause-ready
+report_ready-requires-clause-ready g c = λ κs lives.
+    ready c.args.profile.now c.args.arrival.now c.args.sequence.now c.requires.arrived c.requires.made
+    (subst (AllByRecursion (λ (item : Item). item.kg ≤ 10 ^ 9)) c.items.ensures c.items_are_light.ensures)
+    (subst (AllByRecursion IsLight) c.ops.ensures c.ops_are_light.ensures)
