@@ -1,0 +1,58 @@
+-- A ship and what is aboard of her on arrival, from which lists of steps go on, and what a list comes to there.
+use Rattle.std.specs.Prelude.{◌≡◌, ℕ, ◌^◌, ◌≤◌, List, length, map, nat_le, Option, None, Some, if◌then◌else◌}
+use Rattle.std.specs.List.{AllByRecursion}
+use Rattle.stow_messages.specs.declared.items.Item.{Item}
+use Rattle.ship_profile.specs.declared.frames.Frame.{Frame}
+use Rattle.ship_profile.specs.Record.{ProfileRecord}
+use Rattle.lift_sequence.specs.declared.faults.SeqFault.{SeqFault}
+use Rattle.lift_sequence.specs.declared.operations.Op.{Op}
+use Rattle.lift_sequence.specs.declared.steps.Step.{Step}
+use Rattle.lift_sequence.specs.Aboard.{Aboard}
+use Rattle.lift_sequence.specs.Arrival.{ArrivalRecord, cargo_on}
+use Rattle.lift_sequence.specs.Bodies.{steps_of}
+use Rattle.lift_sequence.specs.Sequence.{sequence_fault}
+use Rattle.moment_sums.specs.Kept.{Kept, bodies_of, kept_of}
+use Rattle.moment_sums.specs.Sum.{changed_by}
+use Rattle.criteria.specs.Judgement.{Judgement, judgement_of}
+use Rattle.seq_report.specs.Cases.{HasArrived, IsArrivalTotal}
+use Rattle.seq_report.specs.Refusal.{Outcome, outcome_on}
+use Rattle.seq_report.specs.Report.{lines_of, sum_at}
+
+-- a ship and her condition on arrival
+pub record Base : Type 0 where
+  pub ship : ProfileRecord
+  pub arrival : ArrivalRecord
+
+-- the arrival was made with the profile, no container is too heavy for a sum, and all that is aboard is added up
+pub record IsBase (ship : ProfileRecord) (arrival : ArrivalRecord) (total : Kept) : Type 0 where
+  pub arrived : HasArrived ship arrival
+  pub light : AllByRecursion (λ (item : Item). item.kg ≤ 10 ^ 9) arrival.items
+  pub adds_up : IsArrivalTotal ship arrival total
+
+abbrev pub aboard_first : Base → Aboard
+aboard_first base = cargo_on base.arrival
+
+-- why a list can't be done
+abbrev pub list_fault : Base → List Op → Option SeqFault
+list_fault base ops = sequence_fault base.ship (aboard_first base) ops
+
+-- what its steps do, and what each changes of the sum of what is aboard
+abbrev pub steps_on : Base → List Op → List Step
+steps_on base ops = steps_of base.ship (aboard_first base) ops
+
+abbrev pub change_of : List Frame → Step → Kept
+change_of frames step = kept_of (changed_by frames step) (bodies_of step)
+
+abbrev pub changes_on : Base → List Op → List Kept
+changes_on base ops = map (change_of base.ship.ship.frames) (steps_on base ops)
+
+-- the report on a list, as a fresh run makes it
+unfoldable pub report_on : Base → List Op → Outcome
+report_on base ops = outcome_on (lines_of base.ship (aboard_first base) ops)
+
+-- how the condition after k steps is judged, 0 being the one on arrival, where the list has so many
+abbrev pub judgement_at : Base → List Op → ℕ → Judgement
+judgement_at base ops k = judgement_of base.ship (sum_at base.ship (aboard_first base) ops k)
+
+abbrev pub judged_at : Base → List Op → ℕ → Option Judgement
+judged_at base ops k = if nat_le k (length ops) then Some (judgement_at base ops k) else None

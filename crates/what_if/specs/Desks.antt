@@ -1,0 +1,23 @@
+-- A desk: lists of steps that were published on one base; and a ticket, which names one of them.
+use Rattle.std.specs.Prelude.{ℕ, List, Vec}
+use Rattle.std.specs.declared.alloc.Global.{Global}
+use Rattle.boxcar.specs.Table.{Shelves, Where, Shows}
+use Rattle.lift_sequence.specs.declared.operations.Op.{Op}
+use Rattle.what_if.specs.Bases.{Base}
+
+pub record DeskRecord : Type 0 where
+  pub base : Base
+  pub lists : Shelves
+
+-- a number, and the place of the list, which is told by the place alone
+pub record TicketRecord : Type 0 where
+  pub place : ℕ
+  pub list : Where (Vec Op Global)
+
+-- a ticket of this desk
+abbrev pub IsOf : DeskRecord → TicketRecord → Type 0
+IsOf desk ticket = Shows desk.lists ticket.list
+
+-- the list that it names
+abbrev pub list_of : TicketRecord → List Op
+list_of ticket = ticket.list.value.items

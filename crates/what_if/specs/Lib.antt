@@ -1,0 +1,4 @@
+pub mod Bases
+pub mod Changes
+pub mod Desks
+pub mod Sessions

@@ -1,0 +1,118 @@
+ghost use Rattle.std.specs.Prelude.{◌≡◌, ◌≢◌, ℕ, ◌+◌, ◌*◌, ◌-◌, ◌^◌, ◌≤◌, length, OnOk, OnErr, IfOk, IfErr, Some, None};
+ghost use Rattle.lift_sequence.specs.Follow.{IsLoad, weighed_at};
+ghost use Rattle.step_edits.specs.Edits.{edited, edit_fault};
+ghost use Rattle.what_if.specs.Bases.{list_fault};
+ghost use Rattle.what_if.specs.Sessions.{IsSummed, refusal, restows_behind, CostsLittle};
+
+use crate::changes::changes_of;
+use crate::renewing::renew;
+use crate::summed_lists::SummedList;
+use lift_sequence::{SeqCode, SeqFault, Sequence};
+use moment_sums::Totals;
+use prefix_scan::TotalsTree;
+use seq_report::ops_are_light;
+use step_edits::{Edit, EditFault, edited, fault_of};
+use units_core::Kg;
+
+/// A refusal of the edited list as one of the edit; out of memory stays out of memory.
+fn list_refusal(fault: SeqFault) -> EditFault
+    ensures memory { fault.code ≡ SeqCode.NoMemory → result ≡ EditFault.NoMemory }
+    ensures told { fault.code ≢ SeqCode.NoMemory → result ≡ EditFault.Sequence fault }
+{
+    match fault.code {
+        SeqCode::NoMemory => EditFault::NoMemory,
+        _ => EditFault::Sequence(fault),
+    }
+}
+
+impl SummedList {
+    /// Makes an edit. Where it is refused, or out of memory, everything is as it was. Another weight of a load is checked in no step and takes no
+    /// memory; any other edit makes the sequence and its sums anew.
+    pub fn edit(&mut self, edit: &Edit) -> Result<(), EditFault>
+        ensures legal { OnOk result (refusal self.old.base self.old.ops edit.now ≡ None) }
+        ensures base { self.new.base ≡ self.old.base }
+        ensures ops { OnOk result (self.new.ops ≡ edited self.old.ops edit.now) }
+        ensures refused { IfErr result (λ e. e ≢ EditFault.NoMemory
+            → refusal self.old.base self.old.ops edit.now ≡ Some e) }
+        ensures before { OnErr result (self.new ≡ self.old) }
+        ensures grows { self.old.joins ≤ self.new.joins }
+        ensures cost { CostsLittle edit.now self.old.ops self.old.joins self.new.joins }
+    {
+        if let Some(fault) = fault_of(self.sequence.ops(), edit) {
+            return Err(fault);
+        }
+        match edit {
+            Edit::Reweigh { at, kg } => {
+                self.reweigh(*at as usize, *kg);
+                Ok(())
+            }
+            _ => self.rearrange(edit),
+        }
+    }
+
+    /// Gives the load at step `k` another weight.
+    fn reweigh(&mut self, k: usize, kg: Kg)
+        requires first { 1 ≤ k }
+        requires last { k ≤ length self.old.ops }
+        requires load { IsLoad self.old.ops (k - 1) }
+        ensures base { self.new.base ≡ self.old.base }
+        ensures ops { self.new.ops ≡ weighed_at kg (k - 1) self.old.ops }
+        ensures legal { list_fault self.old.base self.new.ops ≡ None }
+        ensures grows { self.old.joins ≤ self.new.joins }
+        ensures cost { (levels : ℕ) → length self.old.ops ≤ 2 ^ levels → self.new.joins
+            ≤ self.old.joins + (restows_behind self.old.ops (k - 1) + 2) * (levels + 1) }
+    {
+        let _ = kg.get();
+        self.sequence.reweigh(k, kg);
+        renew(
+            &mut self.tree,
+            &self.sequence,
+            self.base.profile().frames(),
+            k - 1,
+        );
+    }
+
+    /// The sequence that another edit makes, with its sums.
+    fn rearranged(&self, edit: &Edit) -> Result<(Sequence, TotalsTree<Totals>), EditFault>
+        requires { edit_fault self.now.ops edit.now ≡ None }
+        ensures ops { IfOk result (λ made. made.0.ops ≡ edited self.now.ops edit.now) }
+        ensures made { IfOk result (λ made. IsSummed self.now.base made.0 made.1) }
+        ensures joins { IfOk result (λ made. made.1.joins ≡ self.now.joins) }
+        ensures legal { OnOk result (refusal self.now.base self.now.ops edit.now ≡ None) }
+        ensures refused { IfErr result (λ e. e ≢ EditFault.NoMemory
+            → refusal self.now.base self.now.ops edit.now ≡ Some e) }
+    {
+        let Ok(ops) = edited(self.alloc, self.sequence.ops(), edit) else {
+            return Err(EditFault::NoMemory);
+        };
+        let sequence = match self.base.sequence(self.alloc, ops) {
+            Ok(sequence) => sequence,
+            Err(fault) => return Err(list_refusal(fault)),
+        };
+        ops_are_light(sequence.ops());
+        let Ok(changes) = changes_of(self.alloc, &self.base, &sequence) else {
+            return Err(EditFault::NoMemory);
+        };
+        match self.tree.rebuilt(self.alloc, &changes) {
+            Ok(tree) => Ok((sequence, tree)),
+            Err(_) => Err(EditFault::NoMemory),
+        }
+    }
+
+    /// Makes an edit other than a new weight.
+    fn rearrange(&mut self, edit: &Edit) -> Result<(), EditFault>
+        requires { edit_fault self.old.ops edit.now ≡ None }
+        ensures legal { OnOk result (refusal self.old.base self.old.ops edit.now ≡ None) }
+        ensures base { self.new.base ≡ self.old.base }
+        ensures ops { OnOk result (self.new.ops ≡ edited self.old.ops edit.now) }
+        ensures refused { IfErr result (λ e. e ≢ EditFault.NoMemory
+            → refusal self.old.base self.old.ops edit.now ≡ Some e) }
+        ensures before { OnErr result (self.new ≡ self.old) }
+        ensures joins { self.new.joins ≡ self.old.joins }
+    {
+        let (sequence, tree) = self.rearranged(edit)?;
+        self.sequence = sequence;
+        self.tree = tree;
+        Ok(())
+    }
+}

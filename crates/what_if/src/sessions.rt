@@ -1,0 +1,216 @@
+ghost use Rattle.std.specs.Prelude.{◌≡◌, ◌≢◌, ℕ, ◌^◌, ◌+◌, ◌<◌, ◌≤◌, [], ◌∷◌, length, option_map, take, false, true, OnOk, OnErr, IfOk, IfErr, Ok, Err, Some, None};
+ghost use Rattle.std.specs.Arc.{arc_value};
+ghost use Rattle.std.specs.Io.KnownBytes.{Appends};
+ghost use Rattle.prefix_scan.specs.declared.divisions.CutFault.{CutFault as CutFaultValue};
+ghost use Rattle.lift_sequence.specs.Arrival.{TellsAt};
+ghost use Rattle.criteria.specs.Judgement.{told};
+ghost use Rattle.seq_report.specs.Cases.{HasArrived, IsMade};
+ghost use Rattle.seq_report.specs.Plans.{Fits, IsPlanFault};
+ghost use Rattle.seq_report.specs.Refusal.{TellsMemory, is_refusal, is_write, is_write_fault, outcome_of};
+ghost use Rattle.step_edits.specs.Edits.{edited};
+ghost use Rattle.what_if.specs.Bases.{judged_at, list_fault, report_on};
+ghost use Rattle.what_if.specs.Sessions.{AreTold, CostsLittle, refusal};
+
+use crate::bases::Ground;
+use crate::summed_lists::SummedList;
+use circular_buffer::HeapCircularBuffer;
+use claim_run::Gate;
+use criteria::Verdict;
+use lift_sequence::{Op, SeqCode, SeqFault};
+use seq_report::{Case, Criterion, Inputs, Options, RunFault, Sink, Summary, case_of};
+use std::alloc::{AllocError, Global};
+use std::marker::Model;
+use std::sync::{Arc, Wait};
+use std::thread::Threads;
+use step_edits::{Edit, EditFault, inverse};
+
+/// How many of the last edits can be taken back.
+const KEPT: usize = 64;
+
+/// A list of steps that a planner edits. Each edit is made only where every step of the edited list can be done, and the last 64 can be taken back.
+///
+/// To contracts it is its base, its list, the earlier lists, newest first, and how many joins of sums were counted.
+#[derive(Drop)]
+pub struct Session {
+    list: SummedList,
+    /// The edits that lead back, newest first.
+    past: HeapCircularBuffer<Edit>,
+}
+
+impl Model for Session {
+    ghost use Rattle.what_if.specs.Sessions.{IsPast, SessionRecord, past_of};
+
+    ghost Value = { SessionRecord };
+
+    ghost view = { λ s. record { base = s.list.base; ops = s.list.ops; past = past_of s.list.ops s.past.items; joins = s.list.joins } };
+
+    ghost invariant = { λ s. IsPast s.list.base s.list.ops s.past };
+}
+
+impl Session {
+    /// A session on a base, with a list of steps and nothing to take back; or the first step that can't be done, with what
+    /// [`lift_sequence::Sequence::new`] says of it. Out of memory may stand for it.
+    pub fn new(alloc: Global, base: Arc<Ground, Global>, ops: Vec<Op>) -> Result<Session, SeqFault>
+        ensures legal { OnOk result (list_fault (arc_value base) ops.items ≡ None) }
+        ensures made { IfOk result
+            (λ s. s ≡ record { base = arc_value base; ops = ops.items; past = []; joins = 0 }) }
+        ensures refused { IfErr result (TellsAt (list_fault (arc_value base) ops.items)) }
+        ensures memory { IfErr result (λ e. e.code ≡ SeqCode.NoMemory → e.at ≡ 0) }
+    {
+        let Ok(past) = HeapCircularBuffer::with_capacity(alloc, KEPT) else {
+            return Err(SeqFault {
+                code: SeqCode::NoMemory,
+                at: 0,
+            });
+        };
+        let list = SummedList::new(alloc, base, ops)?;
+        Ok(Session { list, past })
+    }
+
+    /// The session on the steps that inputs order from the condition on arrival, with nothing to take back; or the first refusal, as [`seq_report::report`] has it.
+    pub fn read(alloc: Global, inputs: &Inputs<'_>) -> Result<Session, RunFault>
+        ensures read { IfOk result (λ s. AreTold inputs.now s.base s.ops) }
+        ensures outcome { IfOk result (λ s. outcome_of inputs.now ≡ Ok (report_on s.base s.ops)) }
+        ensures new { IfOk result (λ s. (s.past ≡ []) × (s.joins ≡ 0)) }
+        ensures refused { IfErr result
+            (λ e. e ≢ RunFault.NoMemory → outcome_of inputs.now ≡ Err e) }
+        ensures memory { IfErr result TellsMemory }
+        ensures silent { is_write result ≡ false }
+    {
+        let case = case_of(alloc, inputs)?;
+        match Session::of_case(alloc, case) {
+            Ok(session) => Ok(session),
+            Err(AllocError) => Err(RunFault::NoMemory),
+        }
+    }
+
+    /// The session on a case.
+    fn of_case(alloc: Global, case: Case) -> Result<Session, AllocError>
+        requires arrived { HasArrived case.profile case.arrival }
+        requires made { IsMade case.profile case.arrival case.sequence }
+        ensures { IfOk result (λ s. s ≡ record {
+          base = record { ship = case.profile; arrival = case.arrival };
+          ops = case.sequence.ops;
+          past = [];
+          joins = 0;
+        }) }
+    {
+        let Case {
+            profile,
+            arrival,
+            sequence,
+        } = case;
+        let base = Arc::new(alloc, Ground::new(profile, arrival))?;
+        let past = HeapCircularBuffer::with_capacity(alloc, KEPT)?;
+        let list = SummedList::of_sequence(alloc, base, sequence)?;
+        Ok(Session { list, past })
+    }
+
+    /// The base that its list goes on from.
+    pub fn base(&self) -> &Arc<Ground, Global>
+        ensures { arc_value result.now ≡ self.now.base }
+    {
+        self.list.base()
+    }
+
+    /// The list of steps.
+    pub fn lifts(&self) -> &[Op]
+        ensures { result.now ≡ self.now.ops }
+    {
+        self.list.ops()
+    }
+
+    /// Makes an edit. It is refused where the list hasn't a step that it names (X1), where it reweighs a step that is no load (X2), and where a step of the edited
+    /// list can't be done (X3, with the first such step and why); out of memory (X4) may stand for that. Then everything is as before.
+    ///
+    /// Another weight of a load whose container is restowed r times takes at most (r + 2) (l + 1) joins, where the list has at most 2^l steps.
+    pub fn apply(&mut self, edit: Edit) -> Result<(), EditFault>
+        ensures legal { OnOk result (refusal self.old.base self.old.ops edit ≡ None) }
+        ensures base { self.new.base ≡ self.old.base }
+        ensures ops { OnOk result (self.new.ops ≡ edited self.old.ops edit) }
+        ensures past { OnOk result (self.new.past ≡ take 64 (self.old.ops ∷ self.old.past)) }
+        ensures refused { IfErr result (λ e. e ≢ EditFault.NoMemory
+            → refusal self.old.base self.old.ops edit ≡ Some e) }
+        ensures before { OnErr result (self.new ≡ self.old) }
+        ensures grows { self.old.joins ≤ self.new.joins }
+        ensures cost { CostsLittle edit self.old.ops self.old.joins self.new.joins }
+    {
+        let back = inverse(self.list.ops(), &edit);
+        self.list.edit(&edit)?;
+        self.past.push_front(back);
+        Ok(())
+    }
+
+    /// Takes the last edit back; false where none is kept. Out of memory everything is as before.
+    pub fn undo(&mut self) -> Result<bool, AllocError>
+        ensures none { IfOk result
+            (λ took. took ≡ false → (self.old.past ≡ []) × (self.new ≡ self.old)) }
+        ensures took { IfOk result
+            (λ took. took ≡ true → self.old.past ≡ self.new.ops ∷ self.new.past) }
+        ensures base { self.new.base ≡ self.old.base }
+        ensures before { OnErr result (self.new ≡ self.old) }
+        ensures grows { self.old.joins ≤ self.new.joins }
+    {
+        let Some(edit) = self.past.front() else {
+            return Ok(false);
+        };
+        let Ok(()) = self.list.edit(edit) else {
+            return Err(AllocError);
+        };
+        self.past.pop_front();
+        Ok(true)
+    }
+
+    /// How the condition after the first `k` steps is judged, 0 being the one on arrival; `None` where the list hasn't so many. It takes at most l + 1 joins, where the
+    /// list has at most 2^l steps.
+    pub fn judge(&mut self, k: u32) -> Option<Verdict>
+        ensures judged { option_map told result ≡ judged_at self.old.base self.old.ops k }
+        ensures base { self.new.base ≡ self.old.base }
+        ensures ops { self.new.ops ≡ self.old.ops }
+        ensures past { self.new.past ≡ self.old.past }
+        ensures grows { self.old.joins ≤ self.new.joins }
+        ensures cost { (levels : ℕ) → length self.old.ops ≤ 2 ^ levels
+            → self.new.joins ≤ self.old.joins + (levels + 1) }
+    {
+        self.list.judge(k)
+    }
+
+    /// The first step that fails, 0 being the condition on arrival, with its first criterion; `None` where all steps pass. It is what a fresh run on the list names.
+    pub fn first_fail(&self) -> Option<(u32, Criterion)>
+        ensures { result ≡ (report_on self.now.base self.now.ops).summary.first }
+    {
+        self.list.first_fail()
+    }
+
+    /// Writes the report on the list to a sink that has not failed: the one that a fresh run on the list writes, whatever the number of workers, the gate and the cuts.
+    ///
+    /// Cuts that don't fit the lines are refused (F6). Nothing is written then, nor out of memory (F7). Where the sink fails, it holds a prefix of the
+    /// report, of the length that F8 says.
+    pub fn report<G: Gate, R: Threads + Wait + Sync, S: Sink>(
+        &self,
+        rt: &R,
+        gate: &G,
+        options: &Options<'_>,
+        sink: &mut S,
+    ) -> Result<Summary, RunFault>
+        requires sound { S.has_failed sink.old ≡ false }
+        ensures written { IfOk result (λ summary.
+            (summary ≡ (report_on self.now.base self.now.ops).summary)
+            × Appends (S.contents sink.old) (S.contents sink.new)
+            (report_on self.now.base self.now.ops).text) }
+        ensures fits { IfOk result (λ _. Fits options.now.cuts (length self.now.ops + 1)) }
+        ensures refused { IfErr result (λ e. is_refusal e ≡ false) }
+        ensures unfit { IfErr result (λ e. (fault : CutFaultValue) → e ≡ RunFault.Cuts fault
+            → IsPlanFault options.now.cuts (length self.now.ops + 1) fault) }
+        ensures untouched { IfErr result
+            (λ e. is_write_fault e ≡ false → S.contents sink.new ≡ S.contents sink.old) }
+        ensures failed { S.has_failed sink.new ≡ is_write result }
+        ensures cut_short { IfErr result (λ e. (m : ℕ) → e ≡ RunFault.Write m
+            → (m < length (report_on self.now.base self.now.ops).text)
+            × Appends (S.contents sink.old) (S.contents sink.new)
+            (take m (report_on self.now.base self.now.ops).text)) }
+        ensures memory { IfErr result TellsMemory }
+    {
+        self.list.report(rt, gate, options, sink)
+    }
+}
