@@ -20,3 +20,6 @@ pub use desks::Desk;
 pub use sessions::Session;
 pub use step_edits::{Edit, EditFault};
 pub use tickets::Ticket;
+
+#[cfg(test)]
+mod tests;
