@@ -1,5 +1,5 @@
 -- What a line reads of its matches.
-use Rattle.std.proofs.Common.{◌≡◌, ◌∙◌, ◌<◌, ◌≤◌, ◌^◌, ℕ, Bool, true, false, List, Option, Some, None, Result, Ok, refl, sym, ap, inl, inr, Bor}
+use Rattle.std.proofs.Common.{◌≡◌, ◌∙◌, ◌<◌, ◌≤◌, ◌^◌, codes, ℕ, Bool, true, false, List, Option, Some, None, Result, Ok, refl, sym, ap, inl, inr, Bor}
 use Rattle.std.specs.Prelude.{option_map, is_some, slice_get, unwrap_or}
 use Rattle.std.specs.Option.{option_and_then}
 use Rattle.std.specs.Str.Parse.{ParsesUnsigned}
@@ -12,8 +12,11 @@ use Rattle.clap.specs.declared.parser.matches.ArgMatches.{ArgMatches}
 use Rattle.clap.specs.declared.parser.matches.Found.{Found}
 use Rattle.clap.proofs.CallerReads.{signed_reads}
 use Rattle.clap.proofs.WalkLemmas.{first_value-rows, one_text-rows}
-use Rattle.loadseq.specs.Promised.{IsAccepted}
+use Rattle.loadseq.specs.Lines.{IsEditsWord}
+use Rattle.loadseq.specs.Promised.{HasEdits, IsAccepted, edits_in}
 use Rattle.loadseq.specs.Words.{IsNumberOf, within}
+use Rattle.loadseq.specs.declared.command_line.Task.{Task}
+use Rattle.loadseq.specs.declared.command_line.Task.TheVariants.{Check, First, WhatIf}
 
 pub not_true : (b : Bool) → (b ≡ true → ⊥) → b ≡ false
 not_true true h = absurd (h refl)
@@ -26,6 +29,15 @@ option_is m rows id r e f = rw (← e) (sym (first_value-rows (found_of m) id) �
 pub word_is : (m : ArgMatches) (rows : List Row) (id : Text) (r : Option (Bor (List ℕ))) (s : Bor (List ℕ)) → rows_of (found_of m) ≡ rows
     → option_map (λ x. x.now) r ≡ first_value (found_of m) id → r ≡ Some s → first_of id rows ≡ Some s.now
 word_is m rows id r s e f g = option_is m rows id r e f ∙ ap (option_map (λ x. x.now)) g
+
+pub edits_are : (task : Task) (m : ArgMatches) (rows : List Row) (r : Option (Bor (List ℕ))) → rows_of (found_of m) ≡ rows
+    → option_map (λ x. x.now) r ≡ edits_in task m → HasEdits task m → IsEditsWord rows task (option_map (λ x. x.now) r)
+edits_are Check m rows r e is has = is
+edits_are First m rows r e is has = is
+edits_are WhatIf m rows None e is has =
+    let bad : false ≡ true = rw (← is) at has in
+    absurd (true≢false (sym bad))
+edits_are WhatIf m rows (Some word) e is has = option_is m rows (codes "EDITS") (Some word) e is
 
 -- where an id has no value, it has no text to be read as a number
 no_text_in_row : (how : Reading) (o : Option Text) → is_some o ≡ false → option_map (read_as how) o ≡ None

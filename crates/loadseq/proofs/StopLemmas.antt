@@ -1,5 +1,5 @@
 -- What stopped a run, by the words of its command line.
-use Rattle.std.proofs.Common.{◌≡◌, ℕ, List, true, Err, refl, sym, subst, arith}
+use Rattle.std.proofs.Common.{◌≡◌, ℕ, List, true, Result, Ok, Err, IfOk, IfErr, refl, sym, subst, arith}
 use Rattle.clap.specs.Words.{Text}
 use Rattle.prefix_scan.specs.declared.divisions.CutFault.{CutFault}
 use Rattle.seq_report.specs.declared.faults.RunFault.{RunFault}
@@ -9,9 +9,9 @@ use Rattle.seq_report.specs.Refusal.{is_refusal, outcome_of}
 use Rattle.loadseq.specs.declared.command_line.Line.{Line}
 use Rattle.loadseq.specs.declared.stops.Stop.{Stop}
 use Rattle.loadseq.specs.declared.stops.Stop.TheVariants.{Refused, Usage, NoMemory, Read, Write}
-use Rattle.loadseq.specs.Files.{Known}
+use Rattle.loadseq.specs.Files.{AreTexts, Known, RunTexts, texts_in}
 use Rattle.loadseq.specs.Lines.{IsLine}
-use Rattle.loadseq.specs.Runs.{IsRefusedBy, IsStopBy, IsStopOf, IsStopOn}
+use Rattle.loadseq.specs.Runs.{HasStatus, IsRefusedBy, IsReported, IsStopBy, IsStopOf, IsStopOn}
 use Rattle.loadseq.specs.Statuses.{status_of, stop_of_run}
 
 -- a run without a report whose cuts have no fault
@@ -28,6 +28,23 @@ of_run inputs fault stop is refused uncut = subst (IsStopOn inputs) (sym is) (by
   by (run.Cuts f) refused uncut = absurd (uncut f refl)
   by run.NoMemory refused uncut = tt
   by (run.Write m) refused uncut = tt
+
+-- what inputs come to, as what the files of a line come to
+module _ (known : List ℕ → Known) (line : Line) (inputs : Inputs) (texts : RunTexts) (are : texts_in inputs texts.edits ≡ texts) (read : AreTexts known line texts) where
+  given : AreTexts known line (texts_in inputs texts.edits)
+  given = subst (AreTexts known line) (sym are) read
+
+  pub reported : (r : Result ℕ Stop) → IfOk r (HasStatus inputs) → IfOk r (IsReported known line)
+  reported (Ok status) has = (inputs, texts.edits, given, has)
+  reported (Err stop) has = tt
+
+  pub unreported : (r : Result ℕ Stop) → IfErr r (IsStopOn inputs) → IfErr r (IsStopOf known line)
+  unreported (Ok status) has = tt
+  unreported (Err (Refused fault)) has = (inputs, texts.edits, given, has)
+  unreported (Err (Usage text)) has = absurd has
+  unreported (Err NoMemory) has = tt
+  unreported (Err (Read name)) has = absurd has
+  unreported (Err Write) has = tt
 
 module _ (known : List ℕ → Known) (words : List Text) where
   -- files of a line that have no report

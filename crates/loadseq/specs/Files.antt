@@ -52,14 +52,16 @@ pub record RunTexts : Type 0 where
   pub profile : profile.Texts
   pub baplie : List ℕ
   pub movins : List ℕ
+  pub edits : Option (List ℕ)
   pub steps : Option (List ℕ)
 
--- the texts that inputs are
-abbrev pub texts_in : Inputs → RunTexts
-texts_in inputs = record {
+-- the texts that inputs are, with that of a file of edits, where there is one
+abbrev pub texts_in : Inputs → Option (List ℕ) → RunTexts
+texts_in inputs edits = record {
   profile = profile.texts_of inputs.profile;
   baplie = inputs.baplie.now;
   movins = inputs.movins.now;
+  edits = edits;
   steps = option_map (λ text. text.now) inputs.steps;
 }
 
@@ -68,4 +70,5 @@ pub record AreTexts (known : List ℕ → Known) (line : Line) (texts : RunTexts
   pub ship_files : AreShipTexts known line.folder.now texts.profile
   pub baplie_file : IsTextOf (known line.baplie.now) texts.baplie
   pub movins_file : IsTextOf (known line.movins.now) texts.movins
+  pub edits_file : IsTextIfNamed known (option_map (λ name. name.now) line.edits) texts.edits
   pub steps_file : IsTextIfNamed known (option_map (λ name. name.now) line.steps) texts.steps

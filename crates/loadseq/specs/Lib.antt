@@ -1,4 +1,5 @@
 pub mod Arguments
+pub mod Chains
 pub mod Files
 pub mod Lines
 pub mod Promised

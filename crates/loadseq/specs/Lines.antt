@@ -1,17 +1,26 @@
 -- The line that words are, by the definition that `clap` gives of the command.
 use Rattle.std.specs.Prelude.{◌≡◌, ◌≤◌, codes, List, Option, None, Some, false, option_map}
-use Rattle.clap.specs.Words.{first_of, one_of, matches_of, takes, Text}
+use Rattle.clap.specs.Words.{first_of, one_of, matches_of, takes, Row, Text}
 use Rattle.loadseq.specs.Words.{asked, command_of, IsNumberOf}
 use Rattle.loadseq.specs.declared.command_line.Task.{Task}
+use Rattle.loadseq.specs.declared.command_line.Task.TheVariants.{Check, First, WhatIf}
 use Rattle.loadseq.specs.declared.command_line.Line.{Line}
 use Rattle.loadseq.specs.declared.command_line.LineFault.{LineFault}
 use Rattle.loadseq.specs.declared.command_line.LineFault.TheVariants.{Usage, NoMemory}
+
+-- the edits file is named exactly for `whatif`, by the word that the command's definition gives it
+abbrev pub IsEditsWord : List Row → Task → Option Text → Type 0
+IsEditsWord rows WhatIf (Some edits) = first_of (codes "EDITS") rows ≡ Some edits
+IsEditsWord rows WhatIf None = ⊥
+IsEditsWord rows Check edits = edits ≡ None
+IsEditsWord rows First edits = edits ≡ None
 
 -- each field is the word that the command's definition gives it, and there is a steps file exactly where it gives one
 pub record IsLineOf (words : List Text) (line : Line) : Type 0 where
   pub folder : first_of (codes "FOLDER") (matches_of (command_of line.task) words) ≡ Some line.folder.now
   pub baplie : first_of (codes "BAPLIE") (matches_of (command_of line.task) words) ≡ Some line.baplie.now
   pub movins : first_of (codes "MOVINS") (matches_of (command_of line.task) words) ≡ Some line.movins.now
+  pub edits : IsEditsWord (matches_of (command_of line.task) words) line.task (option_map (λ s. s.now) line.edits)
   pub steps : first_of (codes "steps") (matches_of (command_of line.task) words) ≡ option_map (λ s. s.now) line.steps
   pub workers : IsNumberOf (one_of (codes "workers") (matches_of (command_of line.task) words)) 4 line.workers
   pub some_workers : 1 ≤ line.workers

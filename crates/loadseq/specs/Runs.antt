@@ -1,5 +1,5 @@
 -- What a run comes to, by the files that its command line names.
-use Rattle.std.specs.Prelude.{◌≡◌, ℕ, List, Ok, Err}
+use Rattle.std.specs.Prelude.{◌≡◌, ℕ, List, Option, Ok, Err}
 use Rattle.clap.specs.Words.{Text}
 use Rattle.seq_report.specs.declared.faults.RunFault.{RunFault}
 use Rattle.seq_report.specs.declared.inputs.Inputs.{Inputs}
@@ -17,11 +17,13 @@ HasStatus inputs status = (outcome : Outcome) × (outcome_of inputs ≡ Ok outco
 
 -- the report on the files of a line has this status
 abbrev pub IsReported : (List ℕ → Known) → Line → ℕ → Type 0
-IsReported known line status = (inputs : Inputs) × AreTexts known line (texts_in inputs) × HasStatus inputs status
+IsReported known line status =
+    (inputs : Inputs) × (edits : Option (List ℕ)) × AreTexts known line (texts_in inputs edits) × HasStatus inputs status
 
 -- the files of a line are refused for this
 abbrev pub IsRefused : (List ℕ → Known) → Line → RunFault → Type 0
-IsRefused known line fault = (inputs : Inputs) × AreTexts known line (texts_in inputs) × (outcome_of inputs ≡ Err fault)
+IsRefused known line fault =
+    (inputs : Inputs) × (edits : Option (List ℕ)) × AreTexts known line (texts_in inputs edits) × (outcome_of inputs ≡ Err fault)
 
 -- Why inputs, or the files of a line, have no report that was written: a refusal is theirs, and the words aren't at fault any more.
 abbrev pub IsStopOn : Inputs → Stop → Type 0

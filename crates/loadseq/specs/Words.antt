@@ -1,10 +1,10 @@
 -- The words of a command line: the first names the command, and the command reads those behind it.
 use Rattle.std.specs.Str.{bytes_eq}
 use Rattle.std.specs.Str.Parse.{digits_value, without_leading_plus}
-use Rattle.std.specs.Prelude.{◌≡◌, codes, if◌then◌else◌, ℕ, pos, true, List, [], ◌∷◌, Option, Some, None, option_map}
+use Rattle.std.specs.Prelude.{◌≡◌, codes, if◌then◌else◌, ℕ, pos, true, List, [], ◌∷◌, ◌++◌, Option, Some, None, option_map}
 use Rattle.clap.specs.Words.{App, Rule, Text, new_app, new_rule, with_rule}
 use Rattle.loadseq.specs.declared.command_line.Task.{Task}
-use Rattle.loadseq.specs.declared.command_line.Task.TheVariants.{Check, First}
+use Rattle.loadseq.specs.declared.command_line.Task.TheVariants.{Check, First, WhatIf}
 use Rattle.clap.specs.declared.builder.ArgAction.TheVariants.{Set}
 use Rattle.clap.specs.declared.builder.value_parser.ValueParser.{ValueParser}
 use Rattle.clap.specs.declared.builder.value_parser.ValueParser.TheVariants.{Signed}
@@ -38,17 +38,44 @@ without_name app = record app { top = record app.top { no_binary_name = true } }
 abbrev pub title_of : Task → Text
 title_of Check = codes "loadseq check"
 title_of First = codes "loadseq first"
+title_of WhatIf = codes "loadseq whatif"
 
--- `loadseq check FOLDER BAPLIE MOVINS [--steps FILE] [--workers N] [--chunk N]`, and `loadseq first` with the same words
+-- the word that names the edits file, which has to be there for `whatif` alone
+abbrev pub edits_word : Task → List Rule
+edits_word WhatIf = positional (codes "EDITS") ∷ []
+edits_word task = []
+
+-- the words that have to be there for every command, and the options
+abbrev pub plain_words : List Rule
+plain_words = positional (codes "FOLDER") ∷ positional (codes "BAPLIE") ∷ positional (codes "MOVINS") ∷ []
+
+abbrev pub options : List Rule
+options = option_of (codes "steps") ∷ number_option (codes "workers") 1 16 ∷ number_option (codes "chunk") 1 200_000 ∷ []
+
+-- what a command takes, in this order
+abbrev pub arguments_of : Task → List Rule
+arguments_of task = plain_words ++ (edits_word task ++ options)
+
+-- a command that takes these behind what it takes already
+abbrev pub with_rules : App → List Rule → App
+with_rules app [] = app
+with_rules app (rule ∷ rules) = with_rules (with_rule app rule) rules
+
+-- a command that takes nothing yet
+abbrev pub bare : Task → App
+bare task = without_name (new_app (title_of task))
+
+-- `loadseq check FOLDER BAPLIE MOVINS [--steps FILE] [--workers N] [--chunk N]`, `loadseq first` with the same words, and `loadseq whatif`
+-- with a fourth word, `FOLDER BAPLIE MOVINS EDITS`
 abbrev pub command_of : Task → App
-command_of task =
-    with_rule (with_rule (with_rule (with_rule (with_rule (with_rule (without_name (new_app (title_of task)))
-    (positional (codes "FOLDER"))) (positional (codes "BAPLIE"))) (positional (codes "MOVINS")))
-    (option_of (codes "steps"))) (number_option (codes "workers") 1 16)) (number_option (codes "chunk") 1 200_000)
+command_of task = with_rules (bare task) (arguments_of task)
 
--- what a first word asks for
+-- what a first word asks for; `whatif` is no word of the program yet
 abbrev pub task_named : Text → Option Task
-task_named word = if bytes_eq word (codes "check") then Some Check else (if bytes_eq word (codes "first") then Some First else None)
+task_named word =
+    if bytes_eq word (codes "check") then Some Check
+    else if bytes_eq word (codes "first") then Some First
+    else None
 
 -- what the words of a command line ask for, with the words behind the command's name
 abbrev pub asked : List Text → Option (Task × List Text)

@@ -1,11 +1,11 @@
-ghost use Rattle.std.specs.Prelude.{◌≡◌, ◌≢◌, [], IfOk, IfErr, Some, true, false, map, codes};
-ghost use Rattle.clap.specs.Words.{app_of, args_of, groups_of, new_app, takes, fault_of, matches_of, rows_of, rule_of, found_of, kind_of, IsParsedFrom};
+ghost use Rattle.std.specs.Prelude.{◌≡◌, ◌≢◌, ◌++◌, [], IfOk, IfErr, Some, true, false, map, option_map, codes};
+ghost use Rattle.clap.specs.Words.{app_of, args_of, groups_of, new_app, takes, fault_of, matches_of, rows_of, rule_of, found_of, kind_of};
 ghost use Rattle.clap.specs.Built.{TakesValue, IsPlainArg};
 ghost use Rattle.clap.specs.declared.builder.command.Command.TheViews.{out-Command as fields_of};
-ghost use Rattle.clap.specs.declared.parser.matches.ArgMatches.{ArgMatches};
+ghost use Rattle.loadseq.specs.Chains.{IsArgumentOf, TakesRules};
 ghost use Rattle.loadseq.specs.Lines.{IsLine, IsLineOf, IsUsage, IsNotTaken};
-ghost use Rattle.loadseq.specs.Promised.{HasWords};
-ghost use Rattle.loadseq.specs.Words.{command_of, positional, option_of, number_option, task_named, title_of, within, without_name};
+ghost use Rattle.loadseq.specs.Promised.{HasWords, edits_in};
+ghost use Rattle.loadseq.specs.Words.{arguments_of, bare, command_of, edits_word, number_option, option_of, plain_words, positional, task_named, without_name};
 
 use clap::error::ErrorKind;
 use clap::{Arg, ArgAction, ArgMatches, Command, value_parser};
@@ -19,6 +19,8 @@ pub enum Task {
     Check,
     /// Its last line alone, with the first step that fails.
     First,
+    /// The whole report of the order that is left when edits were tried. No word asks for it yet: its words and its file are read, and its run isn't there.
+    WhatIf,
 }
 
 /// The words of a command line, as they were given.
@@ -32,6 +34,8 @@ pub struct Line<'a> {
     pub baplie: &'a str,
     /// The file of the movement instruction.
     pub movins: &'a str,
+    /// The file of edits, there for [`Task::WhatIf`] alone.
+    pub edits: Option<&'a str>,
     /// The planner's steps file, if one is given.
     pub steps: Option<&'a str>,
     /// How many threads work at it: 1 to 16, and 4 where it isn't given.
@@ -61,11 +65,17 @@ const ABOUT_CHECK: &str =
 
 const ABOUT_FIRST: &str = "Writes the first step that fails alone";
 
+const ABOUT_WHAT_IF: &str =
+    "Tries edits of the order of the steps, and writes the report of the order that is left";
+
 const ABOUT_FOLDER: &str = "The folder of the ship's profile: ship.toml and her tables";
 
 const ABOUT_BAPLIE: &str = "The bay plan on arrival (BAPLIE, directory D.95B)";
 
 const ABOUT_MOVINS: &str = "The movement instruction (MOVINS, directory D.95B)";
+
+const ABOUT_EDITS: &str =
+    "The edits, one a line: swap A B, move FROM TO, remove AT, insert AT LIFT, reweigh AT KG or undo";
 
 const ABOUT_STEPS: &str =
     "The order of the steps: lifts, fillings of tanks and restows (CSV); without it the order of the movement instruction";
@@ -85,7 +95,6 @@ const DEFAULT_CHUNK: u32 = 256;
 /// A word that has to be there, with its meaning.
 fn word<'a>(alloc: Global, name: &'a str, meaning: &'a str) -> Arg<'a>
     ensures rule { rule_of result ≡ positional name.entry.now }
-    ensures id { result.id ≡ name.entry }
     ensures plain { IsPlainArg result }
     ensures one { result.global ≡ false }
     ensures value { TakesValue result }
@@ -99,7 +108,6 @@ fn word<'a>(alloc: Global, name: &'a str, meaning: &'a str) -> Arg<'a>
 /// An option that names a file, by its own name behind two dashes, with its meaning.
 fn option<'a>(alloc: Global, name: &'a str, about: &'a str) -> Arg<'a>
     ensures rule { rule_of result ≡ option_of name.entry.now }
-    ensures id { result.id ≡ name.entry }
     ensures plain { IsPlainArg result }
     ensures one { result.global ≡ false }
 {
@@ -113,11 +121,8 @@ fn option<'a>(alloc: Global, name: &'a str, about: &'a str) -> Arg<'a>
 /// The option that says how many threads work.
 fn workers<'a>(alloc: Global) -> Arg<'a>
     ensures rule { rule_of result ≡ number_option (codes "workers") 1 16 }
-    ensures id { result.id.now ≡ codes "workers" }
     ensures plain { IsPlainArg result }
     ensures one { result.global ≡ false }
-    ensures limits { result.value_parser ≡ Some (within 1 16) }
-    ensures exact_case { result.ignore_case ≡ false }
 {
     Arg::new(alloc, "workers")
         .long("workers")
@@ -130,11 +135,8 @@ fn workers<'a>(alloc: Global) -> Arg<'a>
 /// The option that says how many lines of the report are made at a time.
 fn chunk<'a>(alloc: Global) -> Arg<'a>
     ensures rule { rule_of result ≡ number_option (codes "chunk") 1 200_000 }
-    ensures id { result.id.now ≡ codes "chunk" }
     ensures plain { IsPlainArg result }
     ensures one { result.global ≡ false }
-    ensures limits { result.value_parser ≡ Some (within 1 200_000) }
-    ensures exact_case { result.ignore_case ≡ false }
 {
     Arg::new(alloc, "chunk")
         .long("chunk")
@@ -157,7 +159,7 @@ fn command<'a>(alloc: Global, name: &'a str, about: &'a str) -> Command<'a>
 
 /// The name and the meaning of the command that asks for this.
 fn named<'a>(alloc: Global, task: Task) -> Command<'a>
-    ensures app { app_of result ≡ without_name (new_app (title_of task)) }
+    ensures app { app_of result ≡ bare task }
     ensures args { args_of result ≡ [] }
     ensures groups { groups_of result ≡ [] }
     ensures local { (fields_of result).has_globals ≡ false }
@@ -166,18 +168,36 @@ fn named<'a>(alloc: Global, task: Task) -> Command<'a>
     match task {
         Task::Check => command(alloc, "loadseq check", ABOUT_CHECK),
         Task::First => command(alloc, "loadseq first", ABOUT_FIRST),
+        Task::WhatIf => command(alloc, "loadseq whatif", ABOUT_WHAT_IF),
     }
 }
 
-/// The command that asks for this.
-fn command_for<'a>(alloc: Global, task: Task) -> Result<Command<'a>, AllocError>
-    ensures app { IfOk result (λ c. app_of c ≡ command_of task) }
-    ensures promises { IfOk result (λ c. (m : ArgMatches) → IsParsedFrom c m → HasWords m) }
+/// The command that asks for this, with the words that each command takes.
+fn with_words<'a>(alloc: Global, task: Task) -> Result<Command<'a>, AllocError>
+    ensures { IfOk result (TakesRules (bare task) plain_words) }
 {
     named(alloc, task)
         .arg(word(alloc, "FOLDER", ABOUT_FOLDER))?
         .arg(word(alloc, "BAPLIE", ABOUT_BAPLIE))?
-        .arg(word(alloc, "MOVINS", ABOUT_MOVINS))?
+        .arg(word(alloc, "MOVINS", ABOUT_MOVINS))
+}
+
+/// The same with the word that names the edits file, where the command takes one.
+fn with_edits<'a>(alloc: Global, task: Task) -> Result<Command<'a>, AllocError>
+    ensures { IfOk result (TakesRules (bare task) (plain_words ++ edits_word task)) }
+{
+    let command = with_words(alloc, task)?;
+    match task {
+        Task::Check | Task::First => Ok(command),
+        Task::WhatIf => command.arg(word(alloc, "EDITS", ABOUT_EDITS)),
+    }
+}
+
+/// The same with the options.
+fn command_for<'a>(alloc: Global, task: Task) -> Result<Command<'a>, AllocError>
+    ensures { IfOk result (TakesRules (bare task) (arguments_of task)) }
+{
+    with_edits(alloc, task)?
         .arg(option(alloc, "steps", ABOUT_STEPS))?
         .arg(workers(alloc))?
         .arg(chunk(alloc))
@@ -193,7 +213,7 @@ fn matches_for<'a>(
         ≡ matches_of (command_of task) (map (λ w. w.now) words.entry.now)) }
     ensures taken { IfOk result
         (λ _. fault_of (command_of task) (map (λ w. w.now) words.entry.now) ≡ []) }
-    ensures promised { IfOk result HasWords }
+    ensures promised { IfOk result (HasWords task) }
     ensures refused { IfErr result (λ e. takes (command_of task) (map (λ w. w.now) words.entry.now)
         ≡ true → kind_of e ≡ ErrorKind.OutOfMemory) }
 {
@@ -227,6 +247,16 @@ fn refused(alloc: Global, error: &clap::Error) -> LineFault
     }
 }
 
+/// The word that names the edits file, where the command takes one.
+fn edits_in<'a>(task: Task, matches: &ArgMatches<'a>) -> Option<&'a str>
+    ensures { option_map (λ word. word.now) result ≡ edits_in task matches.now }
+{
+    match task {
+        Task::Check | Task::First => None,
+        Task::WhatIf => matches.get_str("EDITS"),
+    }
+}
+
 /// The line of the words behind the command's name.
 fn line_for<'a>(alloc: Global, task: Task, words: &'a [&'a str]) -> Result<Line<'a>, LineFault>
     ensures task { IfOk result (λ line. line.task ≡ task) }
@@ -241,6 +271,7 @@ fn line_for<'a>(alloc: Global, task: Task, words: &'a [&'a str]) -> Result<Line<
     let folder = matches.get_str("FOLDER").unwrap();
     let baplie = matches.get_str("BAPLIE").unwrap();
     let movins = matches.get_str("MOVINS").unwrap();
+    let edits = edits_in(task, &matches);
     let steps = matches.get_str("steps");
     let workers = matches.get_one::<u32>("workers").unwrap_or(DEFAULT_WORKERS);
     let chunk = matches.get_one::<u32>("chunk").unwrap_or(DEFAULT_CHUNK);
@@ -249,6 +280,7 @@ fn line_for<'a>(alloc: Global, task: Task, words: &'a [&'a str]) -> Result<Line<
         folder,
         baplie,
         movins,
+        edits,
         steps,
         workers,
         chunk,

@@ -7,6 +7,7 @@ const PLAIN: Line<'static> = Line {
     folder: "box",
     baplie: "plan",
     movins: "moves",
+    edits: None,
     steps: None,
     workers: 4,
     chunk: 256,
@@ -116,7 +117,7 @@ fn workers_given(rt: HostRuntime) {
 }
 
 /// An option twice, without its word, in place of a word that has to be there, one that there isn't, and numbers outside its limits.
-static WRONG: [&[&str]; 14] = [
+static WRONG: [&[&str]; 17] = [
     &[
         "check", "box", "plan", "moves", "--steps", "s.csv", "--steps", "t.csv",
     ],
@@ -133,6 +134,9 @@ static WRONG: [&[&str]; 14] = [
     &["first", "box", "plan", "moves", "--workers"],
     &["first", "box", "plan"],
     &["last", "box", "plan", "moves"],
+    &["first", "box", "plan", "moves", "edits"],
+    &["whatif", "box", "plan", "moves"],
+    &["whatif", "box", "plan", "moves", "edits", "more"],
 ];
 
 #[test]

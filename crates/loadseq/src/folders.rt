@@ -38,7 +38,7 @@ fn shown_name(alloc: Global, name: &str) -> Result<String, AllocError>
 }
 
 /// What ends the run where the file of this name can't be read.
-fn stop(alloc: Global, name: &str, unopened: Unopened) -> Stop
+pub fn stop(alloc: Global, name: &str, unopened: Unopened) -> Stop
     ensures unread { IsUnread result }
     ensures named { (text : _) → result ≡ Stop.Read text → string_bytes text ≡ name_shown name.now }
 {
@@ -194,6 +194,7 @@ pub struct Texts {
     folder: Folder,
     baplie: Vec<u8>,
     movins: Vec<u8>,
+    edits: Option<Vec<u8>>,
     steps: Option<Vec<u8>>,
 }
 
@@ -207,6 +208,7 @@ impl Model for Texts {
       profile = t.folder;
       baplie = t.baplie.items;
       movins = t.movins.items;
+      edits = option_map (λ text. text.items) t.edits;
       steps = option_map (λ text. text.items) t.steps;
     } };
 }
@@ -214,7 +216,7 @@ impl Model for Texts {
 impl Texts {
     /// What the report is made of: each text as that of its file.
     pub fn inputs(&self) -> Inputs<'_>
-        ensures { texts_in result ≡ self.now }
+        ensures { texts_in result self.now.edits ≡ self.now }
     {
         Inputs {
             profile: self.folder.texts(),
@@ -225,8 +227,8 @@ impl Texts {
     }
 }
 
-/// Reads the files of a command line: the ship's profile, the bay plan, the movement instruction, and the steps file, if one is given. The
-/// first that can't be read ends the run.
+/// Reads the files of a command line: the ship's profile, the bay plan, the movement instruction, the edits file and the steps file, where they
+/// are given. The first that can't be read ends the run.
 pub fn read_texts<R: Readers>(alloc: Global, files: &mut R, line: Line<'_>) -> Result<Texts, Stop>
     ensures texts { IfOk result (AreTexts (R.known files.old) line.entry) }
     ensures unread { IfErr result IsUnread }
@@ -234,11 +236,13 @@ pub fn read_texts<R: Readers>(alloc: Global, files: &mut R, line: Line<'_>) -> R
     let folder = read_folder(alloc, files, line.folder)?;
     let baplie = bytes_of(alloc, files, line.baplie)?;
     let movins = bytes_of(alloc, files, line.movins)?;
+    let edits = bytes_if_given(alloc, files, line.edits)?;
     let steps = bytes_if_given(alloc, files, line.steps)?;
     Ok(Texts {
         folder,
         baplie,
         movins,
+        edits,
         steps,
     })
 }

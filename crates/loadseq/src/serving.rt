@@ -7,8 +7,8 @@ ghost use Rattle.loadseq.specs.Runs.{IsRefusedBy, IsReported, IsReportedBy, IsSt
 ghost use Rattle.loadseq.specs.Statuses.{status_of, status_on};
 
 use crate::command_line::{Line, Task, read_line};
-use crate::files::Readers;
-use crate::folders::read_texts;
+use crate::files::{Readers, Unopened};
+use crate::folders::{read_texts, stop};
 use crate::stops::Stop;
 use claim_run::{Gate, Workers};
 use seq_report::{
@@ -124,6 +124,8 @@ fn run_line<R: Readers, G: Gate, T: Threads + Wait + Sync, O: Write>(
     match line.task {
         Task::Check => report_to(rt, alloc, gate, &texts.inputs(), line, &mut sink),
         Task::First => first_to(rt, alloc, gate, &texts.inputs(), line, &mut sink),
+        // Edits aren't tried yet: the run ends as where their file can't be read.
+        Task::WhatIf => Err(stop(alloc, line.edits.unwrap_or(""), Unopened::Failed)),
     }
 }
 

@@ -1,32 +1,23 @@
-use Rattle.std.proofs.Common.{rules, refl, codes}
+use Rattle.std.proofs.Common.{◌++◌, ◌∷◌, [], rules, codes, refl, subst, List}
 use Rattle.std.proofs.lemmas.Result.{IfOk-weaker}
-use Rattle.loadseq.proofs.Chain.{fits}
-use Rattle.loadseq.proofs.CheckWords.{has_words, is_command}
+use Rattle.clap.specs.Words.{Rule}
+use Rattle.loadseq.specs.Chains.{TakesRules}
+use Rattle.loadseq.specs.Words.{bare, edits_word, number_option, option_of, plain_words}
+use Rattle.loadseq.proofs.Chain.{as_option, one_more}
+use Rattle.loadseq.proofs.CheckWords.{in_order}
 use Rattle.loadseq.proofs.command_line.command_for.Goals as goal
 
-pub returns-clause-app : goal.returns-clause-app
-returns-clause-app c =
-    IfOk-weaker c.arg-6.result _ _ (λ command added. is_command c.args.task c.named.result
-    c.in_ok-arg.field-0 c.in_ok-arg-2.field-0 c.in_ok-arg-3.field-0 c.in_ok-arg-4.field-0 c.in_ok-arg-5.field-0 command
-    c.word.result c.word-2.result c.word-3.result c.option.result c.workers.result c.chunk.result
-    c.in_ok-arg.ensures c.in_ok-arg-2.ensures c.in_ok-arg-3.ensures c.in_ok-arg-4.ensures c.in_ok-arg-5.ensures added
-    c.word.ensures.one c.word-2.ensures.one c.word-3.ensures.one c.option.ensures.one c.workers.ensures.one c.chunk.ensures.one
-    (search rules) (search rules) (search rules) (search rules) (search rules) c.workers.ensures.rule c.chunk.ensures.rule) c.arg-6.ensures
-
-pub returns-clause-promises : goal.returns-clause-promises
-returns-clause-promises c =
-    let start = c.named.ensures in
-    IfOk-weaker c.arg-6.result _ _ (λ command added m p. has_words c.named.result
-    c.in_ok-arg.field-0 c.in_ok-arg-2.field-0 c.in_ok-arg-3.field-0 c.in_ok-arg-4.field-0 c.in_ok-arg-5.field-0 command
-    c.word.result c.word-2.result c.word-3.result c.option.result c.workers.result c.chunk.result m
-    c.in_ok-arg.ensures c.in_ok-arg-2.ensures c.in_ok-arg-3.ensures c.in_ok-arg-4.ensures c.in_ok-arg-5.ensures added
-    start.args start.groups start.local start.negates
-    (search rules) (search rules) (search rules) (search rules) c.workers.ensures.id c.chunk.ensures.id
-    (fits c.word.result (codes "FOLDER") (search rules) c.word.ensures.plain c.word.ensures.one refl refl refl)
-    (fits c.word-2.result (codes "BAPLIE") (search rules) c.word-2.ensures.plain c.word-2.ensures.one refl refl refl)
-    (fits c.word-3.result (codes "MOVINS") (search rules) c.word-3.ensures.plain c.word-3.ensures.one refl refl refl)
-    (fits c.option.result (codes "steps") (search rules) c.option.ensures.plain c.option.ensures.one refl refl refl)
-    (fits c.workers.result (codes "workers") c.workers.ensures.id c.workers.ensures.plain c.workers.ensures.one refl refl refl)
-    (fits c.chunk.result (codes "chunk") c.chunk.ensures.id c.chunk.ensures.plain c.chunk.ensures.one refl refl refl)
-    c.word.ensures.value c.word-2.ensures.value c.word-3.ensures.value
-    c.workers.ensures.limits c.workers.ensures.exact_case c.chunk.ensures.limits c.chunk.ensures.exact_case p) c.arg-6.ensures
+pub returns : goal.returns
+returns c =
+    let app = bare c.args.task in
+    let words = plain_words ++ edits_word c.args.task in
+    let steps = option_of (codes "steps") in
+    let workers = number_option (codes "workers") 1 16 in
+    let chunk = number_option (codes "chunk") 1 200_000 in
+    let one = one_more app words steps c.in_ok-with_edits.field-0 c.in_ok-arg.field-0 c.option.result
+    (as_option steps c.option.result (search rules) c.option.ensures.plain c.option.ensures.one refl) c.in_ok-with_edits.ensures c.in_ok-arg.ensures in
+    let two = one_more app (words ++ steps ∷ []) workers c.in_ok-arg.field-0 c.in_ok-arg-2.field-0 c.workers.result
+    (as_option workers c.workers.result c.workers.ensures.rule c.workers.ensures.plain c.workers.ensures.one refl) one c.in_ok-arg-2.ensures in
+    IfOk-weaker c.arg-3.result _ _ (λ command added. subst (λ (rules : List Rule). TakesRules app rules command) (in_order c.args.task steps workers chunk)
+    (one_more app ((words ++ steps ∷ []) ++ workers ∷ []) chunk c.in_ok-arg-2.field-0 command c.chunk.result
+    (as_option chunk c.chunk.result c.chunk.ensures.rule c.chunk.ensures.plain c.chunk.ensures.one refl) two added)) c.arg-3.ensures

@@ -2,7 +2,7 @@ use Rattle.std.proofs.Common.{map, codes, arith}
 use Rattle.std.specs.Str.Parse.{ParsesUnsigned, ExplainsUnsignedError, HasUnsignedDigitsIfOk}
 use Rattle.clap.specs.Words.{takes}
 use Rattle.loadseq.specs.Words.{command_of}
-use Rattle.loadseq.proofs.LineReads.{not_true, number_is, option_is, word_is}
+use Rattle.loadseq.proofs.LineReads.{edits_are, not_true, number_is, option_is, word_is}
 use Rattle.loadseq.proofs.command_line.line_for.Goals as goal
 
 pub returns-in-Err-clause-usage : goal.returns-in-Err-clause-usage
@@ -23,6 +23,7 @@ returns-clause-ok c =
       folder = word_is m _ (codes "FOLDER") c.get_str.result _ rows c.get_str.ensures c.unwrap-folder.ensures;
       baplie = word_is m _ (codes "BAPLIE") c.get_str-2.result _ rows c.get_str-2.ensures c.unwrap-baplie.ensures;
       movins = word_is m _ (codes "MOVINS") c.get_str-3.result _ rows c.get_str-3.ensures c.unwrap-movins.ensures;
+      edits = edits_are c.args.task m _ c.edits_in-edits.result rows c.edits_in-edits.ensures c.in-Ok.ensures.promised.edits;
       steps = option_is m _ (codes "steps") c.get_str-steps.result rows c.get_str-steps.ensures;
       workers = workers.0;
       some_workers = workers.1;

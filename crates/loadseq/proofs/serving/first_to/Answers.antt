@@ -1,6 +1,5 @@
-use Rattle.std.proofs.Common.{◌≡◌, ◌∙◌, ap, sym, subst, arith}
+use Rattle.std.proofs.Common.{subst, arith}
 use Rattle.seq_report.specs.Plans.{IsPlanFault}
-use Rattle.loadseq.specs.Statuses.{status_on}
 use Rattle.loadseq.proofs.StopLemmas.{of_run}
 use Rattle.loadseq.proofs.serving.first_to.Goals as goal
 

@@ -1,4 +1,4 @@
-use Rattle.std.proofs.Common.{◌≡◌, ◌∙◌, ap, sym, subst, arith}
+use Rattle.std.proofs.Common.{◌∙◌, ap, subst, arith}
 use Rattle.seq_report.specs.Plans.{IsPlanFault}
 use Rattle.loadseq.specs.Statuses.{status_on}
 use Rattle.loadseq.proofs.StopLemmas.{of_run}
