@@ -3,3 +3,4 @@ pub mod CheckWords
 pub mod LineReads
 pub mod OptionReads
 pub mod StopLemmas
+pub mod TrialLemmas

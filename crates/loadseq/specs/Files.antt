@@ -1,5 +1,5 @@
 -- What is known of the files of a run, by their names, and what was read of them.
-use Rattle.std.specs.Prelude.{◌≡◌, ℕ, List, ◌++◌, Option, None, Some, option_map, codes}
+use Rattle.std.specs.Prelude.{◌≡◌, ℕ, List, [], ◌++◌, Option, None, Some, option_map, codes}
 use Rattle.ship_profile.specs.Record as profile
 use Rattle.seq_report.specs.declared.inputs.Inputs.{Inputs}
 use Rattle.loadseq.specs.declared.command_line.Line.{Line}
@@ -64,6 +64,11 @@ texts_in inputs edits = record {
   edits = edits;
   steps = option_map (λ text. text.now) inputs.steps;
 }
+
+-- what is tried: nothing where no file of edits is named
+abbrev pub edits_text : Option (List ℕ) → List ℕ
+edits_text None = []
+edits_text (Some text) = text
 
 -- The texts of a run are those of the files that its command line names.
 pub record AreTexts (known : List ℕ → Known) (line : Line) (texts : RunTexts) : Type 0 where

@@ -5,4 +5,5 @@ pub mod Lines
 pub mod Promised
 pub mod Runs
 pub mod Statuses
+pub mod Trials
 pub mod Words

@@ -70,11 +70,12 @@ bare task = without_name (new_app (title_of task))
 abbrev pub command_of : Task → App
 command_of task = with_rules (bare task) (arguments_of task)
 
--- what a first word asks for; `whatif` is no word of the program yet
+-- what a first word asks for
 abbrev pub task_named : Text → Option Task
 task_named word =
     if bytes_eq word (codes "check") then Some Check
     else if bytes_eq word (codes "first") then Some First
+    else if bytes_eq word (codes "whatif") then Some WhatIf
     else None
 
 -- what the words of a command line ask for, with the words behind the command's name

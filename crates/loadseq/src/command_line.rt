@@ -2,7 +2,7 @@ ghost use Rattle.std.specs.Prelude.{◌≡◌, ◌≢◌, ◌++◌, [], IfOk, If
 ghost use Rattle.clap.specs.Words.{app_of, args_of, groups_of, new_app, takes, fault_of, matches_of, rows_of, rule_of, found_of, kind_of};
 ghost use Rattle.clap.specs.Built.{TakesValue, IsPlainArg};
 ghost use Rattle.clap.specs.declared.builder.command.Command.TheViews.{out-Command as fields_of};
-ghost use Rattle.loadseq.specs.Chains.{IsArgumentOf, TakesRules};
+ghost use Rattle.loadseq.specs.Chains.{TakesRules};
 ghost use Rattle.loadseq.specs.Lines.{IsLine, IsLineOf, IsUsage, IsNotTaken};
 ghost use Rattle.loadseq.specs.Promised.{HasWords, edits_in};
 ghost use Rattle.loadseq.specs.Words.{arguments_of, bare, command_of, edits_word, number_option, option_of, plain_words, positional, task_named, without_name};
@@ -19,7 +19,7 @@ pub enum Task {
     Check,
     /// Its last line alone, with the first step that fails.
     First,
-    /// The whole report of the order that is left when edits were tried. No word asks for it yet: its words and its file are read, and its run isn't there.
+    /// What becomes of each edit of a file, and the whole report of the list that is left.
     WhatIf,
 }
 
@@ -57,7 +57,7 @@ pub enum LineFault {
 
 /// The usage text where the first word is no command.
 const USAGE: &str =
-    "usage: loadseq check|first FOLDER BAPLIE MOVINS [--steps FILE] [--workers N] [--chunk N]";
+    "usage: loadseq check|first FOLDER BAPLIE MOVINS [--steps FILE] [--workers N] [--chunk N]\n       loadseq whatif FOLDER BAPLIE MOVINS EDITS [--steps FILE] [--workers N] [--chunk N]";
 
 /// What help says of the commands, of each of their words, and of their options.
 const ABOUT_CHECK: &str =
@@ -66,7 +66,7 @@ const ABOUT_CHECK: &str =
 const ABOUT_FIRST: &str = "Writes the first step that fails alone";
 
 const ABOUT_WHAT_IF: &str =
-    "Tries edits of the order of the steps, and writes the report of the order that is left";
+    "Tries edits of the steps, and writes what became of each and the report on the list that is left";
 
 const ABOUT_FOLDER: &str = "The folder of the ship's profile: ship.toml and her tables";
 
@@ -294,11 +294,12 @@ fn task_of(word: &str) -> Option<Task>
     match word {
         "check" => Some(Task::Check),
         "first" => Some(Task::First),
+        "whatif" => Some(Task::WhatIf),
         _ => None,
     }
 }
 
-/// The command line that the words after the program's name are: `check` or `first`, and what `clap` reads of the words
+/// The command line that the words after the program's name are: `check`, `first` or `whatif`, and what `clap` reads of the words
 /// behind it. [`LineFault::Usage`] comes only where there is no first word, it is another, or `clap` doesn't take
 /// the words behind it; help is such an answer too.
 pub fn read_line<'a>(alloc: Global, words: &'a [&'a str]) -> Result<Line<'a>, LineFault>

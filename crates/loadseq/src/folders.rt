@@ -1,6 +1,6 @@
 ghost use Rattle.std.specs.Prelude.{◌≡◌, ◌≢◌, IfOk, IfErr, option_map, string_bytes};
 ghost use Rattle.ship_profile.specs.Record.{texts_of};
-ghost use Rattle.loadseq.specs.Files.{AreShipTexts, AreTexts, IsTextIfNamed, IsTextIfThere, IsTextOf, path_in, texts_in};
+ghost use Rattle.loadseq.specs.Files.{AreShipTexts, AreTexts, IsTextIfNamed, IsTextIfThere, IsTextOf, edits_text, path_in, texts_in};
 ghost use Rattle.loadseq.specs.Files.Known.{Nothing};
 ghost use Rattle.loadseq.specs.Statuses.{IsUnread, name_shown};
 
@@ -223,6 +223,16 @@ impl Texts {
             baplie: &self.baplie,
             movins: &self.movins,
             steps: self.steps.as_deref(),
+        }
+    }
+
+    /// The edits to be tried; none where no file of edits was named.
+    pub fn edits(&self) -> &[u8]
+        ensures { result.now ≡ edits_text self.now.edits }
+    {
+        match &self.edits {
+            Some(edits) => edits,
+            None => &[],
         }
     }
 }

@@ -1,6 +1,7 @@
 //! The program: `loadseq check FOLDER BAPLIE MOVINS [--steps FILE] [--workers N] [--chunk N]` reads a ship's profile, a bay plan, a movement
 //! instruction and a planner's steps, and writes the report to standard output; `loadseq first` with the same words writes the first step that
-//! fails alone.
+//! fails alone; `loadseq whatif FOLDER BAPLIE MOVINS EDITS` with the same options tries edits of the steps, and writes what became of each and
+//! the report on the list that is left.
 #![tactic(auto)]
 
 mod arguments;
@@ -9,6 +10,7 @@ mod files;
 mod folders;
 mod serving;
 mod stops;
+mod trials;
 
 use arguments::words;
 use claim_run::Open;

@@ -3,13 +3,14 @@ ghost use Rattle.std.specs.Io.KnownBytes.{Appends};
 ghost use Rattle.seq_report.specs.Refusal.{Outcome, outcome_of};
 ghost use Rattle.seq_report.specs.Report.{last_line};
 ghost use Rattle.loadseq.specs.Lines.{IsNotTaken};
-ghost use Rattle.loadseq.specs.Runs.{IsRefusedBy, IsReported, IsReportedBy, IsStopBy, IsStopOf, IsStopOn};
+ghost use Rattle.loadseq.specs.Runs.{AreTried, IsRefusedBy, IsReported, IsReportedBy, IsStopBy, IsStopOf, IsStopOn};
 ghost use Rattle.loadseq.specs.Statuses.{status_of, status_on};
 
 use crate::command_line::{Line, Task, read_line};
-use crate::files::{Readers, Unopened};
-use crate::folders::{read_texts, stop};
+use crate::files::Readers;
+use crate::folders::read_texts;
 use crate::stops::Stop;
+use crate::trials::try_edits;
 use claim_run::{Gate, Workers};
 use seq_report::{
     Criterion, CutPlan, Inputs, Options, Sink, Through, first_fail, put_all, report,
@@ -61,7 +62,7 @@ fn report_to<G: Gate, T: Threads + Wait + Sync, S: Sink>(
         × (outcome_of inputs.now ≡ Ok outcome) × (status ≡ status_on outcome.summary.first)
         × Appends (S.contents sink.old) (S.contents sink.new) outcome.text) }
     ensures status { IfOk result (λ status. status ≤ 1) }
-    ensures stopped { IfErr result (IsStopOn inputs.now) }
+    ensures stopped { (edits : _) → IfErr result (IsStopOn Task.Check inputs.now edits) }
 {
     let options = options_of(line);
     let summary = match report(rt, alloc, gate, inputs, &options, sink) {
@@ -87,7 +88,7 @@ fn first_to<G: Gate, T: Threads + Wait + Sync, S: Sink>(
         × (outcome_of inputs.now ≡ Ok outcome) × (status ≡ status_on outcome.summary.first)
         × Appends (S.contents sink.old) (S.contents sink.new) (last_line outcome.summary.first)) }
     ensures status { IfOk result (λ status. status ≤ 1) }
-    ensures stopped { IfErr result (IsStopOn inputs.now) }
+    ensures stopped { (edits : _) → IfErr result (IsStopOn Task.First inputs.now edits) }
 {
     let options = options_of(line);
     let first = match first_fail(rt, alloc, gate, inputs, &options) {
@@ -102,6 +103,38 @@ fn first_to<G: Gate, T: Threads + Wait + Sync, S: Sink>(
         Ok(()) => Ok(status_on(first)),
         Err(_) => Err(Stop::Write),
     }
+}
+
+/// Tries edits of the steps that the inputs order, writes to a sink what became of each and then the report on the list that is left, and gives the
+/// status of that report.
+fn trial_to<G: Gate, T: Threads + Wait + Sync, S: Sink>(
+    rt: &T,
+    alloc: Global,
+    gate: &G,
+    inputs: &Inputs<'_>,
+    edits: &[u8],
+    line: Line<'_>,
+    sink: &mut S,
+) -> Result<u8, Stop>
+    requires chunk { 1 ≤ line.chunk }
+    requires workers { (1 ≤ line.workers) × (line.workers ≤ 16) }
+    requires sound { S.has_failed sink.old ≡ false }
+    ensures written { IfOk result (λ status. (outcome : Outcome)
+        × AreTried inputs.now edits.now outcome × (status ≡ status_on outcome.summary.first)
+        × Appends (S.contents sink.old) (S.contents sink.new) outcome.text) }
+    ensures status { IfOk result (λ status. status ≤ 1) }
+    ensures stopped { IfErr result (IsStopOn Task.WhatIf inputs.now edits.now) }
+{
+    let options = options_of(line);
+    let trial = try_edits(alloc, inputs, edits)?;
+    let Ok(()) = put_all(sink, trial.answers.as_bytes()) else {
+        return Err(Stop::Write);
+    };
+    let summary = match trial.session.report(rt, gate, &options, sink) {
+        Ok(summary) => summary,
+        Err(fault) => return Err(Stop::from(fault)),
+    };
+    Ok(status_on(summary.first))
 }
 
 /// The exit status of a run that writes what its line asks for on its files: 0, or 1 where a step fails.
@@ -124,8 +157,15 @@ fn run_line<R: Readers, G: Gate, T: Threads + Wait + Sync, O: Write>(
     match line.task {
         Task::Check => report_to(rt, alloc, gate, &texts.inputs(), line, &mut sink),
         Task::First => first_to(rt, alloc, gate, &texts.inputs(), line, &mut sink),
-        // Edits aren't tried yet: the run ends as where their file can't be read.
-        Task::WhatIf => Err(stop(alloc, line.edits.unwrap_or(""), Unopened::Failed)),
+        Task::WhatIf => trial_to(
+            rt,
+            alloc,
+            gate,
+            &texts.inputs(),
+            texts.edits(),
+            line,
+            &mut sink,
+        ),
     }
 }
 

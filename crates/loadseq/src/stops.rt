@@ -2,6 +2,7 @@ ghost use Rattle.std.specs.Prelude.{◌≡◌};
 ghost use Rattle.loadseq.specs.Statuses.{status_of};
 
 use crate::command_line::LineFault;
+use edits_file::EditsFault;
 use seq_report::RunFault;
 use std::alloc::AllocError;
 use std::error::Error;
@@ -12,6 +13,8 @@ use std::fmt;
 pub enum Stop {
     /// An input is refused.
     Refused(RunFault),
+    /// The line of this number, from 1, of the edits file is of no form.
+    Edits(usize),
     /// A usage error, or a call for help.
     Usage(String),
     /// Out of memory.
@@ -31,6 +34,7 @@ impl fmt::Display for Stop {
     fn fmt<W: fmt::Write>(&self, f: &mut fmt::Formatter<W>) -> fmt::Result {
         match self {
             Stop::Refused(fault) => write!(f, "refused {fault}"),
+            Stop::Edits(line) => write!(f, "refused edits line {line}"),
             Stop::Usage(text) => f.write_str(text.as_str()),
             Stop::NoMemory => f.write_str("no memory"),
             Stop::Read(name) => write!(f, "read fault {name}"),
@@ -42,13 +46,14 @@ impl fmt::Display for Stop {
 impl Error for Stop {}
 
 impl Stop {
-    /// The exit status: 2 for a refused input, 3 for a usage error or help, 4 out of memory, 5 where a file can't be
+    /// The exit status: 2 for a refused input or line of edits, 3 for a usage error or help, 4 out of memory, 5 where a file can't be
     /// read or standard output can't be written.
     pub fn status(&self) -> u8
         ensures { result ≡ status_of self.now }
     {
         match self {
             Stop::Refused(_) => 2,
+            Stop::Edits(_) => 2,
             Stop::Usage(_) => 3,
             Stop::NoMemory => 4,
             Stop::Read(_) => 5,
@@ -76,6 +81,19 @@ impl From<LineFault> for Stop {
         match fault {
             LineFault::Usage(text) => Stop::Usage(text),
             LineFault::NoMemory => Stop::NoMemory,
+        }
+    }
+}
+
+impl From<EditsFault> for Stop {
+    ghost use Rattle.loadseq.specs.Statuses.{stop_of_edits};
+
+    ghost from_gives = { λ fault stop. stop ≡ stop_of_edits fault };
+
+    fn from(fault: EditsFault) -> Stop {
+        match fault {
+            EditsFault::Line(line) => Stop::Edits(line),
+            EditsFault::NoMemory => Stop::NoMemory,
         }
     }
 }

@@ -258,12 +258,13 @@ fn refusals(rt: HostRuntime) {
 fn words(rt: HostRuntime) {
     let files = with("box/ship.toml", Content::Bytes(SHIP));
     let usage =
-        "usage: loadseq check|first FOLDER BAPLIE MOVINS [--steps FILE] [--workers N] [--chunk N]\n";
+        "usage: loadseq check|first FOLDER BAPLIE MOVINS [--steps FILE] [--workers N] [--chunk N]\n       loadseq whatif FOLDER BAPLIE MOVINS EDITS [--steps FILE] [--workers N] [--chunk N]\n";
     check(&rt, &files, &[], 3, "", usage);
     check(&rt, &files, &["report"], 3, "", usage);
     check(&rt, &files, &["--help"], 3, "", usage);
-    let wrong: [&[&str]; 4] = [
+    let wrong: [&[&str]; 5] = [
         &["check"],
+        &["whatif", "box", "plan.edi", "moves.edi"],
         &["check", "box", "plan.edi"],
         &["check", "box", "plan.edi", "moves.edi", "more"],
         &["check", "--help"],
@@ -371,6 +372,45 @@ fn steps_file(rt: HostRuntime) {
         REPORT,
         "",
     );
+}
+
+/// The words of a run with a file of edits.
+const WITH_EDITS: [&str; 5] = ["whatif", "box", "plan.edi", "moves.edi", "edits.txt"];
+
+// A tank is filled and emptied again, and no other edit can be made: there is no step, a filling has no weight, and the cell is empty.
+#[test]
+fn edits_tried(rt: HostRuntime) {
+    let edits: &[u8] =
+        b"insert 1 T DB1 500\nreweigh 1 7\nundo\nundo\nremove 1\ninsert 1 D 0010082 -\n";
+    let answers =
+        "EDIT 1 OK\nEDIT 2 X2\nEDIT 3 OK\nEDIT 4 NONE\nEDIT 5 X1\nEDIT 6 X3\nSTEP LIFT KG GM MEAN AFT FWD TRIM LIST A30 A40 A3040 GZ ANGLE CLOSE FRAMES VERDICT\n0 - 8200000 4333 4000 4000 4000 0 0 31509 50888 19379 1958 35 0 0/0 PASS\nALL PASS\n";
+    check(
+        &rt,
+        &with("edits.txt", Content::Bytes(edits)),
+        &WITH_EDITS,
+        0,
+        answers,
+        "",
+    );
+    check(
+        &rt,
+        &with("edits.txt", Content::Bytes(b"")),
+        &WITH_EDITS,
+        0,
+        REPORT,
+        "",
+    );
+}
+
+// All files are read first, then the inputs are checked, then the lines of the edits, and only then the first edit is made.
+#[test]
+fn edits_refused(rt: HostRuntime) {
+    let unread = with("box/ship.toml", Content::Bytes(b""));
+    check(&rt, &unread, &WITH_EDITS, 5, "", "read fault edits.txt\n");
+    let mut files = with("edits.txt", Content::Bytes(b"undo\nswap 1"));
+    check(&rt, &files, &WITH_EDITS, 2, "", "refused edits line 2\n");
+    files[1] = ("box/ship.toml", Content::Bytes(b""));
+    check(&rt, &files, &WITH_EDITS, 2, "", "refused F1 P2 lbp_mm\n");
 }
 
 #[test]

@@ -1,11 +1,12 @@
 use Rattle.std.proofs.Common.{subst, arith}
 use Rattle.seq_report.specs.Plans.{IsPlanFault}
+use Rattle.loadseq.specs.declared.command_line.Task.TheVariants.{First}
 use Rattle.loadseq.proofs.StopLemmas.{of_run}
 use Rattle.loadseq.proofs.serving.first_to.Goals as goal
 
 pub returns-in-Err-clause-stopped : goal.returns-in-Err-clause-stopped
-returns-in-Err-clause-stopped g c =
-    of_run c.args.inputs.now c.in-Err.fault _ c.from.ensures c.in-Err.ensures.refused
+returns-in-Err-clause-stopped g c edits =
+    of_run First c.args.inputs.now edits c.in-Err.fault _ c.from.ensures c.in-Err.ensures.refused
     (λ f is.
     let unfit = c.in-Err.ensures.unfit f is in
     let none = subst (λ plan. IsPlanFault plan unfit.0.summary.lines f) c.options_of-options.ensures unfit.2 in

@@ -1,6 +1,7 @@
 use Rattle.std.proofs.Common.{◌∙◌, ap, subst, arith}
 use Rattle.seq_report.specs.Plans.{IsPlanFault}
 use Rattle.loadseq.specs.Statuses.{status_on}
+use Rattle.loadseq.specs.declared.command_line.Task.TheVariants.{Check}
 use Rattle.loadseq.proofs.StopLemmas.{of_run}
 use Rattle.loadseq.proofs.serving.report_to.Goals as goal
 
@@ -10,8 +11,8 @@ returns-clause-written g c =
     (told.0, told.1, c.status_on.ensures.value ∙ ap (λ s. status_on s.first) told.2, told.3)
 
 pub returns-in-Err-clause-stopped : goal.returns-in-Err-clause-stopped
-returns-in-Err-clause-stopped g c =
-    of_run c.args.inputs.now c.in-Err.fault _ c.from.ensures c.in-Err.ensures.refused
+returns-in-Err-clause-stopped g c edits =
+    of_run Check c.args.inputs.now edits c.in-Err.fault _ c.from.ensures c.in-Err.ensures.refused
     (λ f is.
     let unfit = c.in-Err.ensures.unfit f is in
     let none = subst (λ plan. IsPlanFault plan unfit.0.summary.lines f) c.options_of-options.ensures unfit.2 in
