@@ -50,7 +50,7 @@ moves_few (Some c) (Restow from to id ∷ more) = by_cell (cell_eq c from) (move
   by_cell false h k = omega (arith, h)
 
 -- cells by their tests, and what is written into two of them or twice into one
-turned_round : (a b : Cell) → cell_eq a b ≡ cell_eq b a
+pub turned_round : (a b : Cell) → cell_eq a b ≡ cell_eq b a
 turned_round a b = rw (number a.bay b.bay, number a.row b.row, number a.tier b.tier) refl where
   number : (m n : ℕ) → nat_eq m n ≡ nat_eq n m
   number m n = grind arith
@@ -60,7 +60,7 @@ is_itself a = rw (number a.bay, number a.row, number a.tier) refl where
   number : (m : ℕ) → nat_eq m m ≡ true
   number m = grind arith
 
-either_first : (f : Cell → Option Container) (a b : Cell) (x y : Option Container) → cell_eq a b ≡ false
+pub either_first : (f : Cell → Option Container) (a b : Cell) (x y : Option Container) → cell_eq a b ≡ false
     → update cell_eq (update cell_eq f a x) b y ≡ update cell_eq (update cell_eq f b y) a x
 either_first f a b x y apart = λ i q. at q (cell_eq a q) refl (cell_eq b q) refl i where
   clash : true ≡ false → ⊥

@@ -2,8 +2,10 @@ pub mod ArrivalSums
 pub mod Changes
 pub mod CountLemmas
 pub mod EqualityLemmas
+pub mod ExchangeLemmas
 pub mod FirstFaults
 pub mod FollowLemmas
+pub mod IndependentLemmas
 pub mod Listings
 pub mod MemoryLemmas
 pub mod Overlaps

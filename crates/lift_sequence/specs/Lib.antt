@@ -3,6 +3,7 @@ pub mod Arrival
 pub mod Bodies
 pub mod Faults
 pub mod Follow
+pub mod Independent
 pub mod Legal
 pub mod Places
 pub mod Printed

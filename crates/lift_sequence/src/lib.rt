@@ -5,13 +5,15 @@
 //! steps that [`ops`] makes of a movement instruction and a steps file, and tells of each the body that it takes out and the one that it
 //! puts in. Both answer the first item, fill or step that can't be, and why. What is aboard is known to this crate alone: the bodies on
 //! arrival and those of each step are all that a sum needs. A look-up takes constant time; so does the search for a cell that overlaps.
-//! [`Sequence::reweigh`] changes the weight of one load afterwards, and with it what the steps do that move its container.
+//! [`Sequence::reweigh`] changes the weight of one load afterwards, and with it what the steps do that move its container;
+//! [`Sequence::swap`] exchanges two steps that mind neither each other nor a step between them.
 #![tactic(auto)]
 
 mod arrivals;
 mod containers;
 mod equality;
 mod faults;
+mod independence;
 mod laws;
 mod operations;
 mod sequences;

@@ -1,14 +1,17 @@
-ghost use Rattle.std.specs.Prelude.{◌≡◌, ◌≤◌, ◌<◌, ◌-◌, ◌++◌, ◌∷◌, [], length, take, drop, slice_get, option_map, OnOk, IfOk, IfErr, Some, None};
+ghost use Rattle.std.specs.Prelude.{◌≡◌, ◌↔◌, ◌≤◌, ◌<◌, ◌-◌, ◌++◌, ◌∷◌, [], length, take, drop, slice_get, option_map, swap, IsTrue, OnOk, IfOk, IfErr, Some, None};
+ghost use Rattle.std.specs.Bool.{OnTrue, OnFalse};
 ghost use Rattle.ship_profile.specs.Record.{ProfileRecord};
 ghost use Rattle.lift_sequence.specs.Arrival.{TellsAt, cargo_on, fault_at};
 ghost use Rattle.lift_sequence.specs.Aboard.{Aboard, cargo_in, after_step};
 ghost use Rattle.lift_sequence.specs.Bodies.{step_of, steps_of};
 ghost use Rattle.lift_sequence.specs.Follow.{AreReweighed, IsLoad, steps_weighed, weighed_at};
+ghost use Rattle.lift_sequence.specs.Independent.{AreExchangeable};
 ghost use Rattle.lift_sequence.specs.Legal.{fault_of};
 ghost use Rattle.lift_sequence.specs.Sequence.{AreSteps, IsOf, StepsAddUp, first_fault, sequence_fault};
 
 use crate::arrivals::Arrival;
 use crate::faults::{NO_MEMORY, SeqCode, SeqFault, fault_at};
+use crate::independence::are_exchangeable;
 use crate::operations::Op;
 use crate::steps::Step;
 use crate::stowage::Stowage;
@@ -186,5 +189,55 @@ impl Sequence {
         let place = k - 1;
         weigh_steps(&self.ops, &mut self.steps, place, kg);
         self.ops[place] = self.ops[place].reweighed(kg);
+    }
+
+    /// Exchanges the steps at two places, where neither of them minds the other or a step between them, and tells whether it did.
+    fn exchange(&mut self, i: usize, j: usize) -> bool
+        requires order { i < j }
+        requires within { j < length self.old.ops }
+        ensures answers { IsTrue result ↔ AreExchangeable self.old.ops i j }
+        ensures ops { OnTrue result (self.new.ops ≡ swap self.old.ops i j) }
+        ensures steps { OnTrue result (self.new.steps ≡ swap self.old.steps i j) }
+        ensures same { OnFalse result (self.new ≡ self.old) }
+        ensures legal { (ship : ProfileRecord) (at : Aboard) →
+            sequence_fault ship at self.old.ops ≡ None →
+            sequence_fault ship at self.new.ops ≡ None }
+        ensures done { (ship : ProfileRecord) (at : Aboard) →
+            sequence_fault ship at self.old.ops ≡ None →
+            self.old.steps ≡ steps_of ship at self.old.ops →
+            self.new.steps ≡ steps_of ship at self.new.ops }
+    {
+        if !are_exchangeable(&self.ops, i, j) {
+            return false;
+        }
+        self.ops.swap(i, j);
+        self.steps.swap(i, j);
+        true
+    }
+
+    /// Exchanges two steps, the first step being 1, where it is certain that no step minds: neither of the two minds the other or a step
+    /// between them, as [`Op::is_independent`] says. It tells whether it did; if not, nothing changes. Wherever the sequence could be
+    /// carried out, it still can, and each step does what it did. It takes no memory, and time linear in the number of steps between.
+    pub fn swap(&mut self, a: usize, b: usize) -> bool
+        requires first { (1 ≤ a) × (1 ≤ b) }
+        requires last { (a ≤ length self.old.ops) × (b ≤ length self.old.ops) }
+        ensures ops { OnTrue result (self.new.ops ≡ swap self.old.ops (a - 1) (b - 1)) }
+        ensures steps { OnTrue result (self.new.steps ≡ swap self.old.steps (a - 1) (b - 1)) }
+        ensures same { OnFalse result (self.new ≡ self.old) }
+        ensures legal { (ship : ProfileRecord) (at : Aboard) →
+            sequence_fault ship at self.old.ops ≡ None →
+            sequence_fault ship at self.new.ops ≡ None }
+        ensures done { (ship : ProfileRecord) (at : Aboard) →
+            sequence_fault ship at self.old.ops ≡ None →
+            self.old.steps ≡ steps_of ship at self.old.ops →
+            self.new.steps ≡ steps_of ship at self.new.ops }
+    {
+        if a < b {
+            self.exchange(a - 1, b - 1)
+        } else if b < a {
+            self.exchange(b - 1, a - 1)
+        } else {
+            true
+        }
     }
 }

@@ -1,0 +1,47 @@
+-- Steps that don't mind each other: no cell of the one is a cell of the other or wants its room, and they don't fill one tank. So it doesn't
+-- matter which of them comes first.
+use Rattle.std.specs.Prelude.{◌≡◌, ℕ, ◌<◌, List, Option, Some, slice_get, Bool, true, false, not, ◌&&◌, nat_eq}
+use Rattle.std.specs.Str.{bytes_eq}
+use Rattle.units_core.specs.declared.cells.Cell.{Cell}
+use Rattle.units_core.specs.Cells.{meet}
+use Rattle.stow_messages.specs.declared.lifts.Lift.TheVariants.{Load, Discharge}
+use Rattle.lift_sequence.specs.declared.operations.Op as operation
+use Rattle.lift_sequence.specs.declared.operations.Op.TheVariants.{Lift, Fill, Restow}
+
+-- neither of two cells wants the room of the other
+abbrev pub are_apart : Cell → Cell → Bool
+are_apart a b = not (nat_eq a.row b.row && (nat_eq a.tier b.tier && meet a.bay b.bay))
+
+-- a step touches no cell that wants the room of this one
+abbrev pub leaves : operation.Op → Cell → Bool
+leaves (Lift (Load item)) cell = are_apart item.cell cell
+leaves (Lift (Discharge from id)) cell = are_apart from cell
+leaves (Fill name kg) cell = true
+leaves (Restow from to id) cell = are_apart from cell && are_apart to cell
+
+-- a step fills the tank of this name
+abbrev pub fills : operation.Op → List ℕ → Bool
+fills (Lift lift) name = false
+fills (Fill other kg) name = bytes_eq other.items name
+fills (Restow from to id) name = false
+
+-- two steps don't mind each other
+abbrev pub are_independent : operation.Op → operation.Op → Bool
+are_independent (Lift (Load item)) other = leaves other item.cell
+are_independent (Lift (Discharge cell id)) other = leaves other cell
+are_independent (Fill name kg) other = not (fills other name.items)
+are_independent (Restow from to id) other = leaves other from && leaves other to
+
+-- nor do those at two places of a list
+abbrev pub both_independent : Option operation.Op → Option operation.Op → Bool
+both_independent (Some a) (Some b) = are_independent a b
+both_independent a b = false
+
+abbrev pub independent_at : List operation.Op → ℕ → ℕ → Bool
+independent_at ops i j = both_independent (slice_get ops i) (slice_get ops j)
+
+-- the steps at two places don't mind each other, and neither minds a step between them
+pub record AreExchangeable (ops : List operation.Op) (i j : ℕ) : Type 0 where
+  pub pair : independent_at ops i j ≡ true
+  pub first : (k : ℕ) → i < k → k < j → independent_at ops i k ≡ true
+  pub last : (k : ℕ) → i < k → k < j → independent_at ops j k ≡ true
