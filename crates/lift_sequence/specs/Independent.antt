@@ -1,6 +1,6 @@
 -- Steps that don't mind each other: no cell of the one is a cell of the other or wants its room, and they don't fill one tank. So it doesn't
 -- matter which of them comes first.
-use Rattle.std.specs.Prelude.{◌≡◌, ℕ, ◌<◌, List, Option, Some, slice_get, Bool, true, false, not, ◌&&◌, nat_eq}
+use Rattle.std.specs.Prelude.{◌≡◌, ◌⊎◌, ℕ, ◌-◌, ◌<◌, List, Option, Some, slice_get, Bool, true, false, not, ◌&&◌, nat_eq}
 use Rattle.std.specs.Str.{bytes_eq}
 use Rattle.units_core.specs.declared.cells.Cell.{Cell}
 use Rattle.units_core.specs.Cells.{meet}
@@ -40,8 +40,13 @@ both_independent a b = false
 abbrev pub independent_at : List operation.Op → ℕ → ℕ → Bool
 independent_at ops i j = both_independent (slice_get ops i) (slice_get ops j)
 
--- the steps at two places don't mind each other, and neither minds a step between them
+-- the steps at two places, the one before the other, don't mind each other, and neither minds a step between them
 pub record AreExchangeable (ops : List operation.Op) (i j : ℕ) : Type 0 where
+  pub order : i < j
   pub pair : independent_at ops i j ≡ true
   pub first : (k : ℕ) → i < k → k < j → independent_at ops i k ≡ true
   pub last : (k : ℕ) → i < k → k < j → independent_at ops j k ≡ true
+
+-- so are two steps, which are named in any order, the first step being 1; a step can be exchanged with itself
+abbrev pub CanSwap : List operation.Op → ℕ → ℕ → Type 0
+CanSwap ops a b = (a ≡ b) ⊎ (AreExchangeable ops (a - 1) (b - 1) ⊎ AreExchangeable ops (b - 1) (a - 1))

@@ -5,7 +5,7 @@ ghost use Rattle.lift_sequence.specs.Arrival.{TellsAt, cargo_on, fault_at};
 ghost use Rattle.lift_sequence.specs.Aboard.{Aboard, cargo_in, after_step};
 ghost use Rattle.lift_sequence.specs.Bodies.{step_of, steps_of};
 ghost use Rattle.lift_sequence.specs.Follow.{AreReweighed, IsLoad, steps_weighed, weighed_at};
-ghost use Rattle.lift_sequence.specs.Independent.{AreExchangeable};
+ghost use Rattle.lift_sequence.specs.Independent.{AreExchangeable, CanSwap};
 ghost use Rattle.lift_sequence.specs.Legal.{fault_of};
 ghost use Rattle.lift_sequence.specs.Sequence.{AreSteps, IsOf, StepsAddUp, first_fault, sequence_fault};
 
@@ -221,6 +221,7 @@ impl Sequence {
     pub fn swap(&mut self, a: usize, b: usize) -> bool
         requires first { (1 ≤ a) × (1 ≤ b) }
         requires last { (a ≤ length self.old.ops) × (b ≤ length self.old.ops) }
+        ensures answers { IsTrue result ↔ CanSwap self.old.ops a b }
         ensures ops { OnTrue result (self.new.ops ≡ swap self.old.ops (a - 1) (b - 1)) }
         ensures steps { OnTrue result (self.new.steps ≡ swap self.old.steps (a - 1) (b - 1)) }
         ensures same { OnFalse result (self.new ≡ self.old) }

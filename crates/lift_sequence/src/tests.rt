@@ -1,5 +1,6 @@
 mod arrivals;
 mod equality;
+mod exchanging;
 mod faults;
 mod laws;
 mod operations;

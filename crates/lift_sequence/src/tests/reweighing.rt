@@ -76,7 +76,7 @@ fn reweigh(sequence: &mut Sequence, number: usize, kg: Kg) {
 }
 
 /// What the step of a number does; nothing where it isn't there.
-fn step(sequence: &Sequence, number: usize) -> Step {
+pub fn step(sequence: &Sequence, number: usize) -> Step {
     if number == 0 {
         return Step {
             out: None,
