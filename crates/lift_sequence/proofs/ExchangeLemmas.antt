@@ -14,11 +14,11 @@ use Rattle.lift_sequence.specs.declared.steps.Step.{Step}
 use Rattle.lift_sequence.specs.Aboard.{Aboard, after_step}
 use Rattle.lift_sequence.specs.Arrival.{fault_at}
 use Rattle.lift_sequence.specs.Bodies.{step_of, steps_of}
-use Rattle.lift_sequence.specs.Independent.{AreExchangeable, both_independent, independent_at}
+use Rattle.lift_sequence.specs.Independent.{AreExchangeable, AreIndependent, Commute, both_independent, independent_at}
 use Rattle.lift_sequence.specs.Legal.{fault_of}
 use Rattle.lift_sequence.specs.Sequence.{first_fault, sequence_fault}
 use Rattle.lift_sequence.proofs.FollowLemmas.{none_of_both}
-use Rattle.lift_sequence.proofs.IndependentLemmas.{AreIndependent, Passes, independent_means, passes, turned}
+use Rattle.lift_sequence.proofs.IndependentLemmas.{independent_means, passes, turned}
 use Rattle.lift_sequence.proofs.States.{as_many, none_first}
 
 -- a list with two elements in each other's place; d and e are read of no list that has both
@@ -46,10 +46,10 @@ module _ (ship : ProfileRecord) where
 
   -- neighbours
   module _ (a b : Op) (at : Aboard) (apart : AreIndependent a b) where
-    behind : Passes ship a b at
+    behind : Commute ship at a b
     behind = passes ship a b at apart
 
-    before : Passes ship b a at
+    before : Commute ship at b a
     before = passes ship b a at (turned a b apart)
 
     flip_done : (more : List Op) → CanBeDone at (a ∷ b ∷ more) → CanBeDone at (b ∷ a ∷ more)

@@ -1,5 +1,5 @@
 -- Of two steps that don't mind each other either may come first.
-use Rattle.std.proofs.Common.{◌≡◌, ℕ, ◌+◌, ◌-◌, ◌%◌, ◌&&◌, ◌⊎◌, inl, inr, not, List, [], ◌∷◌, get_or, Option, None, Some, Bool, true, false, cond, nat_eq, nat_le, refl, sym, ap, ◌∙◌, arith, eqb-true}
+use Rattle.std.proofs.Common.{◌≡◌, ℕ, ◌+◌, ◌-◌, ◌%◌, ◌&&◌, ◌⊎◌, inl, inr, not, List, [], ◌∷◌, get_or, Option, None, Some, Bool, true, false, cond, nat_eq, nat_le, refl, sym, ap, ◌∙◌, arith, eq-eqb, eqb-true}
 use Rattle.std.specs.Prelude.{find, if◌then◌else◌, position}
 use Rattle.std.specs.List.{range_with_len}
 use Rattle.std.specs.Map.{update}
@@ -8,7 +8,7 @@ use Rattle.std.specs.Str.{bytes_eq}
 use Rattle.std.proofs.lemmas.Slice.Eq.{bytes_eq-Decides}
 use Rattle.std.proofs.lemmas.List.Quantifiers.{position-Some}
 use Rattle.units_core.specs.declared.cells.Cell.{Cell}
-use Rattle.units_core.specs.Cells.{cell_eq, meet, span_of}
+use Rattle.units_core.specs.Cells.{Conflicts, cell_eq, meet, span_of}
 use Rattle.stow_messages.specs.declared.lifts.Lift.TheVariants.{Load, Discharge}
 use Rattle.ship_profile.specs.Record.{ProfileRecord, place_of, tank_of, tank_body}
 use Rattle.lift_sequence.specs.declared.containers.Container.{Container}
@@ -17,7 +17,7 @@ use Rattle.lift_sequence.specs.declared.operations.Op as operation
 use Rattle.lift_sequence.specs.declared.operations.Op.TheVariants.{Lift, Fill, Restow}
 use Rattle.lift_sequence.specs.Aboard.{Aboard, after_step, container_of, with_cell, with_tank}
 use Rattle.lift_sequence.specs.Bodies.{body_in, filling_in, filling_step, step_of}
-use Rattle.lift_sequence.specs.Independent.{are_apart, are_independent, leaves}
+use Rattle.lift_sequence.specs.Independent.{AreIndependent, Commute, Fills, IndependentCommute, TellsIndependent, Touches, are_apart, are_independent, fills, leaves}
 use Rattle.lift_sequence.specs.Legal.{fault_of, hold_fault, in_bay, is_rival, overlap, place_fault, stand_fault, take_fault}
 use Rattle.lift_sequence.proofs.FollowLemmas.{either_first, turned_round}
 use Rattle.lift_sequence.proofs.Listings.{cells_same}
@@ -113,24 +113,34 @@ module _ {X : Type 0} (name_of : X → List ℕ) where
   one_name a b [] i h k = cc
   one_name a b (x ∷ xs) i h k = named_at a (x ∷ xs) x i h ∙ sym (named_at b (x ∷ xs) x i k)
 
--- the cells that a step touches, and the tank that it fills
-abbrev pub Touches : operation.Op → Cell → Type 0
-Touches (Lift (Load item)) c = item.cell ≡ c
-Touches (Lift (Discharge cell id)) c = cell ≡ c
-Touches (Fill name kg) c = ⊥
-Touches (Restow from to id) c = (from ≡ c) ⊎ (to ≡ c)
+-- cells that are apart are those that don't conflict
+not_apart : (a b : Cell) → Conflicts a b → are_apart a b ≡ false
+not_apart a b c = let row : nat_eq a.row b.row ≡ true = eq-eqb a.row b.row c.row in
+    let tier : nat_eq a.tier b.tier ≡ true = eq-eqb a.tier b.tier c.tier in
+    λ i. not (row i && (tier i && c.bays i))
 
-abbrev pub Fills : operation.Op → List ℕ → Type 0
-Fills (Lift lift) name = ⊥
-Fills (Fill other kg) name = other.items ≡ name
-Fills (Restow from to id) name = ⊥
+no_conflict : (a b : Cell) → are_apart a b ≡ true → Conflicts a b → ⊥
+no_conflict a b h c = clash (sym h ∙ not_apart a b c) where
+  clash : true ≡ false → ⊥
+  clash z = cc
 
-pub record AreIndependent (a b : operation.Op) : Type 0 where
-  pub cells : (c d : Cell) → Touches a c → Touches b d → are_apart c d ≡ true
-  pub tanks : (name : List ℕ) → Fills a name → Fills b name → ⊥
+away : (a b : Cell) → (Conflicts a b → ⊥) → are_apart a b ≡ true
+away a b none = by_tests (nat_eq a.row b.row) refl (nat_eq a.tier b.tier) refl (meet a.bay b.bay) refl where
+  by_tests : (r : Bool) → nat_eq a.row b.row ≡ r → (t : Bool) → nat_eq a.tier b.tier ≡ t → (m : Bool) → meet a.bay b.bay ≡ m → not (r && (t && m)) ≡ true
+  by_tests true r true t true m = absurd (none (record { row = eqb-true a.row b.row r; tier = eqb-true a.tier b.tier t; bays = m }))
+  by_tests true r true t false m = refl
+  by_tests true r false t k m = refl
+  by_tests false r l t k m = refl
+
+conflicts_turned : (a b : Cell) → Conflicts a b → Conflicts b a
+conflicts_turned a b c = record {
+  row = sym c.row;
+  tier = sym c.tier;
+  bays = and_turned (nat_le (span_of b.bay).0 (span_of a.bay).1) (nat_le (span_of a.bay).0 (span_of b.bay).1) ∙ c.bays;
+}
 
 pub turned : (a b : operation.Op) → AreIndependent a b → AreIndependent b a
-turned a b h = record { cells = λ c d p q. apart_turned c d ∙ h.cells d c q p; tanks = λ name p q. h.tanks name q p }
+turned a b h = record { cells = λ c d p q k. h.cells d c q p (conflicts_turned c d k); tanks = λ name p q. h.tanks name q p }
 
 both_true : (a b : Bool) → (a && b) ≡ true → (a ≡ true) × (b ≡ true)
 both_true true b h = (refl, h)
@@ -164,9 +174,38 @@ other_tank (Fill one kg) (Fill other mass) name h p q = not_filled one.items oth
 
 pub independent_means : (a b : operation.Op) → are_independent a b ≡ true → AreIndependent a b
 independent_means a b h = record {
-  cells = λ c d p q. left_apart b c d (leaves_each a b c h p) q;
+  cells = λ c d p q. no_conflict c d (left_apart b c d (leaves_each a b c h p) q);
   tanks = λ name p q. other_tank a b name h p q;
 }
+
+-- and the other way
+both_are : (a b : Bool) → a ≡ true → b ≡ true → (a && b) ≡ true
+both_are a b h k = rw (h, k) refl
+
+leaves_of : (b : operation.Op) (c : Cell) → ((d : Cell) → Touches b d → Conflicts c d → ⊥) → leaves b c ≡ true
+leaves_of (Lift (Load item)) c h = apart_turned item.cell c ∙ away c item.cell (h item.cell refl)
+leaves_of (Lift (Discharge cell id)) c h = apart_turned cell c ∙ away c cell (h cell refl)
+leaves_of (Fill name kg) c h = refl
+leaves_of (Restow from to id) c h =
+    both_are (are_apart from c) (are_apart to c) (apart_turned from c ∙ away c from (h from (inl refl))) (apart_turned to c ∙ away c to (h to (inr refl)))
+
+no_tank : (b : operation.Op) (name : List ℕ) → (Fills b name → ⊥) → not (fills b name) ≡ true
+no_tank (Lift lift) name h = refl
+no_tank (Restow from to id) name h = refl
+no_tank (Fill other kg) name h = by_test (bytes_eq other.items name) refl where
+  by_test : (t : Bool) → bytes_eq other.items name ≡ t → not t ≡ true
+  by_test true e = absurd (h ((bytes_eq-Decides other.items name).0 e))
+  by_test false e = refl
+
+means_independent : (a b : operation.Op) → AreIndependent a b → are_independent a b ≡ true
+means_independent (Lift (Load item)) b h = leaves_of b item.cell (λ d t. h.cells item.cell d refl t)
+means_independent (Lift (Discharge cell id)) b h = leaves_of b cell (λ d t. h.cells cell d refl t)
+means_independent (Fill name kg) b h = no_tank b name.items (λ t. h.tanks name.items refl t)
+means_independent (Restow from to id) b h =
+    both_are (leaves b from) (leaves b to) (leaves_of b from (λ d t. h.cells from d (inl refl) t)) (leaves_of b to (λ d t. h.cells to d (inr refl) t))
+
+pub tells_independent : TellsIndependent
+tells_independent a b = (independent_means a b, means_independent a b)
 
 module _ (ship : ProfileRecord) where
   -- what is written into a cell that is apart from a step's doesn't concern it
@@ -269,29 +308,27 @@ module _ (ship : ProfileRecord) where
     state = λ at kg. (other_filling at tank kg (tank_of ship name.items) mass (h name.items tank refl refl)).1;
   }
 
-  -- a step behind another one does what it does before it, and leaves the same aboard
-  pub record Passes (a b : operation.Op) (at : Aboard) : Type 0 where
-    pub fault : fault_of ship (after_step ship at a) b ≡ fault_of ship at b
-    pub step : step_of ship (after_step ship at a) b ≡ step_of ship at b
-    pub state : after_step ship (after_step ship at a) b ≡ after_step ship (after_step ship at b) a
-
-  pub passes : (a b : operation.Op) (at : Aboard) → AreIndependent a b → Passes a b at
+  -- so a step behind another one does what it does before it, and leaves the same aboard
+  pub passes : (a b : operation.Op) (at : Aboard) → AreIndependent a b → Commute ship at a b
   passes (Lift (Load item)) b at h =
-      let r = ignores_cell b item.cell (λ d t. h.cells item.cell d refl t) in
+      let r = ignores_cell b item.cell (λ d t. away item.cell d (h.cells item.cell d refl t)) in
       let v : Option Container = Some (container_of item) in
       record { fault = r.fault at v; step = r.step at v; state = r.state at v }
   passes (Lift (Discharge cell id)) b at h =
-      let r = ignores_cell b cell (λ d t. h.cells cell d refl t) in
+      let r = ignores_cell b cell (λ d t. away cell d (h.cells cell d refl t)) in
       record { fault = r.fault at None; step = r.step at None; state = r.state at None }
   passes (Fill name kg) b at h =
       let r = ignores_tank b (tank_of ship name.items) (λ other tank f e k. h.tanks other (one_name (λ t. t.name) name.items other ship.tables.tanks tank e k) f) in
       record { fault = r.fault at kg; step = r.step at kg; state = r.state at kg }
   passes (Restow from to id) b at h =
-      let r = ignores_cell b from (λ d t. h.cells from d (inl refl) t) in
-      let s = ignores_cell b to (λ d t. h.cells to d (inr refl) t) in
+      let r = ignores_cell b from (λ d t. away from d (h.cells from d (inl refl) t)) in
+      let s = ignores_cell b to (λ d t. away to d (h.cells to d (inr refl) t)) in
       let between : Aboard = with_cell at from None in
       record {
         fault = s.fault between (at.cells from) ∙ r.fault at None;
         step = s.step between (at.cells from) ∙ r.step at None;
         state = s.state between (at.cells from) ∙ (λ i. with_cell (r.state at None i) to (sym (r.keeps at) i));
       }
+
+pub independent_commute : IndependentCommute
+independent_commute ship at a b h = (passes ship a b at h, passes ship b a at (turned a b h))

@@ -1,12 +1,42 @@
 -- Steps that don't mind each other: no cell of the one is a cell of the other or wants its room, and they don't fill one tank. So it doesn't
--- matter which of them comes first.
-use Rattle.std.specs.Prelude.{◌≡◌, ◌⊎◌, ℕ, ◌-◌, ◌<◌, List, Option, Some, slice_get, Bool, true, false, not, ◌&&◌, nat_eq}
+-- matter which of them comes first. First as a relation, and then as the test for it.
+use Rattle.std.specs.Prelude.{◌≡◌, ◌↔◌, ◌⊎◌, ℕ, ◌-◌, ◌<◌, List, Option, Some, slice_get, Bool, true, false, not, ◌&&◌, nat_eq}
 use Rattle.std.specs.Str.{bytes_eq}
 use Rattle.units_core.specs.declared.cells.Cell.{Cell}
-use Rattle.units_core.specs.Cells.{meet}
+use Rattle.units_core.specs.Cells.{Conflicts, meet}
 use Rattle.stow_messages.specs.declared.lifts.Lift.TheVariants.{Load, Discharge}
+use Rattle.ship_profile.specs.Record.{ProfileRecord}
 use Rattle.lift_sequence.specs.declared.operations.Op as operation
 use Rattle.lift_sequence.specs.declared.operations.Op.TheVariants.{Lift, Fill, Restow}
+use Rattle.lift_sequence.specs.Aboard.{Aboard, after_step}
+use Rattle.lift_sequence.specs.Bodies.{step_of}
+use Rattle.lift_sequence.specs.Legal.{fault_of}
+
+-- a step takes a container out of this cell, or puts one into it; and it fills the tank of this name
+abbrev pub Touches : operation.Op → Cell → Type 0
+Touches (Lift (Load item)) cell = item.cell ≡ cell
+Touches (Lift (Discharge from id)) cell = from ≡ cell
+Touches (Fill name kg) cell = ⊥
+Touches (Restow from to id) cell = (from ≡ cell) ⊎ (to ≡ cell)
+
+abbrev pub Fills : operation.Op → List ℕ → Type 0
+Fills (Lift lift) name = ⊥
+Fills (Fill other kg) name = other.items ≡ name
+Fills (Restow from to id) name = ⊥
+
+pub record AreIndependent (a b : operation.Op) : Type 0 where
+  pub cells : (one other : Cell) → Touches a one → Touches b other → Conflicts one other → ⊥
+  pub tanks : (name : List ℕ) → Fills a name → Fills b name → ⊥
+
+-- A step behind another one has the fault and does what it has and does before it, and both leave the same aboard in either order.
+pub record Commute (ship : ProfileRecord) (at : Aboard) (a b : operation.Op) : Type 0 where
+  pub fault : fault_of ship (after_step ship at a) b ≡ fault_of ship at b
+  pub step : step_of ship (after_step ship at a) b ≡ step_of ship at b
+  pub state : after_step ship (after_step ship at a) b ≡ after_step ship (after_step ship at b) a
+
+-- so independent steps do, whatever is aboard
+abbrev pub IndependentCommute : Type 0
+IndependentCommute = (ship : ProfileRecord) (at : Aboard) (a b : operation.Op) → AreIndependent a b → Commute ship at a b × Commute ship at b a
 
 -- neither of two cells wants the room of the other
 abbrev pub are_apart : Cell → Cell → Bool
@@ -31,6 +61,10 @@ are_independent (Lift (Load item)) other = leaves other item.cell
 are_independent (Lift (Discharge cell id)) other = leaves other cell
 are_independent (Fill name kg) other = not (fills other name.items)
 are_independent (Restow from to id) other = leaves other from && leaves other to
+
+-- the test tells it
+abbrev pub TellsIndependent : Type 0
+TellsIndependent = (a b : operation.Op) → (are_independent a b ≡ true) ↔ AreIndependent a b
 
 -- nor do those at two places of a list
 abbrev pub both_independent : Option operation.Op → Option operation.Op → Bool

@@ -17,6 +17,7 @@ ghost use Rattle.lift_sequence.specs.Arrival.{arrival_bodies, arrival_fault, on_
 ghost use Rattle.lift_sequence.specs.Bodies.{bodies};
 ghost use Rattle.lift_sequence.specs.Faults.{IsArrivalFault, IsLegalArrival, IsLegalSequence, IsSequenceFault};
 ghost use Rattle.lift_sequence.specs.Follow.{AreReweighedOnce, FewMoves, Reweighs, ReweighsSequences};
+ghost use Rattle.lift_sequence.specs.Independent.{IndependentCommute, TellsIndependent};
 ghost use Rattle.lift_sequence.specs.Legal.{overlap};
 ghost use Rattle.lift_sequence.specs.Places.{HasLift, HasPlaces, filled_tanks, taken_cells};
 ghost use Rattle.lift_sequence.specs.Rivals.{HaveShortBays, HasNoRival, IsLeastRival};
@@ -100,4 +101,12 @@ pub fn weights_change_few_steps()
     ensures sequences { ReweighsSequences }
     ensures once { AreReweighedOnce }
     ensures few { FewMoves }
+{}
+
+/// Two steps are independent where no cell of the one is a cell of the other or wants its room, and they don't fill one tank; the test says
+/// exactly that. Each of them then has the fault, and does what it has and does without the other before it, and both leave the same
+/// aboard in either order.
+pub fn independent_steps_commute()
+    ensures test { TellsIndependent }
+    ensures commute { IndependentCommute }
 {}

@@ -25,8 +25,8 @@ mod tests;
 pub use arrivals::Arrival;
 pub use faults::{SeqCode, SeqFault};
 pub use laws::{
-    arrivals_have_one_answer, cargo_has_places, nobody_is_lost, overlaps_are_least,
-    sequences_have_one_answer, weights_change_few_steps,
+    arrivals_have_one_answer, cargo_has_places, independent_steps_commute, nobody_is_lost,
+    overlaps_are_least, sequences_have_one_answer, weights_change_few_steps,
 };
 pub use operations::{Op, ops};
 pub use sequences::Sequence;

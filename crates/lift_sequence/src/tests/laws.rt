@@ -1,6 +1,6 @@
 use crate::{
-    arrivals_have_one_answer, cargo_has_places, nobody_is_lost, overlaps_are_least,
-    sequences_have_one_answer, weights_change_few_steps,
+    arrivals_have_one_answer, cargo_has_places, independent_steps_commute, nobody_is_lost,
+    overlaps_are_least, sequences_have_one_answer, weights_change_few_steps,
 };
 
 #[test]
@@ -11,4 +11,5 @@ fn laws() {
     cargo_has_places();
     nobody_is_lost();
     weights_change_few_steps();
+    independent_steps_commute();
 }
