@@ -28,17 +28,17 @@ module _ {X : Type 0} where
 
 module _ (ship : ProfileRecord) where
   -- each step of a list can be done where it comes
-  abbrev CanBeDone : Aboard → List Op → Type 0
+  abbrev pub CanBeDone : Aboard → List Op → Type 0
   CanBeDone at [] = ⊤
   CanBeDone at (op ∷ more) = (fault_of ship at op ≡ None) × CanBeDone (after_step ship at op) more
 
-  can_be_done : (at : Aboard) (number : ℕ) (ops : List Op) → first_fault ship at number ops ≡ None → CanBeDone at ops
+  pub can_be_done : (at : Aboard) (number : ℕ) (ops : List Op) → first_fault ship at number ops ≡ None → CanBeDone at ops
   can_be_done at number [] legal = tt
   can_be_done at number (op ∷ more) legal =
       let both = none_first number (fault_of ship at op) (first_fault ship (after_step ship at op) (number + 1) more) legal in
       (both.0, can_be_done (after_step ship at op) (number + 1) more both.1)
 
-  no_fault : (at : Aboard) (number : ℕ) (ops : List Op) → CanBeDone at ops → first_fault ship at number ops ≡ None
+  pub no_fault : (at : Aboard) (number : ℕ) (ops : List Op) → CanBeDone at ops → first_fault ship at number ops ≡ None
   no_fault at number [] done = refl
   no_fault at number (op ∷ more) done =
       let rest = no_fault (after_step ship at op) (number + 1) more done.1 in
@@ -52,7 +52,7 @@ module _ (ship : ProfileRecord) where
     before : Commute ship at b a
     before = passes ship b a at (turned a b apart)
 
-    flip_done : (more : List Op) → CanBeDone at (a ∷ b ∷ more) → CanBeDone at (b ∷ a ∷ more)
+    pub flip_done : (more : List Op) → CanBeDone at (a ∷ b ∷ more) → CanBeDone at (b ∷ a ∷ more)
     flip_done more done =
         (sym behind.fault ∙ done.1.0, (before.fault ∙ done.0, subst (λ (s : Aboard). CanBeDone s more) behind.state done.1.1))
 
@@ -125,7 +125,7 @@ swapped_back [] i j order = refl
 swapped_back (x ∷ xs) i j order = let ne : j ≢ i = omega arith in set_comm (x ∷ xs) j i (get_or (x ∷ xs) i x) (get_or (x ∷ xs) j x) ne
 
 -- what is so of a sequence in which two steps are exchanged
-independent_there : (ops : List Op) (i j : ℕ) (d : Op) → i < length ops → j < length ops → independent_at ops i j ≡ true → AreIndependent (get_or ops i d) (get_or ops j d)
+pub independent_there : (ops : List Op) (i j : ℕ) (d : Op) → i < length ops → j < length ops → independent_at ops i j ≡ true → AreIndependent (get_or ops i d) (get_or ops j d)
 independent_there ops i j d low high h =
     independent_means (get_or ops i d) (get_or ops j d) ((λ k. both_independent (sym (slice_get-get_or ops i d low) k) (sym (slice_get-get_or ops j d high) k)) ∙ h)
 

@@ -11,6 +11,7 @@ pub mod MemoryLemmas
 pub mod Overlaps
 pub mod PlaceLemmas
 pub mod RivalLemmas
+pub mod ShiftLemmas
 pub mod States
 pub mod Totals
 pub mod WalkLemmas

@@ -1,6 +1,7 @@
 -- Steps that don't mind each other: no cell of the one is a cell of the other or wants its room, and they don't fill one tank. So it doesn't
 -- matter which of them comes first. First as a relation, and then as the test for it.
-use Rattle.std.specs.Prelude.{◌≡◌, ◌↔◌, ◌⊎◌, ℕ, ◌-◌, ◌<◌, List, Option, Some, slice_get, Bool, true, false, not, ◌&&◌, nat_eq}
+use Rattle.std.specs.Prelude.{◌≡◌, ◌↔◌, ◌⊎◌, ℕ, ◌-◌, ◌<◌, ◌≤◌, List, Option, None, Some, slice_get, Bool, true, false, not, ◌&&◌, nat_eq}
+use Rattle.std.specs.List.{insert, remove}
 use Rattle.std.specs.Str.{bytes_eq}
 use Rattle.units_core.specs.declared.cells.Cell.{Cell}
 use Rattle.units_core.specs.Cells.{Conflicts, meet}
@@ -84,3 +85,16 @@ pub record AreExchangeable (ops : List operation.Op) (i j : ℕ) : Type 0 where
 -- so are two steps, which are named in any order, the first step being 1; a step can be exchanged with itself
 abbrev pub CanSwap : List operation.Op → ℕ → ℕ → Type 0
 CanSwap ops a b = (a ≡ b) ⊎ (AreExchangeable ops (a - 1) (b - 1) ⊎ AreExchangeable ops (b - 1) (a - 1))
+
+-- a list with the element at one place taken out, and put in again so that it stands at another
+abbrev pub put_in : {X : Type 0} → List X → ℕ → Option X → List X
+put_in xs j None = xs
+put_in xs j (Some x) = insert xs j x
+
+abbrev pub moved : {X : Type 0} → List X → ℕ → ℕ → List X
+moved xs i j = put_in (remove xs i) j (slice_get xs i)
+
+-- the step at one place minds none of those that it passes on its way to another
+pub record CanPass (ops : List operation.Op) (i j : ℕ) : Type 0 where
+  pub forth : (k : ℕ) → i < k → k ≤ j → independent_at ops i k ≡ true
+  pub back : (k : ℕ) → j ≤ k → k < i → independent_at ops i k ≡ true

@@ -1,5 +1,5 @@
 ghost use Rattle.std.specs.Prelude.{◌≡◌, ◌↔◌, ◌<◌, length, IsTrue};
-ghost use Rattle.lift_sequence.specs.Independent.{AreExchangeable, are_apart, are_independent, fills, independent_at, leaves};
+ghost use Rattle.lift_sequence.specs.Independent.{AreExchangeable, CanPass, are_apart, are_independent, fills, independent_at, leaves};
 
 use crate::operations::Op;
 use stow_messages::Lift;
@@ -73,4 +73,23 @@ pub(crate) fn are_exchangeable(ops: &[Op], i: usize, j: usize) -> bool
         }
     }
     independent_at(ops, i, j)
+}
+
+/// Whether the step at one place minds none of those that it passes on its way to another.
+pub(crate) fn can_pass(ops: &[Op], i: usize, j: usize) -> bool
+    requires first { i < length ops.now }
+    requires second { j < length ops.now }
+    ensures { IsTrue result ↔ CanPass ops.now i j }
+{
+    for k in i + 1..j + 1 {
+        if !independent_at(ops, i, k) {
+            return false;
+        }
+    }
+    for k in j..i {
+        if !independent_at(ops, i, k) {
+            return false;
+        }
+    }
+    true
 }

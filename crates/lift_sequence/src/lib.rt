@@ -6,10 +6,12 @@
 //! puts in. Both answer the first item, fill or step that can't be, and why. What is aboard is known to this crate alone: the bodies on
 //! arrival and those of each step are all that a sum needs. A look-up takes constant time; so does the search for a cell that overlaps.
 //! [`Sequence::reweigh`] changes the weight of one load afterwards, and with it what the steps do that move its container;
-//! [`Sequence::swap`] exchanges two steps that mind neither each other nor a step between them.
+//! [`Sequence::swap`] exchanges two steps that mind neither each other nor a step between them, and [`Sequence::shift`] takes a step past
+//! others that it doesn't mind.
 #![tactic(auto)]
 
 mod arrivals;
+mod carrying;
 mod containers;
 mod equality;
 mod faults;

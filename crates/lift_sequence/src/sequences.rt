@@ -5,13 +5,14 @@ ghost use Rattle.lift_sequence.specs.Arrival.{TellsAt, cargo_on, fault_at};
 ghost use Rattle.lift_sequence.specs.Aboard.{Aboard, cargo_in, after_step};
 ghost use Rattle.lift_sequence.specs.Bodies.{step_of, steps_of};
 ghost use Rattle.lift_sequence.specs.Follow.{AreReweighed, IsLoad, steps_weighed, weighed_at};
-ghost use Rattle.lift_sequence.specs.Independent.{AreExchangeable, CanSwap};
+ghost use Rattle.lift_sequence.specs.Independent.{AreExchangeable, CanPass, CanSwap, moved};
 ghost use Rattle.lift_sequence.specs.Legal.{fault_of};
 ghost use Rattle.lift_sequence.specs.Sequence.{AreSteps, IsOf, StepsAddUp, first_fault, sequence_fault};
 
 use crate::arrivals::Arrival;
+use crate::carrying::carry;
 use crate::faults::{NO_MEMORY, SeqCode, SeqFault, fault_at};
-use crate::independence::are_exchangeable;
+use crate::independence::{are_exchangeable, can_pass};
 use crate::operations::Op;
 use crate::steps::Step;
 use crate::stowage::Stowage;
@@ -240,5 +241,32 @@ impl Sequence {
         } else {
             true
         }
+    }
+
+    /// Takes a step out and puts it in again so that it stands at the number `to`, the first step being 1, where it is certain that no step
+    /// minds: the step minds none of those that it passes, as [`Op::is_independent`] says. It tells whether it did; if not, nothing
+    /// changes. Wherever the sequence could be carried out, it still can, and each step does what it did. It takes no memory, and time
+    /// linear in the number of steps that are passed.
+    pub fn shift(&mut self, from: usize, to: usize) -> bool
+        requires first { (1 ≤ from) × (1 ≤ to) }
+        requires last { (from ≤ length self.old.ops) × (to ≤ length self.old.ops) }
+        ensures answers { IsTrue result ↔ CanPass self.old.ops (from - 1) (to - 1) }
+        ensures ops { OnTrue result (self.new.ops ≡ moved self.old.ops (from - 1) (to - 1)) }
+        ensures steps { OnTrue result (self.new.steps ≡ moved self.old.steps (from - 1) (to - 1)) }
+        ensures same { OnFalse result (self.new ≡ self.old) }
+        ensures legal { (ship : ProfileRecord) (at : Aboard) →
+            sequence_fault ship at self.old.ops ≡ None →
+            sequence_fault ship at self.new.ops ≡ None }
+        ensures done { (ship : ProfileRecord) (at : Aboard) →
+            sequence_fault ship at self.old.ops ≡ None →
+            self.old.steps ≡ steps_of ship at self.old.ops →
+            self.new.steps ≡ steps_of ship at self.new.ops }
+    {
+        if !can_pass(&self.ops, from - 1, to - 1) {
+            return false;
+        }
+        carry(&mut self.ops, from - 1, to - 1);
+        carry(&mut self.steps, from - 1, to - 1);
+        true
     }
 }

@@ -239,6 +239,81 @@ fn steps_are_kept(rt: HostRuntime) -> Result<(), Fail> {
     on_box_ship(&rt, &Cases(&KEPT))
 }
 
+/// Takes a step out and puts it in again; nothing where one of the numbers isn't that of a step.
+fn shift(sequence: &mut Sequence, from: usize, to: usize) -> bool {
+    if from == 0 || to == 0 {
+        return false;
+    }
+    if sequence.len() < from {
+        return false;
+    }
+    if sequence.len() < to {
+        return false;
+    }
+    sequence.shift(from, to)
+}
+
+/// Three loads, of which the first goes behind the others and back, and behind a discharge of its own container it can't go.
+fn check_shifts(
+    rt: &(impl Abort + AllocGlobal),
+    profile: &Profile,
+    arrival: &Arrival,
+) -> Result<(), SeqFault>
+    requires { IsOf profile.now arrival.now }
+{
+    // `?` is longer to prove
+    match sequence(rt.alloc(), profile, arrival, &SHIFTED) {
+        Ok(wanted) => match sequence(rt.alloc(), profile, arrival, &UNSHIFTED) {
+            Ok(mut shifted) => {
+                assert_eq!(rt; shift(&mut shifted, 1, 4), false);
+                assert_eq!(rt; shift(&mut shifted, 1, 3), true);
+                check_same(rt, &shifted, &wanted);
+                assert_eq!(rt; shift(&mut shifted, 3, 2), true);
+                assert_eq!(rt; shifted.ops().get(1), Some(&op(&UNSHIFTED[0])));
+                Ok(())
+            }
+            Err(fault) => Err(fault),
+        },
+        Err(fault) => Err(fault),
+    }
+}
+
+static UNSHIFTED: [Order; 4] = [
+    Order::Weighing(FORE, 11_000),
+    Order::Weighing(MIDDLE, 7_300),
+    Order::Weighing(BESIDE, 5_100),
+    Order::Discharge(FORE, ABCU),
+];
+
+static SHIFTED: [Order; 4] = [
+    Order::Weighing(MIDDLE, 7_300),
+    Order::Weighing(BESIDE, 5_100),
+    Order::Weighing(FORE, 11_000),
+    Order::Discharge(FORE, ABCU),
+];
+
+/// Steps that are put in elsewhere.
+#[derive(Clone, Copy)]
+struct Shifts;
+
+impl Check for Shifts {
+    fn check(&self, rt: &(impl Abort + AllocGlobal), profile: &Profile) -> Result<(), Fail> {
+        // `?` is longer to prove
+        match Arrival::new(rt.alloc(), profile, Vec::new(rt.alloc()), &[]) {
+            Ok(arrival) => {
+                assert_eq!(rt; check_shifts(rt, profile, &arrival), Ok(()));
+                Ok(())
+            }
+            Err(fault) => Err(fault)?,
+        }
+    }
+}
+
+#[test]
+fn step_is_shifted(rt: HostRuntime) -> Result<(), Fail> {
+    on_box_ship(&rt, &Shifts)
+}
+
 /// Fillings of two tanks don't mind each other, nor do a filling and a lift; a restow minds steps in both of its cells.
 #[test]
 fn independent_steps(rt: HostRuntime) {
