@@ -1,3 +1,4 @@
 mod ChangeLemmas
 mod PastLemmas
 mod RenewLemmas
+mod SwapLemmas

@@ -12,7 +12,7 @@ use Rattle.prefix_scan.specs.Counted.{Counted}
 use Rattle.seq_report.specs.declared.inputs.Inputs.{Inputs}
 use Rattle.seq_report.specs.Refusal.{items_in, orders_in, ship_in}
 use Rattle.step_edits.specs.declared.edits.Edit.{Edit}
-use Rattle.step_edits.specs.declared.edits.Edit.TheVariants.{Reweigh}
+use Rattle.step_edits.specs.declared.edits.Edit.TheVariants.{Reweigh, Swap}
 use Rattle.step_edits.specs.declared.faults.EditFault.{EditFault}
 use Rattle.step_edits.specs.declared.faults.EditFault.TheVariants.{Sequence}
 use Rattle.step_edits.specs.Edits.{edited, edit_fault, place_of}
@@ -47,10 +47,11 @@ pub record IsSummed (base : Base) (sequence : SequenceRecord) (tree : Counted Ke
 abbrev pub restows_behind : List Op → ℕ → ℕ
 restows_behind ops place = restows_in (loaded_at ops place) (drop (place + 1) ops)
 
--- Another weight of a load takes at most (r + 2) (l + 1) joins, where its container is restowed r times and there are at most 2^l steps; any
--- other edit takes none.
+-- Another weight of a load takes at most (r + 2) (l + 1) joins, where its container is restowed r times and there are at most 2^l steps, and an
+-- exchange of two steps 2 (l + 1); any other edit takes none.
 abbrev pub CostsLittle : Edit → List Op → ℕ → ℕ → Type 0
 CostsLittle (Reweigh at kg) ops old new = (levels : ℕ) → length ops ≤ 2 ^ levels → new ≤ old + (restows_behind ops (place_of at) + 2) * (levels + 1)
+CostsLittle (Swap a b) ops old new = (levels : ℕ) → length ops ≤ 2 ^ levels → new ≤ old + 2 * (levels + 1)
 CostsLittle edit ops old new = new ≡ old
 
 -- what a session is: besides the list, the earlier ones, newest first

@@ -1,11 +1,13 @@
 ghost use Rattle.std.specs.Prelude.{◌≡◌, ◌≢◌, ℕ, ◌+◌, ◌*◌, ◌-◌, ◌^◌, ◌≤◌, length, OnOk, OnErr, IfOk, IfErr, Some, None};
+ghost use Rattle.std.specs.List.{swap};
+ghost use Rattle.std.specs.Bool.{OnTrue, OnFalse};
 ghost use Rattle.lift_sequence.specs.Follow.{IsLoad, weighed_at};
 ghost use Rattle.step_edits.specs.Edits.{edited, edit_fault};
 ghost use Rattle.what_if.specs.Bases.{list_fault};
 ghost use Rattle.what_if.specs.Sessions.{IsSummed, refusal, restows_behind, CostsLittle};
 
 use crate::changes::changes_of;
-use crate::renewing::renew;
+use crate::renewing::{renew, renew_both};
 use crate::summed_lists::SummedList;
 use lift_sequence::{SeqCode, SeqFault, Sequence};
 use moment_sums::Totals;
@@ -27,7 +29,8 @@ fn list_refusal(fault: SeqFault) -> EditFault
 
 impl SummedList {
     /// Makes an edit. Where it is refused, or out of memory, everything is as it was. Another weight of a load is checked in no step and takes no
-    /// memory; any other edit makes the sequence and its sums anew.
+    /// memory, and no more does an exchange of two steps that mind neither each other nor a step between; any other edit makes the sequence and
+    /// its sums anew.
     pub fn edit(&mut self, edit: &Edit) -> Result<(), EditFault>
         ensures legal { OnOk result (refusal self.old.base self.old.ops edit.now ≡ None) }
         ensures base { self.new.base ≡ self.old.base }
@@ -46,8 +49,39 @@ impl SummedList {
                 self.reweigh(*at as usize, *kg);
                 Ok(())
             }
+            Edit::Swap { a, b } => {
+                if self.exchange(*a as usize, *b as usize) {
+                    return Ok(());
+                }
+                self.rearrange(edit)
+            }
             _ => self.rearrange(edit),
         }
+    }
+
+    /// Exchanges two steps, where it is certain that neither minds. It answers whether it did; if not, everything is as it was.
+    fn exchange(&mut self, a: usize, b: usize) -> bool
+        requires first { (1 ≤ a) × (1 ≤ b) }
+        requires last { (a ≤ length self.old.ops) × (b ≤ length self.old.ops) }
+        ensures base { self.new.base ≡ self.old.base }
+        ensures ops { OnTrue result (self.new.ops ≡ swap self.old.ops (a - 1) (b - 1)) }
+        ensures legal { OnTrue result (list_fault self.old.base self.new.ops ≡ None) }
+        ensures same { OnFalse result (self.new ≡ self.old) }
+        ensures grows { self.old.joins ≤ self.new.joins }
+        ensures cost { (levels : ℕ) → length self.old.ops ≤ 2 ^ levels
+            → self.new.joins ≤ self.old.joins + 2 * (levels + 1) }
+    {
+        if !self.sequence.swap(a, b) {
+            return false;
+        }
+        renew_both(
+            &mut self.tree,
+            &self.sequence,
+            self.base.profile().frames(),
+            a - 1,
+            b - 1,
+        );
+        true
     }
 
     /// Gives the load at step `k` another weight.

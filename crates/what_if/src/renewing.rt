@@ -1,4 +1,5 @@
 ghost use Rattle.std.specs.Prelude.{◌≡◌, ℕ, ◌+◌, ◌*◌, ◌^◌, ◌<◌, ◌≤◌, length, map, drop, slice_set, slice_index_or, if◌then◌else◌};
+ghost use Rattle.std.specs.List.{swap};
 ghost use Rattle.lift_sequence.specs.Follow.{loaded_at, moves_in};
 ghost use Rattle.moment_sums.specs.Kept.{none_kept};
 ghost use Rattle.what_if.specs.Bases.{change_of};
@@ -58,4 +59,29 @@ pub fn renew(tree: &mut TotalsTree<Totals>, sequence: &Sequence, frames: &Frames
         renew_step(tree, sequence, frames, behind, op.moves(cell));
         cell = op.next_cell(cell);
     }
+}
+
+/// Sets what the steps at two places change that were exchanged. The tree is over what the steps changed before.
+pub fn renew_both(
+    tree: &mut TotalsTree<Totals>,
+    sequence: &Sequence,
+    frames: &Frames,
+    one: usize,
+    other: usize,
+)
+    requires one { one < length sequence.now.ops }
+    requires other { other < length sequence.now.ops }
+    requires steps { length sequence.now.steps ≡ length sequence.now.ops }
+    requires few { length sequence.now.ops ≤ 120000 }
+    requires long { length tree.old.values ≡ length sequence.now.ops }
+    requires small { AreSmall tree.old.values }
+    requires exchanged { map (change_of frames.now) sequence.now.steps
+        ≡ swap tree.old.values one other }
+    ensures values { tree.new.values ≡ map (change_of frames.now) sequence.now.steps }
+    ensures grows { tree.old.joins ≤ tree.new.joins }
+    ensures cost { (levels : ℕ) → length sequence.now.ops ≤ 2 ^ levels
+        → tree.new.joins ≤ tree.old.joins + 2 * (levels + 1) }
+{
+    renew_step(tree, sequence, frames, one, true);
+    renew_step(tree, sequence, frames, other, true);
 }

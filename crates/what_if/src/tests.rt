@@ -10,6 +10,7 @@ use std::sync::Wait;
 use std::test::Fail;
 use std::thread::Threads;
 
+mod bases;
 mod desks;
 mod edits;
 mod reweighs;

@@ -1,10 +1,11 @@
-use Rattle.std.proofs.Common.{◌≡◌, ◌∙◌, Some, None, ap, sym}
+use Rattle.std.proofs.Common.{◌≡◌, ◌∙◌, ◌+◌, ◌*◌, ◌≤◌, Some, None, ap, subst, sym}
+use Rattle.std.specs.List.{swap}
 use Rattle.std.specs.Option.{option_map, option_or}
 use Rattle.lift_sequence.specs.Follow.{weighed_at}
 use Rattle.step_edits.specs.declared.faults.EditFault.TheVariants.{Sequence}
 use Rattle.step_edits.specs.Edits.{edit_fault, edited}
 use Rattle.what_if.specs.Bases.{list_fault}
-use Rattle.what_if.specs.Sessions.{Summed}
+use Rattle.what_if.specs.Sessions.{CostsLittle, Summed, restows_behind}
 use Rattle.what_if.proofs.RenewLemmas.{place_less}
 use Rattle.what_if.proofs.summed_lists.SummedList.edit.Goals as goal
 
@@ -17,4 +18,21 @@ returns-in-Reweigh-clause-legal c =
     let made : c.reweigh.new.self.ops ≡ edited now.ops edit
     = c.reweigh.ensures.ops ∙ ap (λ i. weighed_at c.in-Reweigh.kg i now.ops) (place_less c.in-Reweigh.at) ∙ ap (edited now.ops) (sym c.in-Reweigh.is) in
     let list : list_fault now.base (edited now.ops edit) ≡ None = ap (list_fault now.base) (sym made) ∙ c.reweigh.ensures.legal in
+    λ i. option_or (own i) (option_map Sequence (list i))
+
+pub returns-in-Reweigh-clause-cost : goal.returns-in-Reweigh-clause-cost
+returns-in-Reweigh-clause-cost c =
+    let old = c.args.self.now in
+    subst (λ e. CostsLittle e old.ops old.joins c.reweigh.new.self.joins) (sym c.in-Reweigh.is) (λ levels h.
+    subst (λ place. c.reweigh.new.self.joins ≤ old.joins + (restows_behind old.ops place + 2) * (levels + 1)) (place_less c.in-Reweigh.at) (c.reweigh.ensures.cost levels h))
+
+pub returns-then-exchange-clause-legal : goal.returns-then-exchange-clause-legal
+returns-then-exchange-clause-legal c =
+    let now = c.args.self.now in
+    let edit = c.args.edit.now in
+    let same = c.ops.ensures ∙ ap (λ (v : Summed). v.ops) c.self.view_is in
+    let own : edit_fault now.ops edit ≡ None = ap (λ l. edit_fault l edit) (sym same) ∙ sym c.fault_of.ensures ∙ c.in_default.is in
+    let made : c.exchange.new.self.ops ≡ edited now.ops edit
+    = c.if-exchange.ensures.ops ∙ (λ i. swap now.ops (place_less c.in-Swap.a i) (place_less c.in-Swap.b i)) ∙ ap (edited now.ops) (sym c.in-Swap.is) in
+    let list : list_fault now.base (edited now.ops edit) ≡ None = ap (list_fault now.base) (sym made) ∙ c.if-exchange.ensures.legal in
     λ i. option_or (own i) (option_map Sequence (list i))
