@@ -1,0 +1,116 @@
+ghost use Rattle.std.specs.Prelude.{◌≡◌, ◌+◌, ◌<◌, ◌≤◌, ◌∷◌, ◌++◌, [], length, IsAscii, is_ok, string_bytes, if◌then◌else◌};
+ghost use Rattle.std.specs.Fmt.{decimal, signed_decimal};
+
+use itoa::{Buffer, write_digits};
+use std::alloc::AllocError;
+use std::marker::Model;
+
+/// How many bytes a [`BackwardText`] can hold.
+pub const ROOM: usize = 2048;
+
+/// An ASCII text that grows at its front. Contracts see it as the bytes that it holds.
+#[derive(Drop)]
+pub struct BackwardText {
+    /// The text is what these end with.
+    bytes: [u8; ROOM],
+    /// Where the text begins.
+    start: usize,
+}
+
+impl Model for BackwardText {
+    ghost use Rattle.std.specs.Prelude.{ℕ, List, drop, ◌≤◌, IsAscii};
+
+    ghost Value = { List ℕ };
+
+    ghost view = { λ t. drop t.start t.bytes };
+
+    ghost invariant = { λ t. (t.start ≤ 2048) × IsAscii (drop t.start t.bytes) };
+}
+
+impl BackwardText {
+    /// An empty text.
+    pub fn new() -> BackwardText
+        ensures { result ≡ [] }
+    {
+        BackwardText {
+            bytes: [0; ROOM],
+            start: ROOM,
+        }
+    }
+
+    /// How many bytes can still be put before the text.
+    pub fn room(&self) -> usize
+        ensures { result + length self.now ≡ ROOM }
+    {
+        self.start
+    }
+
+    /// Puts an ASCII byte before the text.
+    #[inline]
+    pub fn put_byte(&mut self, byte: u8)
+        requires room { length self.old < ROOM }
+        requires ascii { byte < 128 }
+        ensures { self.new ≡ byte ∷ self.old }
+    {
+        self.start -= 1;
+        self.bytes[self.start] = byte;
+    }
+
+    /// Puts ASCII words before the text.
+    pub fn put_words(&mut self, words: &str)
+        requires room { length words.now + length self.old ≤ ROOM }
+        requires ascii { IsAscii words.now }
+        ensures { self.new ≡ words.now ++ self.old }
+    {
+        let end = self.start;
+        self.start -= words.len();
+        self.bytes[self.start..end].copy_from_slice(words.as_bytes());
+    }
+
+    /// Puts the decimal digits of a natural number before the text.
+    #[inline]
+    pub fn put_natural(&mut self, n: u64)
+        requires room { length self.old + 20 ≤ ROOM }
+        ensures text { self.new ≡ decimal n ++ self.old }
+        ensures short { length self.new ≤ length self.old + 20 }
+    {
+        self.start = write_digits(n, &mut self.bytes, self.start);
+    }
+
+    /// Puts a whole number before the text: a minus sign if it is negative, and its decimal digits.
+    #[inline]
+    pub fn put_number(&mut self, n: i128)
+        requires room { length self.old + 40 ≤ ROOM }
+        ensures text { self.new ≡ signed_decimal n ++ self.old }
+        ensures short { length self.new ≤ length self.old + 40 }
+    {
+        let magnitude = n.unsigned_abs();
+        if magnitude > u64::MAX as u128 {
+            self.put_wide(n);
+            return;
+        }
+        self.put_natural(magnitude as u64);
+        if n < 0 {
+            self.put_byte(b'-');
+        }
+    }
+
+    /// Puts a whole number of any size before the text.
+    #[cold]
+    fn put_wide(&mut self, n: i128)
+        requires room { length self.old + 40 ≤ ROOM }
+        ensures text { self.new ≡ signed_decimal n ++ self.old }
+        ensures short { length self.new ≤ length self.old + 40 }
+    {
+        let mut digits = Buffer::new();
+        self.put_words(digits.format(n));
+    }
+
+    /// Appends the text to another in one piece.
+    pub fn append_to(&self, text: &mut String) -> Result<(), AllocError>
+        ensures { string_bytes text.new
+            ≡ (if is_ok result then string_bytes text.old ++ self.now else string_bytes text.old) }
+    {
+        text.push_str(unsafe { std::str::from_utf8_unchecked(&self.bytes[self.start..]) })
+    }
+}

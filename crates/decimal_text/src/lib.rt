@@ -1,0 +1,11 @@
+//! A line of numbers and words, put together from its end to its beginning and then appended to a text in one piece.
+//!
+//! The digits of a number are found from the last to the first. A text that grows at its front takes each where it belongs, in a
+//! buffer of a fixed size, so that no memory is asked for until the whole line is appended.
+#![tactic(auto)]
+
+mod backward_text;
+#[cfg(test)]
+mod tests;
+
+pub use backward_text::{BackwardText, ROOM};
