@@ -1,8 +1,9 @@
-ghost use Rattle.std.specs.Prelude.{◌≡◌, ◌++◌, ◌∷◌, ◌-◌, ◌<◌, ◌≤◌, OnOk, Some, slice_get, string_bytes};
+ghost use Rattle.std.specs.Prelude.{◌≡◌, ◌++◌, ◌∷◌, ◌-◌, ◌+◌, ◌*◌, ◌<◌, ◌≤◌, OnOk, Some, length, slice_get, string_bytes, []};
 ghost use Rattle.criteria.specs.Judgement.{read};
 ghost use Rattle.seq_report.specs.Columns.{columns, figure_of, figures_text, frame_text, frames_text, frames_up_to, heading_of, headings_text, next_frame_text, number_text, numbers_text};
 
 use criteria::Figures;
+use decimal_text::BackwardText;
 use std::alloc::AllocError;
 use std::fmt::Write;
 
@@ -111,79 +112,101 @@ pub fn write_headings(text: &mut String) -> Result<(), AllocError>
     Ok(())
 }
 
-/// Writes a number, or a dash where there is none.
-fn write_number(text: &mut String, number: Option<i128>) -> Result<(), AllocError>
-    ensures { OnOk result (string_bytes text.new ≡ string_bytes text.old ++ number_text number) }
+/// Puts a number before the line, or a dash where there is none.
+fn put_number(line: &mut BackwardText, number: Option<i128>)
+    requires room { length line.old + 40 ≤ 2048 }
+    ensures text { line.new ≡ number_text number ++ line.old }
+    ensures short { length line.new ≤ length line.old + 40 }
 {
     match number {
-        Some(number) => write!(text, "{number}"),
-        None => text.push_str("-"),
+        Some(number) => line.put_number(number),
+        None => line.put_byte(b'-'),
     }
 }
 
-/// Writes the figure of a column, behind a space.
-fn write_figure(text: &mut String, figures: &Figures, column: Column) -> Result<(), AllocError>
-    ensures { OnOk result (string_bytes text.new
-        ≡ string_bytes text.old ++ 32 ∷ number_text (figure_of (read figures.now) column)) }
+/// Puts the figure of a column, behind a space, before the line.
+fn put_figure(line: &mut BackwardText, figures: &Figures, column: Column)
+    requires room { length line.old + 41 ≤ 2048 }
+    ensures text { line.new ≡ (32 ∷ number_text (figure_of (read figures.now) column)) ++ line.old }
+    ensures short { length line.new ≤ length line.old + 41 }
 {
-    text.push_str(" ")?;
-    write_number(text, column.figure(figures))
+    put_number(line, column.figure(figures));
+    line.put_byte(b' ');
 }
 
-/// Writes the figures of the columns, each behind a space.
-fn write_numbers(text: &mut String, figures: &Figures) -> Result<(), AllocError>
-    ensures { OnOk result
-        (string_bytes text.new ≡ string_bytes text.old ++ numbers_text (read figures.now)) }
+/// Puts the figures of the columns, each behind a space, before the line.
+fn put_numbers(line: &mut BackwardText, figures: &Figures)
+    requires room { length line.old + 492 ≤ 2048 }
+    ensures text { line.new ≡ numbers_text (read figures.now) ++ line.old }
+    ensures short { length line.new ≤ length line.old + 492 }
 {
-    for i in 0..12usize {
-        write_figure(text, figures, column_at(i))?;
+    let mut left = 12;
+    while left > 0 {
+        left -= 1;
+        put_figure(line, figures, column_at(left));
     }
-    Ok(())
 }
 
-/// Writes the shear force and the bending moment at a frame.
-fn write_frame(text: &mut String, figures: &Figures, i: usize) -> Result<(), AllocError>
-    requires { i < 16 }
-    ensures { OnOk result
-        (string_bytes text.new ≡ string_bytes text.old ++ frame_text (read figures.now) i) }
+/// Puts the shear force and the bending moment at a frame before the line.
+fn put_frame(line: &mut BackwardText, figures: &Figures, i: usize)
+    requires frame { i < 16 }
+    requires room { length line.old + 81 ≤ 2048 }
+    ensures text { line.new ≡ frame_text (read figures.now) i ++ line.old }
+    ensures short { length line.new ≤ length line.old + 81 }
 {
-    let shear = figures.shear[i];
-    let bending = figures.bending[i];
-    write!(text, "{shear}/{bending}")
+    line.put_number(figures.bending[i]);
+    line.put_byte(b'/');
+    line.put_number(figures.shear[i]);
 }
 
-/// Writes the same of a frame behind another.
-fn write_next_frame(text: &mut String, figures: &Figures, i: usize) -> Result<(), AllocError>
-    requires { i < 16 }
-    ensures { OnOk result
-        (string_bytes text.new ≡ string_bytes text.old ++ next_frame_text (read figures.now) i) }
+/// Puts the same of a frame behind another before the line.
+fn put_next_frame(line: &mut BackwardText, figures: &Figures, i: usize)
+    requires frame { i < 16 }
+    requires room { length line.old + 82 ≤ 2048 }
+    ensures text { line.new ≡ next_frame_text (read figures.now) i ++ line.old }
+    ensures short { length line.new ≤ length line.old + 82 }
 {
-    text.push_str(";")?;
-    write_frame(text, figures, i)
+    put_frame(line, figures, i);
+    line.put_byte(b';');
 }
 
-/// Writes the shear forces and bending moments up to the frame of this number, the first being 0.
-fn write_frames_up_to(text: &mut String, figures: &Figures, last: usize) -> Result<(), AllocError>
-    requires { last < 16 }
-    ensures { OnOk result
-        (string_bytes text.new ≡ string_bytes text.old ++ frames_up_to (read figures.now) last) }
+/// Puts the shear forces and bending moments up to the frame of this number, the first being 0, before the line.
+fn put_frames_up_to(line: &mut BackwardText, figures: &Figures, last: usize)
+    requires frame { last < 16 }
+    requires room { length line.old + (82 * last + 81) ≤ 2048 }
+    ensures text { line.new ≡ frames_up_to (read figures.now) last ++ line.old }
+    ensures short { length line.new ≤ length line.old + (82 * last + 81) }
 {
-    write_frame(text, figures, 0)?;
-    for i in 0..last {
-        write_next_frame(text, figures, i + 1)?;
+    let mut left = last;
+    while left > 0 {
+        put_next_frame(line, figures, left);
+        left -= 1;
     }
-    Ok(())
+    put_frame(line, figures, 0);
 }
 
-/// Writes the shear forces and bending moments at so many frames, behind a space.
-fn write_frames(text: &mut String, figures: &Figures, frames: usize) -> Result<(), AllocError>
+/// Puts the shear forces and bending moments at so many frames, behind a space, before the line.
+fn put_frames(line: &mut BackwardText, figures: &Figures, frames: usize)
     requires some { 1 ≤ frames }
     requires few { frames ≤ 16 }
-    ensures { OnOk result
-        (string_bytes text.new ≡ string_bytes text.old ++ frames_text (read figures.now) frames) }
+    requires room { length line.old + 1312 ≤ 2048 }
+    ensures text { line.new ≡ frames_text (read figures.now) frames ++ line.old }
+    ensures short { length line.new ≤ length line.old + 1312 }
 {
-    text.push_str(" ")?;
-    write_frames_up_to(text, figures, frames - 1)
+    put_frames_up_to(line, figures, frames - 1);
+    line.put_byte(b' ');
+}
+
+/// Puts all figures of a line, each behind a space, before what follows them.
+fn put_figures(line: &mut BackwardText, figures: &Figures, frames: usize)
+    requires some { 1 ≤ frames }
+    requires few { frames ≤ 16 }
+    requires room { length line.old + 1804 ≤ 2048 }
+    ensures text { line.new ≡ figures_text frames (read figures.now) ++ line.old }
+    ensures short { length line.new ≤ length line.old + 1804 }
+{
+    put_frames(line, figures, frames);
+    put_numbers(line, figures);
 }
 
 /// Writes all figures of a line, each behind a space.
@@ -193,6 +216,7 @@ pub fn write_figures(text: &mut String, figures: &Figures, frames: usize) -> Res
     ensures { OnOk result
         (string_bytes text.new ≡ string_bytes text.old ++ figures_text frames (read figures.now)) }
 {
-    write_numbers(text, figures)?;
-    write_frames(text, figures, frames)
+    let mut line = BackwardText::new();
+    put_figures(&mut line, figures, frames);
+    line.append_to(text)
 }

@@ -1,0 +1,20 @@
+use Rattle.std.proofs.Common.{◌≡◌, ◌∙◌, ◌-◌, ◌++◌, List, ℕ, suc, ap, sym, append_assoc, arith}
+use Rattle.criteria.specs.Judgement.{read}
+use Rattle.seq_report.specs.Columns.{frames_up_to, next_frame_text}
+use Rattle.seq_report.proofs.columns.put_frames_up_to.Goals as goal
+
+pub loop-left-preserved : goal.loop-left-preserved
+loop-left-preserved c =
+    let f = read c.args.figures.now in
+    let l = c.loop-left in
+    let before = frames_up_to f (l.left - 1) in
+    let next : suc (l.left - 1) ≡ l.left = omega arith in
+    record {
+      within = omega arith;
+      room = omega arith;
+      text =
+          ap (λ (t : List ℕ). before ++ t) c.put_next_frame.ensures.text
+          ∙ sym (append_assoc before (next_frame_text f l.left) l.line)
+          ∙ ap (λ m. (before ++ next_frame_text f m) ++ l.line) (sym next)
+          ∙ ap (λ m. frames_up_to f m ++ l.line) next ∙ l.invariant.text;
+    }
