@@ -1,5 +1,6 @@
-ghost use Rattle.std.specs.Prelude.{◌≡◌, ◌+◌, ◌<◌, ◌≤◌, ◌∷◌, ◌++◌, [], length, IsAscii, is_ok, string_bytes, if◌then◌else◌};
+ghost use Rattle.std.specs.Prelude.{◌≡◌, ◌+◌, ◌<◌, ◌≤◌, ◌∷◌, ◌++◌, [], length, replicate, IsAscii, is_ok, string_bytes, if◌then◌else◌};
 ghost use Rattle.std.specs.Fmt.{decimal, signed_decimal};
+ghost use Rattle.decimal_text.specs.Digits.{in_digits};
 
 use itoa::{Buffer, write_digits};
 use std::alloc::AllocError;
@@ -75,6 +76,31 @@ impl BackwardText {
         ensures short { length self.new ≤ length self.old + 20 }
     {
         self.start = write_digits(n, &mut self.bytes, self.start);
+    }
+
+    /// Puts so many zeros before the text.
+    #[inline]
+    fn put_zeros(&mut self, count: usize)
+        requires { count + length self.old ≤ ROOM }
+        ensures { self.new ≡ replicate count 48 ++ self.old }
+    {
+        for _zero in 0..count {
+            self.put_byte(b'0');
+        }
+    }
+
+    /// Puts a natural number before the text, in so many digits, or in more if it has more.
+    #[inline]
+    pub fn put_in_digits(&mut self, n: u64, digits: usize)
+        requires few { digits ≤ 20 }
+        requires room { length self.old + 20 ≤ ROOM }
+        ensures text { self.new ≡ in_digits digits n ++ self.old }
+        ensures short { length self.new ≤ length self.old + 20 }
+    {
+        let room = self.room();
+        self.put_natural(n);
+        let written = room - self.room();
+        self.put_zeros(digits.saturating_sub(written));
     }
 
     /// Puts a whole number before the text: a minus sign if it is negative, and its decimal digits.

@@ -74,6 +74,22 @@ fn numbers_past_64_bits(rt: HostRuntime) {
 }
 
 #[test]
+fn numbers_in_digits(rt: HostRuntime) {
+    let mut line = BackwardText::new();
+    line.put_in_digits(0, 2);
+    line.put_byte(b' ');
+    line.put_in_digits(7, 3);
+    line.put_byte(b' ');
+    line.put_in_digits(82, 2);
+    line.put_byte(b' ');
+    line.put_in_digits(123, 2);
+    let Ok(text) = appended(rt.alloc(), &line) else {
+        panic!(&rt; "no memory")
+    };
+    assert_eq!(&rt; text.as_str(), "123 82 007 00");
+}
+
+#[test]
 fn a_line_behind_another(rt: HostRuntime) {
     let mut line = BackwardText::new();
     line.put_byte(b'\n');
