@@ -1,4 +1,4 @@
-ghost use Rattle.std.specs.Prelude.{◌≡◌, ◌++◌, ◌∷◌, ◌-◌, ◌+◌, ◌*◌, ◌<◌, ◌≤◌, OnOk, Some, length, slice_get, string_bytes, []};
+ghost use Rattle.std.specs.Prelude.{◌≡◌, ◌++◌, ◌∷◌, ◌-◌, ◌+◌, ◌*◌, ◌<◌, ◌≤◌, OnOk, Some, length, slice_get, string_bytes};
 ghost use Rattle.criteria.specs.Judgement.{read};
 ghost use Rattle.seq_report.specs.Columns.{columns, figure_of, figures_text, frame_text, frames_text, frames_up_to, heading_of, headings_text, next_frame_text, number_text, numbers_text};
 
@@ -198,7 +198,7 @@ fn put_frames(line: &mut BackwardText, figures: &Figures, frames: usize)
 }
 
 /// Puts all figures of a line, each behind a space, before what follows them.
-fn put_figures(line: &mut BackwardText, figures: &Figures, frames: usize)
+pub fn put_figures(line: &mut BackwardText, figures: &Figures, frames: usize)
     requires some { 1 ≤ frames }
     requires few { frames ≤ 16 }
     requires room { length line.old + 1804 ≤ 2048 }
@@ -207,16 +207,4 @@ fn put_figures(line: &mut BackwardText, figures: &Figures, frames: usize)
 {
     put_frames(line, figures, frames);
     put_numbers(line, figures);
-}
-
-/// Writes all figures of a line, each behind a space.
-pub fn write_figures(text: &mut String, figures: &Figures, frames: usize) -> Result<(), AllocError>
-    requires some { 1 ≤ frames }
-    requires few { frames ≤ 16 }
-    ensures { OnOk result
-        (string_bytes text.new ≡ string_bytes text.old ++ figures_text frames (read figures.now)) }
-{
-    let mut line = BackwardText::new();
-    put_figures(&mut line, figures, frames);
-    line.append_to(text)
 }

@@ -1,10 +1,9 @@
-ghost use Rattle.std.specs.Prelude.{◌≡◌, ◌++◌, OnOk, string_bytes, map, option_map, codes};
+ghost use Rattle.std.specs.Prelude.{◌≡◌, ◌+◌, ◌≤◌, ◌++◌, length, map, option_map, codes};
 ghost use Rattle.seq_report.specs.Lifts.{cell_text, lift_text, op_text, shown};
 
+use decimal_text::BackwardText;
 use lift_sequence::Op;
-use std::alloc::AllocError;
 use std::fmt;
-use std::fmt::Write;
 use stow_messages::Lift;
 use units_core::Cell;
 
@@ -24,12 +23,15 @@ impl fmt::Display for CellText {
     }
 }
 
-/// Writes a cell in its seven digits.
-fn write_cell(text: &mut String, cell: Cell) -> Result<(), AllocError>
-    ensures { OnOk result (string_bytes text.new ≡ string_bytes text.old ++ cell_text cell) }
+/// Puts a cell in its seven digits before the line.
+fn put_cell(line: &mut BackwardText, cell: Cell)
+    requires room { length line.old + 60 ≤ 2048 }
+    ensures text { line.new ≡ cell_text cell ++ line.old }
+    ensures short { length line.new ≤ length line.old + 60 }
 {
-    let digits = CellText(cell);
-    write!(text, "{digits}")
+    line.put_in_digits(u64::from(cell.tier), 2);
+    line.put_in_digits(u64::from(cell.row), 2);
+    line.put_in_digits(u64::from(cell.bay), 3);
 }
 
 /// A byte of a name as it can be printed: a question mark stands for a blank, and for what is no visible character.
@@ -39,57 +41,63 @@ pub fn shown(byte: u8) -> u8
     if byte.is_ascii_graphic() { byte } else { b'?' }
 }
 
-/// Writes the name of a tank.
-fn write_name(text: &mut String, name: &[u8]) -> Result<(), AllocError>
-    ensures { OnOk result (string_bytes text.new ≡ string_bytes text.old ++ map shown name.now) }
+/// Puts the name of a tank before the line.
+fn put_name(line: &mut BackwardText, name: &[u8])
+    requires room { length name.now + length line.old ≤ 2048 }
+    ensures { line.new ≡ map shown name.now ++ line.old }
 {
-    for byte in name {
-        text.push(char::from(shown(*byte)))?;
+    let mut left = name.len();
+    while left > 0 {
+        left -= 1;
+        line.put_byte(shown(name[left]));
     }
-    Ok(())
 }
 
-/// Writes the two cells of a restow.
-fn write_cells(text: &mut String, from: Cell, to: Cell) -> Result<(), AllocError>
-    ensures { OnOk result (string_bytes text.new
-        ≡ string_bytes text.old ++ (cell_text from ++ (codes ">" ++ cell_text to))) }
+/// Puts the two cells of a restow before the line.
+fn put_cells(line: &mut BackwardText, from: Cell, to: Cell)
+    requires room { length line.old + 121 ≤ 2048 }
+    ensures text { line.new ≡ (cell_text from ++ (codes ">" ++ cell_text to)) ++ line.old }
+    ensures short { length line.new ≤ length line.old + 121 }
 {
-    write_cell(text, from)?;
-    text.push_str(">")?;
-    write_cell(text, to)
+    put_cell(line, to);
+    line.put_byte(b'>');
+    put_cell(line, from);
 }
 
-/// Writes a step: a letter for its kind, and the cell, the tank or both cells.
-fn write_op(text: &mut String, op: &Op) -> Result<(), AllocError>
-    ensures { OnOk result (string_bytes text.new ≡ string_bytes text.old ++ op_text op.now) }
+/// Puts a step before the line: a letter for its kind, and the cell, the tank or both cells.
+fn put_op(line: &mut BackwardText, op: &Op)
+    requires room { length line.old + 122 ≤ 2048 }
+    ensures text { line.new ≡ op_text op.now ++ line.old }
+    ensures short { length line.new ≤ length line.old + 122 }
 {
     match op {
         Op::Lift(Lift::Load(item)) => {
-            text.push_str("L")?;
-            write_cell(text, item.cell)
+            put_cell(line, item.cell);
+            line.put_byte(b'L');
         }
         Op::Lift(Lift::Discharge { cell, .. }) => {
-            text.push_str("D")?;
-            write_cell(text, *cell)
+            put_cell(line, *cell);
+            line.put_byte(b'D');
         }
         Op::Fill { name, .. } => {
-            text.push_str("T")?;
-            write_name(text, name.as_slice())
+            put_name(line, name.as_slice());
+            line.put_byte(b'T');
         }
         Op::Restow { from, to, .. } => {
-            text.push_str("R")?;
-            write_cells(text, *from, *to)
+            put_cells(line, *from, *to);
+            line.put_byte(b'R');
         }
     }
 }
 
-/// Writes what leads to a step; nothing leads to the condition on arrival.
-pub fn write_lift(text: &mut String, lift: Option<&Op>) -> Result<(), AllocError>
-    ensures { OnOk result (string_bytes text.new
-        ≡ string_bytes text.old ++ lift_text (option_map (λ op. op.now) lift.entry)) }
+/// Puts what leads to a step before the rest of its line; nothing leads to the condition on arrival.
+pub fn put_lift(line: &mut BackwardText, lift: Option<&Op>)
+    requires room { length line.old + 122 ≤ 2048 }
+    ensures text { line.new ≡ lift_text (option_map (λ op. op.now) lift.entry) ++ line.old }
+    ensures short { length line.new ≤ length line.old + 122 }
 {
     match lift {
-        Some(op) => write_op(text, op),
-        None => text.push_str("-"),
+        Some(op) => put_op(line, op),
+        None => line.put_byte(b'-'),
     }
 }

@@ -1,15 +1,18 @@
-ghost use Rattle.std.specs.Prelude.{◌≡◌, ◌++◌, ◌≤◌, OnOk, string_bytes, option_map};
+ghost use Rattle.std.specs.Prelude.{◌≡◌, ◌+◌, ◌++◌, ◌≤◌, OnOk, codes, length, string_bytes, option_map};
 ghost use Rattle.moment_sums.specs.Bounded.{IsBounded};
 ghost use Rattle.moment_sums.specs.Kept.{values};
 ghost use Rattle.strength.specs.Hull.{IsHullOf};
+ghost use Rattle.criteria.specs.Criteria.{code_of};
 ghost use Rattle.criteria.specs.Judgement.{told};
-ghost use Rattle.seq_report.specs.Report.{failure_of, first_failed, header_of, judged_headings, judged_text, last_line, line_of, said, step_line, verdict_text};
+ghost use Rattle.seq_report.specs.Report.{cause_of, failure_of, first_failed, header_of, judged_headings, judged_text, last_line, line_of, said, step_line, verdict_text};
 
 use crate::causes::cause;
-use crate::columns::{write_figures, write_headings};
-use crate::lifts::write_lift;
+use crate::columns::{put_figures, write_headings};
+use crate::lifts::put_lift;
 use crate::step_lines::StepLine;
 use criteria::{Criterion, Nearby, Verdict, judge_near};
+use decimal_text::BackwardText;
+use hydrostat::Outside;
 use lift_sequence::Op;
 use moment_sums::Totals;
 use ship_profile::Profile;
@@ -74,37 +77,55 @@ pub fn write_header(text: &mut String) -> Result<(), AllocError>
     write_judged_headings(text)
 }
 
-/// Writes how a step is judged: its figures and the verdict, or what lies outside of the tables.
-fn write_verdict(text: &mut String, line: &StepLine) -> Result<(), AllocError>
-    ensures { OnOk result (string_bytes text.new
-        ≡ string_bytes text.old ++ verdict_text line.now.frames (told line.now.verdict)) }
+/// Puts the criterion that fails, behind the word for it, before the end of a line.
+fn put_failure(end: &mut BackwardText, criterion: Criterion)
+    requires room { length end.old + 9 ≤ 2048 }
+    ensures text { end.new ≡ (codes " FAIL " ++ code_of criterion) ++ end.old }
+    ensures short { length end.new ≤ length end.old + 9 }
+{
+    end.put_words(criterion.code());
+    end.put_words(" FAIL ");
+}
+
+/// Puts the table outside of which a condition lies, behind the word for it, before the end of a line.
+fn put_outside(end: &mut BackwardText, outside: Outside)
+    requires room { length end.old + 16 ≤ 2048 }
+    ensures text { end.new ≡ (codes " OUTSIDE " ++ cause_of outside) ++ end.old }
+    ensures short { length end.new ≤ length end.old + 16 }
+{
+    end.put_words(cause(outside));
+    end.put_words(" OUTSIDE ");
+}
+
+/// Puts how a step is judged before the end of its line: its figures and the verdict, or what lies outside of the tables.
+fn put_verdict(end: &mut BackwardText, line: &StepLine)
+    requires room { length end.old + 1813 ≤ 2048 }
+    ensures text { end.new ≡ verdict_text line.now.frames (told line.now.verdict) ++ end.old }
+    ensures short { length end.new ≤ length end.old + 1813 }
 {
     match &line.verdict {
-        Verdict::Outside(outside) => {
-            text.push_str(" OUTSIDE ")?;
-            text.push_str(cause(*outside))
-        }
+        Verdict::Outside(outside) => put_outside(end, *outside),
         Verdict::Fails(criterion, figures) => {
-            write_figures(text, figures, line.frames)?;
-            text.push_str(" FAIL ")?;
-            text.push_str(criterion.code())
+            put_failure(end, *criterion);
+            put_figures(end, figures, line.frames);
         }
         Verdict::Passes(figures) => {
-            write_figures(text, figures, line.frames)?;
-            text.push_str(" PASS")
+            end.put_words(" PASS");
+            put_figures(end, figures, line.frames);
         }
     }
 }
 
-/// Writes the displacement, how it is judged, and the end of the line.
-fn write_judged(text: &mut String, line: &StepLine) -> Result<(), AllocError>
-    ensures { OnOk result
-        (string_bytes text.new ≡ string_bytes text.old ++ judged_text (said line.now)) }
+/// Puts the displacement, how it is judged, and the end of the line at the end of a text.
+fn put_judged(end: &mut BackwardText, line: &StepLine)
+    requires room { length end.old + 1855 ≤ 2048 }
+    ensures text { end.new ≡ judged_text (said line.now) ++ end.old }
+    ensures short { length end.new ≤ length end.old + 1855 }
 {
-    let kg = line.kg;
-    write!(text, " {kg}")?;
-    write_verdict(text, line)?;
-    text.push_str("\n")
+    end.put_byte(b'\n');
+    put_verdict(end, line);
+    end.put_number(line.kg);
+    end.put_byte(b' ');
 }
 
 /// Writes the line of a step, with the lift that leads to it.
@@ -112,10 +133,12 @@ pub fn write_line(text: &mut String, lift: Option<&Op>, line: &StepLine) -> Resu
     ensures { OnOk result (string_bytes text.new
         ≡ string_bytes text.old ++ line_of (option_map (λ op. op.now) lift.entry) (said line.now)) }
 {
-    let step = line.step;
-    write!(text, "{step} ")?;
-    write_lift(text, lift)?;
-    write_judged(text, line)
+    let mut end = BackwardText::new();
+    put_judged(&mut end, line);
+    put_lift(&mut end, lift);
+    end.put_byte(b' ');
+    end.put_natural(u64::from(line.step));
+    end.append_to(text)
 }
 
 /// Writes the last line: the first step that fails, with its criterion, where one does.

@@ -1,8 +1,9 @@
 use super::{EMPTY_LINE, HEADER, IDLE, Run, STARBOARD_LINE, check_passes, written};
-use crate::lifts::write_lift;
+use crate::lifts::put_lift;
 use crate::{Criterion, Summary};
 use arrayvec::ArrayVec;
 use box_ship::{LIMITS, LOAD_TO_STARBOARD, SHIP};
+use decimal_text::BackwardText;
 use lift_sequence::Op;
 use std::alloc::Global;
 use std::process::Abort;
@@ -253,8 +254,10 @@ fn names_of_tanks(rt: HostRuntime) -> Result<(), Fail> {
     ] {
         let mut name = ArrayVec::new();
         let _ = name.try_extend_from_slice(bytes);
+        let mut line = BackwardText::new();
+        put_lift(&mut line, Some(&Op::Fill { name, kg: 5 }));
         let mut text = String::new(rt.alloc());
-        write_lift(&mut text, Some(&Op::Fill { name, kg: 5 }))?;
+        line.append_to(&mut text)?;
         assert_eq!(rt; text.as_str(), shown);
     }
     Ok(())
