@@ -1,6 +1,5 @@
-ghost use Rattle.std.specs.Prelude.{◌≡◌, ◌+◌, ◌<◌, ◌≤◌, ◌∷◌, ◌++◌, [], length, replicate, IsAscii, is_ok, string_bytes, if◌then◌else◌};
+ghost use Rattle.std.specs.Prelude.{◌≡◌, ◌+◌, ◌-◌, ◌<◌, ◌≤◌, ◌∷◌, ◌++◌, [], length, replicate, IsAscii, is_ok, string_bytes, if◌then◌else◌};
 ghost use Rattle.std.specs.Fmt.{decimal, signed_decimal};
-ghost use Rattle.decimal_text.specs.Digits.{in_digits};
 
 use itoa::{Buffer, write_digits};
 use std::alloc::AllocError;
@@ -94,7 +93,8 @@ impl BackwardText {
     pub fn put_in_digits(&mut self, n: u64, digits: usize)
         requires few { digits ≤ 20 }
         requires room { length self.old + 20 ≤ ROOM }
-        ensures text { self.new ≡ in_digits digits n ++ self.old }
+        ensures text { self.new
+            ≡ (replicate (digits - length (decimal n)) 48 ++ decimal n) ++ self.old }
         ensures short { length self.new ≤ length self.old + 20 }
     {
         let room = self.room();
