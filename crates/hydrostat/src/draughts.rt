@@ -7,7 +7,7 @@ use crate::particulars::Afloat;
 use units_core::Frac;
 
 /// The draught at `x`, by the numerator of the trim.
-fn draught_by(a: &Afloat, trim: i128, x: i128) -> Frac
+pub fn draught_by(a: &Afloat, trim: i128, x: i128) -> Frac
     requires x { unsigned_abs x ≤ 10 ^ 6 }
     requires trim { unsigned_abs trim ≤ 2 * 10 ^ 23 }
     ensures num { result.num

@@ -1,6 +1,7 @@
 //! How a ship floats: metacentric height, draughts, trim and list, read at her displacement in her hydrostatic table.
 #![tactic(auto)]
 
+mod draught_lines;
 mod draughts;
 mod figures;
 mod numerators;
@@ -9,6 +10,7 @@ mod particulars;
 mod ratios;
 mod waterlines;
 
+pub use draught_lines::DraughtLine;
 pub use draughts::draught;
 pub use figures::{Floating, floating_of};
 pub use outside::Outside;

@@ -1,4 +1,4 @@
-use crate::{Outside, floating_of};
+use crate::{DraughtLine, Outside, floating_of};
 use box_ship::box_ship;
 use moment_sums::Totals;
 use prefix_scan::Monoid;
@@ -52,6 +52,16 @@ fn figure(fraction: Option<Frac>) -> Option<i128> {
     }
 }
 
+/// Whether the line has the draughts, rounded down, at these places.
+fn is_along(line: &DraughtLine, draughts: [(i32, i128); 3]) -> Result<bool, Fail> {
+    for (x, draught) in draughts {
+        if line.draught_down(length(x)?) != draught {
+            return Ok(false);
+        }
+    }
+    Ok(true)
+}
+
 /// How the ship floats with these masses aboard.
 fn condition(profile: &Profile, masses: &[Mass]) -> Result<Condition, Fail> {
     let sum = sum_of(masses, profile)?;
@@ -69,6 +79,14 @@ fn condition(profile: &Profile, masses: &[Mass]) -> Result<Condition, Fail> {
                 floor(floats.gm),
                 floor(floats.trim),
             ];
+            let line = DraughtLine::new(&floats.afloat);
+            let [_, aft, forward, quarter_draught, _, _] = figures;
+            if !is_along(
+                &line,
+                [(0, aft), (100_000, forward), (25_000, quarter_draught)],
+            )? {
+                return Err("the same draughts along the line")?;
+            }
             Ok(Ok((figures, figure(floats.list))))
         }
         Err(outside) => Ok(Err(outside)),

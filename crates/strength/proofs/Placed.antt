@@ -1,14 +1,12 @@
 -- Numbers written place by place; areas at all stations.
-use Rattle.std.proofs.Common.{◌≡◌, ◌∙◌, ℕ, zero, suc, ◌+◌, ◌^◌, ◌<◌, ◌≤◌, ◌⊎◌, inl, inr, List, [], ◌∷◌, length, get_or, set, get_or-set_same, get_or-set_other, below_more, ◌≢◌, replicate, Option, None, Some, unsigned_abs, FitsSigned, to_z, of_z, to_z-of_z, ℤ, pos, ◌+ℤ◌, ◌-ℤ◌, ◌*ℤ◌, ◌<ℤ◌, ◌≤ℤ◌, refl, sym, ap, arith}
+use Rattle.std.proofs.Common.{◌≡◌, ◌∙◌, ℕ, zero, suc, ◌+◌, ◌*◌, ◌/◌, ◌<◌, ◌≤◌, ◌⊎◌, inl, inr, List, [], ◌∷◌, length, get_or, set, get_or-set_same, get_or-set_other, below_more, ◌≢◌, replicate, Option, None, Some, unsigned_abs, FitsSigned, to_z, of_z, to_z-of_z, ℤ, pos, ◌+ℤ◌, ◌-ℤ◌, ◌*ℤ◌, ◌≤ℤ◌, refl, sym, ap, arith}
 use Rattle.std.specs.Prelude.{is_some}
 use Rattle.std.proofs.lemmas.Option.{slice_get_past}
 use Rattle.std.specs.Int.{w128}
 use Rattle.units_core.proofs.Signed.{signed_arith, one_part}
-use Rattle.units_core.proofs.Order.{times_order}
-use Rattle.moment_sums.proofs.Sizes.{between}
 use Rattle.moment_sums.proofs.Bounds.{set_done}
 use Rattle.units_core.specs.Interpolation.{at, IsWithin}
-use Rattle.units_core.specs.Ratio.{Ratio}
+use Rattle.units_core.specs.Ratio.{Ratio, ◌over◌, floor_of}
 use Rattle.ship_tables.specs.Record.{CurveTable}
 use Rattle.units_core.proofs.Ranges.{range_all, range_not_all}
 use Rattle.strength.specs.Immersed.{area_at, area_there, areas_of, or_none}
@@ -70,23 +68,15 @@ inside_same (x ∷ xs) (suc k) d e h = inside_same xs k d e (omega arith)
 pub less_read : (x y r a b : ℤ) → FitsSigned w128 x → FitsSigned w128 y → FitsSigned w128 r → r ≡ to_z w128 (of_z w128 x) -ℤ to_z w128 (of_z w128 y) → x ≡ a → y ≡ b → to_z w128 (of_z w128 r) ≡ a -ℤ b
 less_read x y r a b f g h e p q = to_z-of_z h ∙ (e ∙ (λ i. (to_z-of_z f ∙ p) i -ℤ (to_z-of_z g ∙ q) i))
 
--- a reading of areas, rounded down
-pub area_within : (y0 y1 p r d q : ℤ) → p +ℤ r ≡ d → pos 0 ≤ℤ p → pos 0 ≤ℤ r → pos 1 ≤ℤ d → pos 0 ≤ℤ y0 → pos 0 ≤ℤ y1 → unsigned_abs y0 ≤ 10 ^ 8 → unsigned_abs y1 ≤ 10 ^ 8
-    → (q *ℤ d) ≤ℤ ((y0 *ℤ p) +ℤ (y1 *ℤ r)) → ((y0 *ℤ p) +ℤ (y1 *ℤ r)) <ℤ ((q +ℤ pos 1) *ℤ d) → unsigned_abs q ≤ 10 ^ 8
-area_within y0 y1 p r d q e hp hr hd l0 l1 h0 h1 a b =
-    let u0 : y0 ≤ℤ pos (10 ^ 8) = omega (arith, signed_arith, one_part y0) in
-    let u1 : y1 ≤ℤ pos (10 ^ 8) = omega (arith, signed_arith, one_part y1) in
-    let low0 = times_order (pos 0) y0 p hp l0 in
-    let low1 = times_order (pos 0) y1 r hr l1 in
-    let up0 = times_order y0 (pos (10 ^ 8)) p hp u0 in
-    let up1 = times_order y1 (pos (10 ^ 8)) r hr u1 in
-    let least : pos 0 ≤ℤ ((y0 *ℤ p) +ℤ (y1 *ℤ r)) = omega (arith, signed_arith, low0, low1) in
-    let most : ((y0 *ℤ p) +ℤ (y1 *ℤ r)) ≤ℤ (pos (10 ^ 8) *ℤ d) = rw (sym e) (omega (arith, signed_arith, up0, up1)) in
-    let is = between ((y0 *ℤ p) +ℤ (y1 *ℤ r)) d (pos (10 ^ 8)) q hd least most a b in
-    omega (arith, signed_arith, is.0, is.1, one_part q)
+pub inside_both : (x0 x x1 : ℤ) (m : ℕ) → x0 ≤ℤ x → x ≤ℤ x1 → unsigned_abs x0 ≤ m → unsigned_abs x1 ≤ m → unsigned_abs x ≤ m
+inside_both x0 x x1 m low high h k = omega (arith, signed_arith, one_part x, one_part x0, one_part x1, low, high, h, k)
 
-pub split : (a x b : ℤ) → (b -ℤ x) +ℤ (x -ℤ a) ≡ b -ℤ a
-split a x b = omega (arith, signed_arith)
+-- a value on a line, rounded down, in natural numbers
+pub on_line_is : (x0 y0 x1 y1 x : ℤ) (a p b r : ℕ) → pos a ≡ y0 → pos p ≡ x1 -ℤ x → pos b ≡ y1 → pos r ≡ x -ℤ x0
+    → pos ((a * p + b * r) / (p + r)) ≡ floor_of (((y0 *ℤ (x1 -ℤ x)) +ℤ (y1 *ℤ (x -ℤ x0))) over (x1 -ℤ x0))
+on_line_is x0 y0 x1 y1 x a p b r e f g h =
+    let span : x1 -ℤ x0 ≡ pos (p + r) = omega (arith, signed_arith, f, h) in
+    rw (span, ← e, ← f, ← g, ← h) refl
 
 -- the next of running sums, written behind the first k
 pub set_next : (ns : List ℤ) (g : ℕ → ℤ) (k : ℕ) (v : ℤ) → k + 1 < length ns → ((n : ℕ) → n ≤ k → at ns n ≡ g n) → v ≡ g (k + 1) → (n : ℕ) → n ≤ k + 1 → at (set ns (k + 1) v) n ≡ g n

@@ -1,11 +1,10 @@
-ghost use Rattle.std.specs.Prelude.{◌≡◌, ℕ, pos, ◌+ℤ◌, ◌*ℤ◌, ◌+◌, ◌*◌, ◌^◌, ◌<◌, ◌≤◌, unsigned_abs, length};
+ghost use Rattle.std.specs.Prelude.{◌≡◌, ℕ, pos, ◌+ℤ◌, ◌-ℤ◌, ◌*ℤ◌, ◌+◌, ◌*◌, ◌^◌, ◌<◌, ◌≤◌, ◌≤ℤ◌, ◌<ℤ◌, true, unsigned_abs, length};
+ghost use Rattle.std.specs.Int.{int_div_euclid};
 ghost use Rattle.units_core.specs.Interpolation.{at, IsWithin};
 ghost use Rattle.strength.specs.Buoyancy.{IsBuoyancy, IsMoment, arm_top, force_top, tops};
 
-use units_core::{Frac, floor};
-
 /// Twice the volume between the stations `k` and `k + 1`.
-fn force_term(xs: &[i128; 64], areas: &[i128; 64], k: usize) -> i128
+fn force_term(xs: &[i64; 64], areas: &[i64; 64], k: usize) -> i64
     requires inside { k < 63 }
     requires xs_near { IsWithin (10 ^ 6) xs.now }
     requires small { IsWithin (10 ^ 8) areas.now }
@@ -16,7 +15,7 @@ fn force_term(xs: &[i128; 64], areas: &[i128; 64], k: usize) -> i128
 }
 
 /// Three times the place a third of the way from `near` to `far`.
-fn third_from(near: i128, far: i128) -> i128
+fn third_from(near: i64, far: i64) -> i64
     requires near { unsigned_abs near ≤ 10 ^ 6 }
     requires far { unsigned_abs far ≤ 10 ^ 6 }
     ensures value { result ≡ (pos 2 *ℤ near) +ℤ far }
@@ -25,8 +24,40 @@ fn third_from(near: i128, far: i128) -> i128
     2 * near + far
 }
 
+/// The areas of two stations, each times a place.
+#[inline(always)]
+fn weighted(aft: i64, first: i64, fore: i64, second: i64) -> i64
+    requires aft { unsigned_abs aft ≤ 10 ^ 8 }
+    requires first { unsigned_abs first ≤ 3 * 10 ^ 6 }
+    requires fore { unsigned_abs fore ≤ 10 ^ 8 }
+    requires second { unsigned_abs second ≤ 3 * 10 ^ 6 }
+    ensures value { result ≡ (aft *ℤ first) +ℤ (fore *ℤ second) }
+    ensures within { unsigned_abs result ≤ 6 * 10 ^ 14 }
+{
+    aft * first + fore * second
+}
+
+/// How far it is from one place to another.
+#[inline(always)]
+fn distance(aft: i64, fore: i64) -> i64
+    requires aft { unsigned_abs aft ≤ 10 ^ 6 }
+    requires fore { unsigned_abs fore ≤ 10 ^ 6 }
+    ensures value { result ≡ fore -ℤ aft }
+    ensures within { unsigned_abs result ≤ 2 * 10 ^ 6 }
+{
+    fore - aft
+}
+
+/// A product, which takes more than 64 bits.
+#[inline(always)]
+fn product(a: i64, b: i64) -> i128
+    ensures { result ≡ a *ℤ b }
+{
+    i128::from(a) * i128::from(b)
+}
+
 /// Six times the moment about the after perpendicular of the volume between the stations `k` and `k + 1`.
-fn arm_term(xs: &[i128; 64], areas: &[i128; 64], k: usize) -> i128
+fn arm_term(xs: &[i64; 64], areas: &[i64; 64], k: usize) -> i128
     requires inside { k < 63 }
     requires xs_near { IsWithin (10 ^ 6) xs.now }
     requires small { IsWithin (10 ^ 8) areas.now }
@@ -37,11 +68,14 @@ fn arm_term(xs: &[i128; 64], areas: &[i128; 64], k: usize) -> i128
     let fore = xs[k + 1];
     let first = third_from(aft, fore);
     let second = third_from(fore, aft);
-    (fore - aft) * (areas[k] * first + areas[k + 1] * second)
+    product(
+        distance(aft, fore),
+        weighted(areas[k], first, areas[k + 1], second),
+    )
 }
 
 /// Twice the volumes of the first intervals between stations, by how many they are, up to `intervals`.
-pub fn running_volumes(xs: &[i128; 64], areas: &[i128; 64], intervals: usize) -> [i128; 64]
+pub fn running_volumes(xs: &[i64; 64], areas: &[i64; 64], intervals: usize) -> [i64; 64]
     requires few { intervals ≤ 63 }
     requires xs_near { IsWithin (10 ^ 6) xs.now }
     requires small { IsWithin (10 ^ 8) areas.now }
@@ -59,7 +93,7 @@ pub fn running_volumes(xs: &[i128; 64], areas: &[i128; 64], intervals: usize) ->
 }
 
 /// Six times the moments about the after perpendicular of the first intervals between stations, by how many they are, up to `intervals`.
-pub fn running_arms(xs: &[i128; 64], areas: &[i128; 64], intervals: usize) -> [i128; 64]
+pub fn running_arms(xs: &[i64; 64], areas: &[i64; 64], intervals: usize) -> [i128; 64]
     requires few { intervals ≤ 63 }
     requires xs_near { IsWithin (10 ^ 6) xs.now }
     requires small { IsWithin (10 ^ 8) areas.now }
@@ -77,27 +111,88 @@ pub fn running_arms(xs: &[i128; 64], areas: &[i128; 64], intervals: usize) -> [i
 }
 
 /// The buoyancy in kg of twice a volume, rounded down.
-pub fn buoyancy(volume: i128) -> i128
+pub fn buoyancy(volume: i64) -> i64
     requires within { unsigned_abs volume ≤ 3 * 10 ^ 16 }
     ensures value { IsBuoyancy result volume }
     ensures size { unsigned_abs result ≤ 10 ^ 20 }
 {
-    floor(Frac {
-        num: volume * 1025,
-        den: 20_000_000,
-    })
+    // 1025 / 20,000,000 is 41 / 800,000.
+    (volume * 41).div_euclid(800_000)
+}
+
+/// What 41 times the moment of a volume is divided by.
+const PARTS: i128 = 2_400_000;
+
+/// 2^84 / 2,400,000, by which quotients are guessed.
+const RECIPROCAL: i128 = 8_059_505_464_097_527_831;
+
+/// About a 2,400,000th of a number; any number would do, since it is tested.
+#[inline(always)]
+fn guess(top: i128) -> i64 {
+    match i64::try_from(top >> 20) {
+        Ok(leading) => ((i128::from(leading) * RECIPROCAL) >> 64) as i64,
+        Err(_) => 0,
+    }
+}
+
+/// Whether a number is what a quotient by 2,400,000 leaves.
+#[inline(always)]
+fn is_rest(rest: i128) -> bool
+    ensures low { result ≡ true → pos 0 ≤ℤ rest }
+    ensures high { result ≡ true → rest <ℤ pos 2400000 }
+{
+    if rest < 0 {
+        return false;
+    }
+    rest < PARTS
+}
+
+/// What a number leaves over a quotient by 2,400,000.
+#[inline(always)]
+fn rest_of(top: i128, quotient: i64) -> i128
+    requires { unsigned_abs top ≤ 10 ^ 26 }
+    ensures { result ≡ top -ℤ (quotient *ℤ pos 2400000) }
+{
+    top - i128::from(quotient) * PARTS
+}
+
+/// A number over 2,400,000, rounded down. It is guessed and then tested, since a division of 128 bits takes many times as long.
+fn divided(top: i128) -> i128
+    requires { unsigned_abs top ≤ 10 ^ 26 }
+    ensures { result ≡ int_div_euclid top (pos 2400000) }
+{
+    let quotient = guess(top);
+    if is_rest(rest_of(top, quotient)) {
+        return i128::from(quotient);
+    }
+    if let Some(next) = quotient.checked_add(1) {
+        if is_rest(rest_of(top, next)) {
+            return i128::from(next);
+        }
+    }
+    top.div_euclid(PARTS)
+}
+
+/// 41 times the moment about `f`, of twice a volume and of six times its moment about the after perpendicular.
+#[inline(always)]
+fn moment_top(f: i64, volume: i64, arm: i128) -> i128
+    requires f_near { unsigned_abs f ≤ 10 ^ 6 }
+    requires within { unsigned_abs volume ≤ 3 * 10 ^ 16 }
+    requires arm_within { unsigned_abs arm ≤ 10 ^ 23 }
+    ensures value { result ≡ (((pos 3 *ℤ f) *ℤ volume) -ℤ arm) *ℤ pos 41 }
+    ensures size { unsigned_abs result ≤ 10 ^ 25 }
+{
+    (product(3 * f, volume) - arm) * 41
 }
 
 /// The moment of buoyancy about `f` in kg mm, rounded down, of twice a volume and of six times its moment about the after perpendicular.
-pub fn buoyancy_moment(f: i128, volume: i128, arm: i128) -> i128
+pub fn buoyancy_moment(f: i64, volume: i64, arm: i128) -> i128
     requires f_near { unsigned_abs f ≤ 10 ^ 6 }
     requires within { unsigned_abs volume ≤ 3 * 10 ^ 16 }
     requires arm_within { unsigned_abs arm ≤ 10 ^ 23 }
     ensures value { IsMoment result f volume arm }
     ensures size { unsigned_abs result ≤ 10 ^ 27 }
 {
-    floor(Frac {
-        num: (3 * f * volume - arm) * 1025,
-        den: 60_000_000,
-    })
+    // 1025 / 60,000,000 is 41 / 2,400,000.
+    divided(moment_top(f, volume, arm))
 }

@@ -11,7 +11,7 @@ use std::marker::Model;
 #[derive(Clone, Copy, Drop)]
 pub struct Hull {
     /// Where the stations stand, in mm forward of the after perpendicular; 0 at the places behind them.
-    places: [i128; 64],
+    places: [i64; 64],
     /// How many intervals between stations lie wholly aft of each frame; 0 at the places behind them.
     aft: [usize; 16],
 }
@@ -55,7 +55,7 @@ impl Hull {
     }
 
     /// Where the stations stand, in mm forward of the after perpendicular; 0 at the places behind them.
-    pub fn places(&self) -> &[i128; 64]
+    pub fn places(&self) -> &[i64; 64]
         ensures value { result.now ≡ self.now.places }
         ensures within { IsWithin (10 ^ 6) result.now }
     {

@@ -7,28 +7,29 @@ ghost use Rattle.strength.specs.Immersed.{area_in, areas_along};
 
 use crate::area::area_at;
 use crate::loads::Areas;
-use crate::stations::mm;
-use hydrostat::{Afloat, draught};
+use crate::quotients::Divisor;
+use hydrostat::{Afloat, DraughtLine};
 use ship_profile::Profile;
 use ship_tables::Curves;
-use units_core::{Mm, floor};
-
-/// The draught at a place, rounded down.
-fn draught_down(a: &Afloat, x: Mm) -> i128
-    ensures { result ≡ floor_of (draught_at (water a.now) (load a.now) a.now.lbp x) }
-{
-    floor(draught(a, mm(x)))
-}
+use units_core::Mm;
 
 /// The immersed area at a station, rounded down; `None` where the draught there lies outside of the table.
-fn area_there(curves: &Curves, a: &Afloat, number: usize, x: Mm, near: &mut usize) -> Option<i128>
+#[inline(always)]
+fn area_there(
+    curves: &Curves,
+    line: &DraughtLine,
+    number: usize,
+    x: Mm,
+    near: &mut usize,
+    divisor: &mut Divisor,
+) -> Option<i64>
     requires table { IsBonjeanTable curves.now }
     requires there { number < length curves.now.columns }
-    ensures value { result
-        ≡ area_in curves.now number (floor_of (draught_at (water a.now) (load a.now) a.now.lbp x)) }
+    ensures value { result ≡ area_in curves.now number
+        (floor_of (draught_at (water line.now.of) (load line.now.of) line.now.of.lbp x)) }
     ensures within { IfSome result (λ a. unsigned_abs a ≤ 10 ^ 8) }
 {
-    area_at(curves, number, draught_down(a, x), near)
+    area_at(curves, number, line.draught_down(x), near, divisor)
 }
 
 /// The immersed areas at all stations; `None` where the draught at one of them lies outside of the table.
@@ -38,9 +39,11 @@ pub fn areas_aboard(profile: &Profile, a: &Afloat, near: &mut usize) -> Option<A
 {
     let stations = profile.stations();
     let curves = profile.bonjean();
+    let line = DraughtLine::new(a);
+    let mut divisor = Divisor::new(1);
     let mut area = [0; 64];
     for k in 0..stations.len() {
-        let Some(here) = area_there(curves, a, k, stations[k], near) else {
+        let Some(here) = area_there(curves, &line, k, stations[k], near, &mut divisor) else {
             return None;
         };
         area[k] = here;

@@ -8,6 +8,7 @@ mod forces;
 mod hulls;
 mod immersed;
 mod loads;
+mod quotients;
 mod stations;
 mod strains;
 

@@ -5,7 +5,7 @@ ghost use Rattle.units_core.specs.Interpolation.{IsWithin};
 #[derive(Clone, Copy)]
 pub struct Areas {
     /// The area in cm2 at each station, 0 at the places behind the last.
-    pub area: [i128; 64],
+    pub area: [i64; 64],
     pub ghost within: { IsWithin (10 ^ 8) area },
 }
 

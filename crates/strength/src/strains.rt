@@ -51,12 +51,12 @@ pub fn strains_of(profile: &Profile, hull: &Hull, totals: &Totals, areas: &Areas
         let x = mm(frames[i].x);
         let volume = volumes[n];
         let arm = arms[n];
-        shear[i] = minus(totals.weight_aft(i), buoyancy(volume));
+        shear[i] = minus(totals.weight_aft(i), i128::from(buoyancy(volume)));
         bending[i] = minus(totals.moment_aft(i), buoyancy_moment(x, volume, arm));
     }
     Strains {
         loads: Loads { shear, bending },
-        closing: minus(buoyancy(volumes[intervals]), totals.kg()),
+        closing: minus(i128::from(buoyancy(volumes[intervals])), totals.kg()),
     }
 }
 

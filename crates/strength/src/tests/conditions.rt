@@ -11,7 +11,7 @@ use std::test::Fail;
 #[derive(Clone, Copy)]
 struct Condition {
     container: Container,
-    areas: [i128; 5],
+    areas: [i64; 5],
     shear: [i128; 5],
     bending: [i128; 5],
     closing: i128,
@@ -58,8 +58,8 @@ static AFT: Condition = Condition {
 };
 
 /// The first five of these numbers.
-fn first_five(numbers: &[i128]) -> [i128; 5] {
-    let mut five = [0; 5];
+fn first_five<T: Copy + Default>(numbers: &[T]) -> [T; 5] {
+    let mut five = [T::default(); 5];
     for (place, number) in five.iter_mut().zip(numbers) {
         *place = *number;
     }

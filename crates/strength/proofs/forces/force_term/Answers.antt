@@ -1,17 +1,18 @@
 use Rattle.std.proofs.Common.{rules, ℕ, ℤ, List, ◌+◌, ◌*◌, ◌^◌, ◌≤◌, ◌+ℤ◌, ◌-ℤ◌, ◌*ℤ◌, unsigned_abs, FitsSigned, to_z-of_z, arith}
-use Rattle.std.specs.Int.{w128}
-use Rattle.units_core.proofs.Signed.{exact, product_within, sum_within, difference_within, fits_within}
+use Rattle.std.specs.Int.{w64}
+use Rattle.units_core.proofs.Signed.{exact, product_within, sum_within, difference_within}
+use Rattle.std.proofs.lemmas.Int.{fits_signed_from_abs}
 use Rattle.units_core.specs.Interpolation.{at, IsWithin}
 use Rattle.strength.proofs.forces.force_term.Goals as goal
 
 record Sizes (x0 x1 a b : ℤ) : Type 0 where
-  pub x0f : FitsSigned w128 x0
-  pub x1f : FitsSigned w128 x1
-  pub af : FitsSigned w128 a
-  pub bf : FitsSigned w128 b
-  pub s : FitsSigned w128 (x1 -ℤ x0)
-  pub both : FitsSigned w128 (a +ℤ b)
-  pub all : FitsSigned w128 ((x1 -ℤ x0) *ℤ (a +ℤ b))
+  pub x0f : FitsSigned w64 x0
+  pub x1f : FitsSigned w64 x1
+  pub af : FitsSigned w64 a
+  pub bf : FitsSigned w64 b
+  pub s : FitsSigned w64 (x1 -ℤ x0)
+  pub both : FitsSigned w64 (a +ℤ b)
+  pub all : FitsSigned w64 ((x1 -ℤ x0) *ℤ (a +ℤ b))
   pub size : unsigned_abs ((x1 -ℤ x0) *ℤ (a +ℤ b)) ≤ 4 * 10 ^ 14
 
 sizes : (x0 x1 a b : ℤ) → unsigned_abs x0 ≤ 10 ^ 6 → unsigned_abs x1 ≤ 10 ^ 6 → unsigned_abs a ≤ 10 ^ 8 → unsigned_abs b ≤ 10 ^ 8 → Sizes x0 x1 a b
@@ -20,13 +21,13 @@ sizes x0 x1 a b h0 h1 ha hb =
     let both = sum_within a b _ _ ha hb in
     let all = product_within (x1 -ℤ x0) (a +ℤ b) _ _ s both in
     record {
-      x0f = fits_within _ _ h0 (omega arith);
-      x1f = fits_within _ _ h1 (omega arith);
-      af = fits_within _ _ ha (omega arith);
-      bf = fits_within _ _ hb (omega arith);
-      s = fits_within _ _ s (omega arith);
-      both = fits_within _ _ both (omega arith);
-      all = fits_within _ _ all (omega arith);
+      x0f = fits_signed_from_abs w64 _ (omega (arith, h0));
+      x1f = fits_signed_from_abs w64 _ (omega (arith, h1));
+      af = fits_signed_from_abs w64 _ (omega (arith, ha));
+      bf = fits_signed_from_abs w64 _ (omega (arith, hb));
+      s = fits_signed_from_abs w64 _ (omega (arith, s));
+      both = fits_signed_from_abs w64 _ (omega (arith, both));
+      all = fits_signed_from_abs w64 _ (omega (arith, all));
       size = omega (arith, all);
     }
 

@@ -1,5 +1,5 @@
 use Rattle.std.proofs.Common.{rules, arith, ◌≡◌, ◌∙◌, ℕ, ◌-◌, ◌^◌, ◌<◌, ◌≤◌, ℤ, pos, ◌≤ℤ◌, List, length, length-set, get_or, slice_get, Option, Some, ap, sym, subst, unsigned_abs, FitsSigned, to_z-of_z}
-use Rattle.std.specs.Int.{w128}
+use Rattle.std.specs.Int.{w64, w128}
 use Rattle.std.specs.Prelude.{IfSome}
 use Rattle.std.proofs.lemmas.Option.{slice_get-get_or, slice_get_past}
 use Rattle.units_core.specs.Interpolation.{at}
@@ -16,7 +16,7 @@ use Rattle.strength.proofs.strains.strains_of.Goals as goal
 pub buoyancy-requires : goal.buoyancy-requires
 buoyancy-requires c =
     let n = c.intervals_aft-n.result in
-    let v : FitsSigned w128 (get_or c.running_volumes-volumes.result n (pos 0)) = search rules in
+    let v : FitsSigned w64 (get_or c.running_volumes-volumes.result n (pos 0)) = search rules in
     record { within = simp (to_z-of_z v) (c.running_volumes-volumes.ensures.within n) }
 
 -- what is aft of a frame is at most what there is
@@ -33,7 +33,7 @@ minus-requires-clause-one c =
 pub buoyancy_moment-requires-clause-within : goal.buoyancy_moment-requires-clause-within
 buoyancy_moment-requires-clause-within c =
     let n = c.intervals_aft-n.result in
-    let v : FitsSigned w128 (get_or c.running_volumes-volumes.result n (pos 0)) = search rules in
+    let v : FitsSigned w64 (get_or c.running_volumes-volumes.result n (pos 0)) = search rules in
     simp (to_z-of_z v) (c.running_volumes-volumes.ensures.within n)
 
 pub buoyancy_moment-requires-clause-arm_within : goal.buoyancy_moment-requires-clause-arm_within
@@ -60,20 +60,21 @@ loop-i-preserved c =
     let low : n ≤ length c.stations.result.now - 1 = rw c.stations.ensures.value (omega (arith, inside)) in
     let placed : (k : ℕ) → at c.places.result.now k ≡ at xs k = λ k. ap (λ (ys : List ℤ). at ys k) c.places.ensures.value ∙ of.places k in
     let placed2 : (k : ℕ) → at c.places-2.result.now k ≡ at xs k = λ k. ap (λ (ys : List ℤ). at ys k) c.places-2.ensures.value ∙ of.places k in
-    let v : FitsSigned w128 (get_or c.running_volumes-volumes.result n (pos 0)) = search rules in
+    let v : FitsSigned w64 (get_or c.running_volumes-volumes.result n (pos 0)) = search rules in
     let u : FitsSigned w128 (get_or c.running_arms-arms.result n (pos 0)) = search rules in
-    let m : FitsSigned w128 c.mm-x.result = search rules in
+    let m : FitsSigned w64 c.mm-x.result = search rules in
     let volume = to_z-of_z v ∙ (c.running_volumes-volumes.ensures.value n low ∙ (λ j. tops (force_top (λ k. placed k j) areas) n)) in
     let arm = to_z-of_z u ∙ (c.running_arms-arms.ensures.value n low ∙ (λ j. tops (arm_top (λ k. placed2 k j) areas) n)) in
     let w1 : FitsSigned w128 c.weight_aft.result = search rules in
-    let b1 : FitsSigned w128 c.buoyancy.result = search rules in
+    let b1 : FitsSigned w64 c.buoyancy.result = search rules in
+    let f1 : FitsSigned w128 c.from.result = search rules in
     let r1 : FitsSigned w128 c.minus.result = search rules in
     let w2 : FitsSigned w128 c.moment_aft.result = search rules in
     let b2 : FitsSigned w128 c.buoyancy_moment.result = search rules in
     let r2 : FitsSigned w128 c.minus-in-loop-i.result = search rules in
     let force = c.buoyancy.ensures.value (at xs) areas n volume ∙ (λ j. floor_of (force_of (at xs) areas (aft j))) in
     let moment = c.buoyancy_moment.ensures.value (at xs) areas n volume arm ∙ (λ j. floor_of (moment_of_buoyancy (at xs) areas ((to_z-of_z m ∙ c.mm-x.ensures.value) j) (aft j))) in
-    let shear_is = less_read c.weight_aft.result c.buoyancy.result c.minus.result _ _ w1 b1 r1 c.minus.ensures c.weight_aft.ensures force ∙ ap (λ (o : Option Frame). shear_there s areas xs i o) (sym here) in
+    let shear_is = less_read c.weight_aft.result c.from.result c.minus.result _ _ w1 f1 r1 c.minus.ensures c.weight_aft.ensures (c.from.ensures ∙ (to_z-of_z b1 ∙ force)) ∙ ap (λ (o : Option Frame). shear_there s areas xs i o) (sym here) in
     let bending_is = less_read c.moment_aft.result c.buoyancy_moment.result c.minus-in-loop-i.result _ _ w2 b2 r2 c.minus-in-loop-i.ensures c.moment_aft.ensures moment ∙ ap (λ (o : Option Frame). bending_there s areas xs i o) (sym here) in
     let few = c.as_slice-frames.ensures.few in
     let shears = inv.shear_size in
@@ -121,10 +122,11 @@ returns-clause-closing c =
     let xs = c.args.profile.now.ship.stations in
     let areas : ℕ → ℤ = at c.args.areas.now.area in
     let placed : (k : ℕ) → at c.places.result.now k ≡ at xs k = λ k. ap (λ (ys : List ℤ). at ys k) c.places.ensures.value ∙ c.requires.of.places k in
-    let v : FitsSigned w128 (get_or c.running_volumes-volumes.result n (pos 0)) = search rules in
+    let v : FitsSigned w64 (get_or c.running_volumes-volumes.result n (pos 0)) = search rules in
     let volume = to_z-of_z v ∙ (c.running_volumes-volumes.ensures.value n (omega arith) ∙ (λ j. tops (force_top (λ k. placed k j) areas) n)) in
-    let b : FitsSigned w128 c.buoyancy-2.result = search rules in
+    let b : FitsSigned w64 c.buoyancy-2.result = search rules in
+    let f : FitsSigned w128 c.from-2.result = search rules in
     let k : FitsSigned w128 c.kg.result = search rules in
     let r : FitsSigned w128 c.minus-2.result = search rules in
-    less_read c.buoyancy-2.result c.kg.result c.minus-2.result _ _ b k r c.minus-2.ensures
-    (c.buoyancy-2.ensures.value (at xs) areas n volume ∙ (λ j. floor_of (force_of (at xs) areas (length (c.stations.ensures.value j) - 1)))) c.kg.ensures
+    less_read c.from-2.result c.kg.result c.minus-2.result _ _ f k r c.minus-2.ensures
+    (c.from-2.ensures ∙ (to_z-of_z b ∙ c.buoyancy-2.ensures.value (at xs) areas n volume) ∙ (λ j. floor_of (force_of (at xs) areas (length (c.stations.ensures.value j) - 1)))) c.kg.ensures

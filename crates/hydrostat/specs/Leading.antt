@@ -1,0 +1,34 @@
+-- Bookkeeping: the draught along a ship is a straight line, (base - step x) / divisor; and its numbers in whole units.
+use Rattle.std.specs.Prelude.{◌^◌, ◌≤◌, ℤ, pos, unsigned_abs, ◌+ℤ◌, ◌-ℤ◌, ◌*ℤ◌, ◌≤ℤ◌, ◌<ℤ◌}
+use Rattle.hydrostat.specs.declared.particulars.Afloat.{Afloat}
+
+abbrev pub trim_top : Afloat → ℤ
+trim_top a = (a.lcb *ℤ a.kg) -ℤ (a.x *ℤ a.gap)
+
+abbrev pub line_base : Afloat → ℤ
+line_base a = ((a.draught *ℤ a.mct) *ℤ a.lbp) +ℤ (trim_top a *ℤ (a.lcf -ℤ (pos 0 *ℤ a.gap)))
+
+abbrev pub line_step : Afloat → ℤ
+line_step a = trim_top a *ℤ a.gap
+
+abbrev pub line_divisor : Afloat → ℤ
+line_divisor a = (a.gap *ℤ a.mct) *ℤ a.lbp
+
+-- a number in whole units, rounded down
+pub record IsInUnits (high unit whole : ℤ) : Type 0 where
+  pub low : pos 0 ≤ℤ (whole -ℤ (high *ℤ unit))
+  pub rest : (whole -ℤ (high *ℤ unit)) <ℤ unit
+
+-- the line's numbers in units
+pub record IsLedBy (unit base step divisor : ℤ) (a : Afloat) : Type 0 where
+  pub is_base : IsInUnits base unit (line_base a)
+  pub is_step : IsInUnits step unit (line_step a)
+  pub is_divisor : IsInUnits divisor unit (line_divisor a)
+
+-- q is the whole part of top / divisor, and so far from the whole numbers on both sides that what the units leave away, of these and of a million
+-- times the step and the divisor, changes nothing
+pub record IsSure (q top divisor : ℤ) : Type 0 where
+  pub low : pos 0 ≤ℤ q
+  pub within : unsigned_abs q ≤ 10 ^ 6
+  pub above : pos 2000002 ≤ℤ (top -ℤ (q *ℤ divisor))
+  pub below : ((top -ℤ (q *ℤ divisor)) +ℤ pos 2000002) ≤ℤ divisor
