@@ -24,9 +24,9 @@ name_of key.Blocks = codes "blocks"
 name_of key.Frames = codes "frames"
 name_of key.Fills = codes "fills"
 
--- the document that a text is
+-- the document that a text is: one of more than 1,048,576 bytes is none, whatever it says
 abbrev pub document_of : List ℕ → Option Members
-document_of text = if is_utf8 text then parse_document text else None
+document_of text = if nat_le (length text) 1048576 then (if is_utf8 text then parse_document text else None) else None
 
 -- the document, or the fault of a text that is none
 abbrev pub document_in : List ℕ → Result Members ProfileFault

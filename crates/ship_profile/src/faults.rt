@@ -66,7 +66,7 @@ impl fmt::Display for Key {
 /// outside of the stations. Blocks, frames and fills are counted from 1.
 #[derive(Clone, Copy, Debug, PartialEq, Eq)]
 pub enum ProfileFault {
-    /// P1: the text of `ship.toml` is no TOML document.
+    /// P1: the text of `ship.toml` is no TOML document, or has more than 1,048,576 bytes.
     BadToml,
     /// P2: a key isn't there, also in a table of this key's array.
     MissingKey(Key),

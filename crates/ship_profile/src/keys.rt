@@ -15,11 +15,18 @@ pub const MAX_MM: i64 = 1_000_000;
 /// The greatest mass, and the greatest shear force, in kg.
 pub const MAX_KG: i64 = 1_000_000_000;
 
+/// The longest `ship.toml` that is read, in bytes. One within all limits needs a twentieth of it; a longer one could only be hostile, since a
+/// document takes up to a hundred times its length in memory.
+pub const MAX_SHIP_BYTES: usize = 1_048_576;
+
 /// The document that the text of `ship.toml` is.
 pub fn read_document(alloc: Global, text: &[u8]) -> Result<Table, ProfileFault>
     ensures ok { IfOk result (λ t. document_in text.now ≡ Ok (table_view t)) }
     ensures refused { IfErr result (λ e. e ≢ ProfileFault.NoMemory → document_in text.now ≡ Err e) }
 {
+    if text.len() > MAX_SHIP_BYTES {
+        return Err(ProfileFault::BadToml);
+    }
     match toml::table_from_slice(alloc, text) {
         Ok(table) => Ok(table),
         Err(error) if error.is_memory() => Err(ProfileFault::NoMemory),
