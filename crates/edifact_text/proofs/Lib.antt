@@ -15,3 +15,4 @@ pub mod RunLemmas
 pub mod StartLemmas
 pub mod OpenedLemmas
 pub mod ShortLemmas
+pub mod FarLemmas

@@ -2,7 +2,7 @@
 ghost use Rattle.std.specs.Prelude.{◌≡◌, ◌<◌, ◌≤◌, length, MatchResult, MatchOption, IfOk, IfSome, [], ◌∷◌};
 
 use crate::faults::{EdiCode, EdiFault};
-use crate::pieces::{cut, skip_blanks};
+use crate::pieces::{far_cut, skip_blanks};
 use crate::segment_text::SegmentText;
 use crate::service::Service;
 
@@ -30,7 +30,7 @@ impl<'a> Cursor<'a> {
             × (length rest.rest.now < length self.entry.rest.now)) }
     {
         let service = self.service;
-        let (front, behind) = cut(self.rest, service.release, service.terminator);
+        let (front, behind) = far_cut(self.rest, service.release, service.terminator);
         let bytes = skip_blanks(front);
         let place = self.len - self.rest.len() + (front.len() - bytes.len());
         let text = SegmentText {

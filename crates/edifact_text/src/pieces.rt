@@ -1,8 +1,10 @@
 //! Cutting bytes at a separator. A separator behind a release character cuts nothing.
-ghost use Rattle.std.specs.Prelude.{◌≡◌, ◌↔◌, ◌<◌, ◌≤◌, IsTrue, false, IfSome, MatchOption, length, slice_index_or, [], ◌∷◌, ◌+◌};
+ghost use Rattle.std.specs.Prelude.{◌≡◌, ◌↔◌, ◌<◌, ◌≤◌, IsTrue, false, IfSome, MatchOption, length, slice_index_or, [], ◌∷◌, ◌+◌, drop, option_map};
 ghost use Rattle.edifact_text.specs.Characters.{is_release, is_blank};
 ghost use Rattle.edifact_text.specs.Pieces.{end_from, pieces};
 ghost use Rattle.edifact_text.specs.Reading.{trimmed};
+
+use memchr::memchr2;
 
 /// The byte is the release character.
 pub(crate) fn is_release(release: Option<u8>, byte: u8) -> bool
@@ -32,8 +34,44 @@ pub(crate) fn end_of(bytes: &[u8], release: Option<u8>, separator: u8) -> Option
     None
 }
 
-/// The bytes up to the first separator that cuts, and those behind it; all of them where none does.
-pub(crate) fn cut(bytes: &[u8], release: Option<u8>, separator: u8) -> (&[u8], Option<&[u8]>)
+/// How many bytes in front neither cut nor release. They are passed over by vectors.
+fn quiet_length(bytes: &[u8], release: Option<u8>, separator: u8) -> usize
+    ensures quiet { end_from release separator false bytes.now ≡ option_map
+        (λ n. result + n) (end_from release separator false (drop result bytes.now)) }
+    ensures within { result ≤ length bytes.now }
+{
+    let other = match release {
+        Some(other) => other,
+        None => separator,
+    };
+    match memchr2(separator, other, bytes) {
+        Some(at) => at,
+        None => bytes.len(),
+    }
+}
+
+/// The index of the first separator that cuts, where it may stand far off. Only from a release character on is each byte
+/// looked at.
+pub(crate) fn far_end_of(bytes: &[u8], release: Option<u8>, separator: u8) -> Option<usize>
+    ensures value { result ≡ end_from release separator false bytes.now }
+    ensures within { IfSome result (λ n. n < length bytes.now) }
+{
+    let start = quiet_length(bytes, release, separator);
+    match end_of(&bytes[start..], release, separator) {
+        Some(end) => Some(start + end),
+        None => None,
+    }
+}
+
+/// The bytes before this end, and those behind the separator that stands there; all of them where there is none.
+fn parted(
+    bytes: &[u8],
+    release: Option<u8>,
+    separator: u8,
+    end: Option<usize>,
+) -> (&[u8], Option<&[u8]>)
+    requires is { end ≡ end_from release separator false bytes.now }
+    requires within { IfSome end (λ n. n < length bytes.now) }
     ensures first { MatchOption result.1 (pieces release separator bytes.now ≡ result.0.now ∷ [])
         (λ rest. pieces release separator bytes.now
         ≡ result.0.now ∷ pieces release separator rest.now) }
@@ -41,7 +79,7 @@ pub(crate) fn cut(bytes: &[u8], release: Option<u8>, separator: u8) -> (&[u8], O
     ensures len { IfSome result.1
         (λ rest. length result.0.now + 1 + length rest.now ≡ length bytes.now) }
 {
-    match end_of(bytes, release, separator) {
+    match end {
         None => (bytes, None),
         Some(end) => {
             let (front, behind) = bytes.split_at(end);
@@ -51,6 +89,40 @@ pub(crate) fn cut(bytes: &[u8], release: Option<u8>, separator: u8) -> (&[u8], O
             }
         }
     }
+}
+
+/// The bytes up to the first separator that cuts, and those behind it; all of them where none does.
+pub(crate) fn cut(bytes: &[u8], release: Option<u8>, separator: u8) -> (&[u8], Option<&[u8]>)
+    ensures first { MatchOption result.1 (pieces release separator bytes.now ≡ result.0.now ∷ [])
+        (λ rest. pieces release separator bytes.now
+        ≡ result.0.now ∷ pieces release separator rest.now) }
+    ensures less { length result.0.now ≤ length bytes.now }
+    ensures len { IfSome result.1
+        (λ rest. length result.0.now + 1 + length rest.now ≡ length bytes.now) }
+{
+    parted(
+        bytes,
+        release,
+        separator,
+        end_of(bytes, release, separator),
+    )
+}
+
+/// The same, where the separator may stand far off.
+pub(crate) fn far_cut(bytes: &[u8], release: Option<u8>, separator: u8) -> (&[u8], Option<&[u8]>)
+    ensures first { MatchOption result.1 (pieces release separator bytes.now ≡ result.0.now ∷ [])
+        (λ rest. pieces release separator bytes.now
+        ≡ result.0.now ∷ pieces release separator rest.now) }
+    ensures less { length result.0.now ≤ length bytes.now }
+    ensures len { IfSome result.1
+        (λ rest. length result.0.now + 1 + length rest.now ≡ length bytes.now) }
+{
+    parted(
+        bytes,
+        release,
+        separator,
+        far_end_of(bytes, release, separator),
+    )
 }
 
 /// The piece of this index, and no bytes past the last piece.
