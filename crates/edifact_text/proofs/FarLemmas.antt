@@ -1,9 +1,8 @@
 -- Bytes that are neither the separator nor the release character are passed over.
-use Rattle.std.proofs.Common.{◌≡◌, ℕ, zero, suc, ◌+◌, ◌<◌, ◌≤◌, List, [], ◌∷◌, Option, Some, None, Bool, true, false, cond, refl, sym, ap, ◌∙◌, option_map, length, drop, get_or, arith, nat_eq, not, ◌&&◌, ◌||◌, ◌==◌, MatchOption}
-use Rattle.std.specs.Prelude.{slice_index}
-use Rattle.memchr.specs.Find.{IsFirstByte, Nowhere, NoneBefore, Passes, is_byte2}
+use Rattle.std.proofs.Common.{◌≡◌, ℕ, zero, suc, ◌+◌, ◌<◌, ◌≤◌, List, [], ◌∷◌, Option, Some, None, Bool, true, false, refl, sym, ap, option_map, length, drop, get_or, arith, nat_eq, ◌==◌}
+use Rattle.memchr.specs.Find.{IsFirstByte, Nowhere, Passes, is_byte2}
 use Rattle.edifact_text.specs.Characters.{is_release}
-use Rattle.edifact_text.specs.Pieces.{releases, separates, end_from}
+use Rattle.edifact_text.specs.Pieces.{end_from}
 use Rattle.edifact_text.proofs.ServedLemmas.{or_off}
 
 -- The byte neither cuts nor releases.

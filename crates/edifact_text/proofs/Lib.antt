@@ -16,3 +16,5 @@ pub mod StartLemmas
 pub mod OpenedLemmas
 pub mod ShortLemmas
 pub mod FarLemmas
+pub mod RawLemmas
+pub mod TagLemmas

@@ -1,22 +1,35 @@
 -- Bookkeeping: the code's values, as contracts see them.
-use Rattle.std.specs.Prelude.{ℕ, ◌-◌, List, [], ◌∷◌, length, take, map, Option, Some, None}
-use Rattle.std.specs.Borrow.{Bor}
+use Rattle.std.specs.Prelude.{ℕ, ◌-◌, List, [], ◌∷◌, length, take, Option, Some, None, Bool, false, ◌==◌, ◌||◌, slice_index_or}
 use Rattle.edifact_text.specs.declared.raw.Raw.{Raw}
 use Rattle.edifact_text.specs.declared.segment_text.SegmentText.{SegmentText}
 use Rattle.edifact_text.specs.declared.cursor.Cursor.{Cursor}
-use Rattle.edifact_text.specs.declared.elements.Elements.{Elements}
 use Rattle.edifact_text.specs.declared.message.Message.{Message}
 use Rattle.edifact_text.specs.declared.message.Segment.{Segment}
 use Rattle.edifact_text.specs.declared.message.Segments.{Segments}
-use Rattle.edifact_text.specs.declared.service.Service.{Service}
+use Rattle.edifact_text.specs.declared.service.Ends.{Ends}
+use Rattle.edifact_text.specs.declared.tag.Tag.{Tag}
 use Rattle.edifact_text.specs.Interchange.{Numbered, numbered, Opened}
 use Rattle.edifact_text.specs.Pieces.{pieces, literal}
-use Rattle.edifact_text.specs.Reading.{Stretch, stretches, element_of}
+use Rattle.edifact_text.specs.Reading.{Stretch, stretches, segment_of}
 use Rattle.edifact_text.specs.Stages.{ended_ones, message_parts}
+
+-- The bytes up to the first separator that cuts.
+abbrev pub front : Option ℕ → ℕ → List ℕ → List ℕ
+front release separator bytes = slice_index_or (pieces release separator bytes) 0 []
+
+-- The bytes of a component that ends with these bytes, or at one of these separators.
+abbrev pub up_to : Option ℕ → Option Ends → List ℕ → List ℕ
+up_to release None bytes = bytes
+up_to release (Some ends) bytes = front release ends.component (front release ends.element bytes)
+
+-- The byte is one of the separators.
+abbrev pub is_end : Option Ends → ℕ → Bool
+is_end None byte = false
+is_end (Some ends) byte = byte == ends.element || byte == ends.component
 
 -- The literal that some bytes of a segment mean.
 unfoldable pub meant : Raw → List ℕ
-meant raw = literal raw.release raw.bytes.now
+meant raw = literal raw.release (up_to raw.release raw.ends raw.bytes.now)
 
 abbrev pub seen : SegmentText → Stretch
 seen text = record { place = text.place; bytes = text.bytes.now }
@@ -25,23 +38,13 @@ seen text = record { place = text.place; bytes = text.bytes.now }
 abbrev pub ahead : Cursor → List Stretch
 ahead c = stretches (c.len - length c.rest.now) (pieces c.service.release c.service.terminator c.rest.now)
 
--- A piece, where there is one, before those behind it.
-abbrev pub led : Option (Bor (List ℕ)) → List (List ℕ) → List (List ℕ)
-led None more = []
-led (Some piece) more = piece.now ∷ more
-
--- The elements of the bytes that are left, if any are.
-abbrev pub pieces_left : Service → Option (Bor (List ℕ)) → List (List ℕ)
-pieces_left sv None = []
-pieces_left sv (Some bytes) = pieces sv.release sv.element bytes.now
-
--- The bytes of the elements: those that were found, and those behind.
-abbrev pub elements_view : Service → Elements → List (List ℕ)
-elements_view sv e = e.first.now ∷ led e.second (led e.third (led e.fourth (pieces_left sv e.behind)))
+-- The letters of a tag.
+abbrev pub letters_of : Tag → List ℕ
+letters_of tag = tag.first ∷ tag.second ∷ tag.third ∷ []
 
 -- A segment's number and parts.
 unfoldable pub numbered_view : Segment → Numbered
-numbered_view s = record { number = s.number; parts = map (element_of s.service) (elements_view s.service s.elements) }
+numbered_view s = record { number = s.number; parts = segment_of s.service s.bytes.now }
 
 -- The segments that are left.
 unfoldable pub left_of : Segments → List Numbered

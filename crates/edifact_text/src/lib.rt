@@ -7,8 +7,8 @@
 #![tactic(auto)]
 
 mod advice;
+mod components;
 mod cursor;
-mod elements;
 mod envelope;
 mod faults;
 mod laws;
@@ -20,12 +20,14 @@ mod rows;
 mod segment_text;
 mod segments;
 mod service;
+mod tag;
 
 pub use envelope::open;
 pub use faults::{EdiCode, EdiFault, Kind};
 pub use laws::one_reading;
 pub use message::{Message, Segment, Segments};
 pub use raw::Raw;
+pub use tag::Tag;
 
 #[cfg(test)]
 mod tests;

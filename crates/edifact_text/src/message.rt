@@ -1,7 +1,6 @@
 ghost use Rattle.std.specs.Prelude.{◌<◌, ◌+◌, ◌^◌};
 
 use crate::cursor::Cursor;
-use crate::elements::Elements;
 use crate::service::Service;
 
 /// The message of an interchange: the segments between its header and its trailer. It borrows the text.
@@ -17,7 +16,7 @@ pub struct Message<'a> {
 /// A segment, and its number in the message.
 #[derive(Clone, Copy)]
 pub struct Segment<'a> {
-    pub(crate) elements: Elements<'a>,
+    pub(crate) bytes: &'a [u8],
     pub(crate) service: Service,
     pub(crate) number: u64,
 }

@@ -100,12 +100,7 @@ pub(crate) fn cut(bytes: &[u8], release: Option<u8>, separator: u8) -> (&[u8], O
     ensures len { IfSome result.1
         (λ rest. length result.0.now + 1 + length rest.now ≡ length bytes.now) }
 {
-    parted(
-        bytes,
-        release,
-        separator,
-        end_of(bytes, release, separator),
-    )
+    parted(bytes, release, separator, end_of(bytes, release, separator))
 }
 
 /// The same, where the separator may stand far off.
@@ -125,18 +120,25 @@ pub(crate) fn far_cut(bytes: &[u8], release: Option<u8>, separator: u8) -> (&[u8
     )
 }
 
-/// The piece of this index, and no bytes past the last piece.
-pub(crate) fn piece(bytes: &[u8], release: Option<u8>, separator: u8, index: usize) -> &[u8]
-    ensures { result.now ≡ slice_index_or (pieces release separator bytes.now) index [] }
+/// The bytes from the piece of this index on, or nothing past the last piece.
+pub(crate) fn from_piece(
+    bytes: &[u8],
+    release: Option<u8>,
+    separator: u8,
+    index: usize,
+) -> Option<&[u8]>
+    ensures { MatchOption result (slice_index_or (pieces release separator bytes.now) index [] ≡ [])
+        (λ rest. slice_index_or (pieces release separator bytes.now) index []
+        ≡ slice_index_or (pieces release separator rest.now) 0 []) }
 {
     let mut rest = bytes;
     for _ in 0..index {
         match cut(rest, release, separator).1 {
             Some(behind) => rest = behind,
-            None => return &[],
+            None => return None,
         }
     }
-    cut(rest, release, separator).0
+    Some(rest)
 }
 
 /// `most` pieces or fewer.

@@ -1,9 +1,10 @@
 ghost use Rattle.std.specs.Prelude.{◌≡◌, ◌↔◌, ◌<◌, ◌≤◌, IsTrue, IfSome, MatchOption, length, [], ◌∷◌};
 ghost use Rattle.edifact_text.specs.Rows.{is_text};
 ghost use Rattle.edifact_text.specs.Pieces.{literal};
-ghost use Rattle.edifact_text.specs.Views.{meant};
+ghost use Rattle.edifact_text.specs.Views.{meant, front, is_end};
 
 use crate::pieces::is_release;
+use crate::service::{Ends, Service};
 use arrayvec::ArrayVec;
 
 /// A component as the text writes it. It means its literal: the release character makes the byte behind it literal, and isn't
@@ -12,6 +13,8 @@ use arrayvec::ArrayVec;
 pub struct Raw<'a> {
     bytes: &'a [u8],
     release: Option<u8>,
+    /// Where it ends, if not with the bytes.
+    ends: Option<Ends>,
 }
 
 impl<'a> Raw<'a> {
@@ -20,11 +23,41 @@ impl<'a> Raw<'a> {
     pub(crate) fn new(bytes: &'a [u8], release: Option<u8>) -> Raw<'a>
         ensures { meant result ≡ literal release bytes.now }
     {
-        Raw { bytes, release }
+        Raw {
+            bytes,
+            release,
+            ends: None,
+        }
+    }
+
+    /// The component with which these bytes of a segment begin.
+    #[tactic(auto, unfolding(crate::specs::Views::meant))]
+    pub(crate) fn leading(bytes: &'a [u8], service: Service) -> Raw<'a>
+        ensures { meant result ≡ literal service.release (front service.release service.component
+            (front service.release service.element bytes.now)) }
+    {
+        Raw {
+            bytes,
+            release: service.release,
+            ends: Some(Ends {
+                element: service.element,
+                component: service.component,
+            }),
+        }
+    }
+
+    /// The byte ends the component, where it isn't released.
+    fn is_end(self, byte: u8) -> bool
+        ensures { result ≡ is_end self.entry.ends byte }
+    {
+        match self.ends {
+            Some(ends) => byte == ends.element || byte == ends.component,
+            None => false,
+        }
     }
 
     /// The literal's first byte, and a component that means the rest of it.
-    #[tactic(auto, unfolding(crate::specs::Views::meant))]
+    #[tactic(auto, using(crate::proofs::RawLemmas::at_byte, crate::proofs::RawLemmas::at_end, crate::proofs::RawLemmas::at_released, crate::proofs::RawLemmas::at_last, crate::proofs::RawLemmas::at_none), unfolding(crate::specs::Views::meant))]
     pub(crate) fn split_first(self) -> Option<(u8, Raw<'a>)>
         ensures first { MatchOption result (meant self.entry ≡ [])
             (λ p. meant self.entry ≡ p.0 ∷ meant p.1) }
@@ -33,25 +66,28 @@ impl<'a> Raw<'a> {
         match self.bytes {
             [] => None,
             [byte, rest @ ..] => {
-                if !is_release(self.release, *byte) {
-                    return Some((
-                        *byte,
-                        Raw {
-                            bytes: rest,
-                            release: self.release,
-                        },
-                    ));
+                if is_release(self.release, *byte) {
+                    return match rest {
+                        [] => None,
+                        [byte, rest @ ..] => Some((
+                            *byte,
+                            Raw {
+                                bytes: rest,
+                                ..self
+                            },
+                        )),
+                    };
                 }
-                match rest {
-                    [] => None,
-                    [byte, rest @ ..] => Some((
-                        *byte,
-                        Raw {
-                            bytes: rest,
-                            release: self.release,
-                        },
-                    )),
+                if self.is_end(*byte) {
+                    return None;
                 }
+                Some((
+                    *byte,
+                    Raw {
+                        bytes: rest,
+                        ..self
+                    },
+                ))
             }
         }
     }

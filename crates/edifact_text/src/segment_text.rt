@@ -1,5 +1,5 @@
 //! A segment where it stands in the text, and what is asked of any segment.
-ghost use Rattle.std.specs.Prelude.{◌≡◌, ◌≤◌, length};
+ghost use Rattle.std.specs.Prelude.{◌≡◌, ◌≤◌, length, []};
 ghost use Rattle.std.specs.List.{list_any};
 ghost use Rattle.edifact_text.specs.Rows.{is_text, is_number, count_of};
 ghost use Rattle.edifact_text.specs.Pieces.{pieces};
@@ -7,9 +7,10 @@ ghost use Rattle.edifact_text.specs.Reading.{row};
 ghost use Rattle.edifact_text.specs.Stages.{part, whole, is_long, is_too_large};
 ghost use Rattle.edifact_text.specs.Views.{meant, seen};
 
+use crate::components::{component_of, split_tag};
 use crate::faults::{EdiCode, EdiFault};
 use crate::numbers::count;
-use crate::pieces::{are_at_most, cut, piece};
+use crate::pieces::{are_at_most, cut};
 use crate::raw::Raw;
 use crate::service::Service;
 
@@ -23,16 +24,10 @@ pub(crate) struct SegmentText<'a> {
 
 impl<'a> SegmentText<'a> {
     /// Component `j` of element `i`, or nothing where there is none.
-    #[tactic(auto, unfolding(crate::specs::Stages::part))]
     pub(crate) fn component(self, i: usize, j: usize) -> Raw<'a>
         ensures { meant result ≡ part self.entry.service self.entry.bytes.now i j }
     {
-        let service = self.service;
-        let element = piece(self.bytes, service.release, service.element, i);
-        Raw::new(
-            piece(element, service.release, service.component, j),
-            service.release,
-        )
+        component_of(self.bytes, self.service, i, j)
     }
 
     /// Component `j` of element `i` has this literal.
@@ -76,6 +71,16 @@ impl<'a> SegmentText<'a> {
         }
     }
 
+    /// Its tag is empty.
+    fn is_without_tag(self) -> bool
+        ensures { result ≡ is_text (part self.entry.service self.entry.bytes.now 0 0) [] }
+    {
+        match split_tag(self.bytes, self.service) {
+            Some(_) => false,
+            None => self.has(0, 0, b""),
+        }
+    }
+
     /// It has more than 64 elements, or an element more than 64 components.
     #[tactic(auto, using(crate::proofs::ShortLemmas::never_large))]
     fn is_too_large(self) -> bool
@@ -115,7 +120,7 @@ impl<'a> SegmentText<'a> {
     pub(crate) fn check(self) -> Result<(), EdiFault>
         ensures { result ≡ whole self.entry.service (seen self.entry) }
     {
-        self.fault(self.has(0, 0, b""), EdiCode::EmptySegment)?;
+        self.fault(self.is_without_tag(), EdiCode::EmptySegment)?;
         self.fault(self.is_too_large(), EdiCode::TooManyElements)
     }
 }

@@ -1,13 +1,13 @@
 //! What a caller reads of a message.
-ghost use Rattle.std.specs.Prelude.{◌≡◌};
+ghost use Rattle.std.specs.Prelude.{◌≡◌, IfSome};
 ghost use Rattle.std.specs.Iterator.{YieldsFirstBy, item_count};
 ghost use Rattle.edifact_text.specs.Interchange.{component};
-ghost use Rattle.edifact_text.specs.Views.{meant, message_view, numbered_view, left_of};
+ghost use Rattle.edifact_text.specs.Views.{letters_of, meant, message_view, numbered_view, left_of};
 
-use crate::elements::Elements;
+use crate::components::{component_of, split_tag};
 use crate::message::{Message, Segment, Segments};
-use crate::pieces::piece;
 use crate::raw::Raw;
+use crate::tag::Tag;
 
 impl<'a> Message<'a> {
     /// The segments behind the message header and before the message trailer, numbered from 2.
@@ -47,16 +47,24 @@ impl<'a> Segment<'a> {
         self.component(0, 0)
     }
 
+    /// The tag where it is three ordinary bytes before an element separator, as nearly every tag is. Nothing is said of another:
+    /// that is what [`Segment::tag`] is for.
+    #[tactic(auto, using(crate::proofs::ReadingLemmas::part_is), unfolding(crate::specs::Views::numbered_view))]
+    pub fn plain_tag(&self) -> Option<Tag>
+        ensures { IfSome result (λ tag. component (numbered_view self.now).parts 0 0 ≡ letters_of tag) }
+    {
+        match split_tag(self.bytes, self.service) {
+            Some((tag, _)) => Some(tag),
+            None => None,
+        }
+    }
+
     /// Component `j` of element `i`, both counted from 0. It is empty where the segment has no such element or component.
+    #[tactic(auto, using(crate::proofs::ReadingLemmas::part_is), unfolding(crate::specs::Views::numbered_view))]
     pub fn component(&self, i: usize, j: usize) -> Raw<'a>
         ensures { meant result ≡ component (numbered_view self.now).parts i j }
     {
-        let service = self.service;
-        let element = self.elements.get(service, i);
-        Raw::new(
-            piece(element, service.release, service.component, j),
-            service.release,
-        )
+        component_of(self.bytes, self.service, i, j)
     }
 }
 
@@ -78,7 +86,7 @@ impl<'a> Iterator for Segments<'a> {
         self.count -= 1;
         self.first += 1;
         Some(Segment {
-            elements: Elements::of(text.bytes, text.service),
+            bytes: text.bytes,
             service: text.service,
             number,
         })

@@ -7,3 +7,10 @@ pub(crate) struct Service {
     pub(crate) release: Option<u8>,
     pub(crate) terminator: u8,
 }
+
+/// The separators at either of which a component ends.
+#[derive(Clone, Copy)]
+pub(crate) struct Ends {
+    pub(crate) element: u8,
+    pub(crate) component: u8,
+}
