@@ -1,6 +1,7 @@
-ghost use Rattle.std.specs.Prelude.{◌≡◌, ◌≢◌, Ok, Err, IfErr, OnOk};
+ghost use Rattle.std.specs.Prelude.{◌≡◌, ◌≢◌, Ok, Err, IfErr, OnOk, ◌∷◌, [], codes, if◌then◌else◌};
 ghost use Rattle.std.specs.Str.{bytes_eq};
-ghost use Rattle.edifact_text.specs.Views.{meant, numbered_view};
+ghost use Rattle.edifact_text.specs.Interchange.{component};
+ghost use Rattle.edifact_text.specs.Views.{letters_of, meant, numbered_view};
 ghost use Rattle.stow_messages.specs.Entries.{IsFaultOf, cell_at, fault_at, id_at, id_of, kg_at, item_of, with_entry};
 ghost use Rattle.stow_messages.specs.Groups.{found_at, names_a_container, with_segment};
 ghost use Rattle.stow_messages.specs.Kinds.{has, kind_of, measurement_of};
@@ -10,7 +11,7 @@ use crate::faults::{NO_MEMORY, StowCode, StowFault};
 use crate::items::Item;
 use crate::weights::kilograms;
 use arrayvec::ArrayVec;
-use edifact_text::{Raw, Segment};
+use edifact_text::{Raw, Segment, Tag};
 use units_core::{Cell, Kg};
 
 /// What counts of a group of segments: the location of the cell that begins it, and the first container,
@@ -56,16 +57,51 @@ fn reads(component: Raw<'_>, text: &[u8]) -> bool
     component.is(text)
 }
 
+/// The tag is these letters.
+#[tactic(auto, using(crate::proofs::Texts::told))]
+fn is_tag(tag: Tag, first: u8, second: u8, third: u8) -> bool
+    ensures { result ≡ bytes_eq (letters_of tag) (first ∷ second ∷ third ∷ []) }
+{
+    tag.is(first, second, third)
+}
+
+/// What a segment of three ordinary letters is, where that asks for it by its qualifier.
+fn kind_under(tag: Tag, segment: &Segment<'_>) -> SegmentKind
+    requires { component (numbered_view segment.now).parts 0 0 ≡ letters_of tag }
+    ensures { result ≡ kind_of (numbered_view segment.now) }
+{
+    if is_tag(tag, b'L', b'O', b'C') {
+        return location_of(segment);
+    }
+    if is_tag(tag, b'H', b'A', b'N') {
+        return SegmentKind::Handling;
+    }
+    if is_tag(tag, b'E', b'Q', b'D') {
+        return SegmentKind::Equipment;
+    }
+    if is_tag(tag, b'M', b'E', b'A') {
+        return measurement_of(segment);
+    }
+    SegmentKind::Other
+}
+
 /// What the segment is, by its tag and, where that asks for it, by its qualifier.
 pub fn kind_of(segment: &Segment<'_>) -> SegmentKind
     ensures { result ≡ kind_of (numbered_view segment.now) }
 {
+    match segment.plain_tag() {
+        Some(tag) => kind_under(tag, segment),
+        None => kind_spelt(segment),
+    }
+}
+
+/// The same, by the tag's literal.
+fn kind_spelt(segment: &Segment<'_>) -> SegmentKind
+    ensures { result ≡ kind_of (numbered_view segment.now) }
+{
     let tag = segment.tag();
     if reads(tag, b"LOC") {
-        if has(segment, 1, 0, b"147") {
-            return SegmentKind::Location;
-        }
-        return SegmentKind::Other;
+        return location_of(segment);
     }
     if reads(tag, b"HAN") {
         return SegmentKind::Handling;
@@ -77,6 +113,18 @@ pub fn kind_of(segment: &Segment<'_>) -> SegmentKind
         return measurement_of(segment);
     }
     SegmentKind::Other
+}
+
+/// What a location is, by its qualifier.
+fn location_of(segment: &Segment<'_>) -> SegmentKind
+    ensures { result ≡ (if has (numbered_view segment.now) 1 0 (codes "147")
+        then SegmentKind.Location else SegmentKind.Other) }
+{
+    if has(segment, 1, 0, b"147") {
+        SegmentKind::Location
+    } else {
+        SegmentKind::Other
+    }
 }
 
 /// What a measurement is, by its qualifier.
