@@ -1,5 +1,8 @@
 -- Bytes that are neither the separator nor the release character are passed over.
 use Rattle.std.proofs.Common.{◌≡◌, ℕ, zero, suc, ◌+◌, ◌<◌, ◌≤◌, List, [], ◌∷◌, Option, Some, None, Bool, true, false, refl, sym, ap, option_map, length, drop, get_or, arith, nat_eq, ◌==◌}
+use Rattle.std.proofs.Common.{take, subst, drop-cons, ◌∙◌}
+use Rattle.std.proofs.lemmas.List.{get_or-take, length-take-le}
+use Rattle.std.proofs.lemmas.Grind.{common_steps}
 use Rattle.memchr.specs.Find.{IsFirstByte, Nowhere, Passes, is_byte2}
 use Rattle.edifact_text.specs.Characters.{is_release}
 use Rattle.edifact_text.specs.Pieces.{end_from}
@@ -56,3 +59,31 @@ pub up_to_end : (r : Option ℕ) (sep other : ℕ) (xs : List ℕ) (o : Option �
     end_from r sep false xs ≡ option_map (λ k. length xs + k) (end_from r sep false (drop (length xs) xs))
 up_to_end r sep other xs None is e h = none_passes r sep (length xs) 0 xs (omega arith) (rw is at h)
 up_to_end r sep other xs (Some n) is e h = cc
+
+-- The same of the first place in so many bytes in front.
+pub near_within : (test : ℕ → Bool) (at n : ℕ) (xs : List ℕ) (o : Option ℕ) → o ≡ Some at → n ≤ length xs → IsFirstByte test (take n xs) o →
+    at < length xs
+near_within test at n xs None e fits h = cc
+near_within test at n xs (Some m) e fits h =
+    let s : m ≡ at = cc in
+    omega (arith, s, h.0.high, length-take-le n xs fits, fits)
+
+pub up_to_near : (r : Option ℕ) (sep other at n : ℕ) (xs : List ℕ) (o : Option ℕ) → other ≡ other_of r sep → o ≡ Some at → n ≤ length xs →
+    IsFirstByte (is_byte2 sep other) (take n xs) o → end_from r sep false xs ≡ option_map (λ k. at + k) (end_from r sep false (drop at xs))
+up_to_near r sep other at n xs None is e fits h = cc
+up_to_near r sep other at n xs (Some m) is e fits h =
+    let s : m ≡ at = cc in
+    let k = rw is at h in
+    let here : m < n = omega (arith, k.0.high, length-take-le n xs fits) in
+    rw (← s) (passed_over r sep m xs (omega (arith, here, fits))
+    (λ j less. quiet_byte r sep (get_or xs j 0) (not_true _ (subst (λ b. ¬ (is_byte2 sep (other_of r sep) b ≡ true)) (get_or-take n xs j 0 (omega (arith, here, less)))
+    (k.0.before j (omega arith) less)))))
+
+-- A separator behind bytes that are passed over.
+pub ends_at : (r : Option ℕ) (sep at : ℕ) (xs : List ℕ) → at < length xs → get_or xs at 0 ≡ sep → is_release r sep ≡ false →
+    end_from r sep false xs ≡ option_map (λ k. at + k) (end_from r sep false (drop at xs)) → end_from r sep false xs ≡ Some at
+ends_at r sep at xs here is off passed =
+    let same : nat_eq sep sep ≡ true = grind (arith, common_steps) in
+    let e : end_from r sep false (drop at xs) ≡ Some 0 = rw (drop-cons xs at 0, is, off, same) refl in
+    let f : at + 0 ≡ at = omega arith in
+    passed ∙ ap (option_map (λ k. at + k)) e ∙ ap (λ k. Some k) f

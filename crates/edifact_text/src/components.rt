@@ -11,6 +11,7 @@ use crate::service::Service;
 use crate::tag::Tag;
 
 /// The byte is a service character.
+#[inline(always)]
 fn is_service(service: Service, byte: u8) -> bool
     ensures { result ≡ is_service service byte }
 {
@@ -22,6 +23,7 @@ fn is_service(service: Service, byte: u8) -> bool
 
 /// The tag of a segment and the elements behind it, where the tag is three ordinary bytes and an element separator. Nearly
 /// every segment begins so, and for the others nothing is said.
+#[inline(always)]
 #[tactic(auto, using(crate::proofs::TagLemmas::tag_part))]
 pub(crate) fn split_tag(bytes: &[u8], service: Service) -> Option<(Tag, &[u8])>
     ensures elements { IfSome result (λ p. pieces service.release service.element bytes.now
@@ -48,6 +50,7 @@ pub(crate) fn split_tag(bytes: &[u8], service: Service) -> Option<(Tag, &[u8])>
 }
 
 /// The bytes of a segment from the element of this index on, or nothing past the last.
+#[inline(always)]
 fn from_element(bytes: &[u8], service: Service, index: usize) -> Option<&[u8]>
     ensures { MatchOption result (element_bytes service bytes.now index ≡ [])
         (λ rest. element_bytes service bytes.now index ≡ element_bytes service rest.now 0) }

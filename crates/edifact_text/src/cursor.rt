@@ -21,6 +21,7 @@ impl<'a> Cursor<'a> {
     ghost use Rattle.edifact_text.specs.Views.{ahead, seen};
 
     /// What stands before the next terminator, and what is behind that; without one, all that is left.
+    #[inline(always)]
     pub(crate) fn take(self) -> (SegmentText<'a>, Option<Cursor<'a>>)
         ensures first { MatchOption result.1 (ahead self.entry ≡ seen result.0 ∷ [])
             (λ rest. (ahead self.entry ≡ seen result.0 ∷ ahead rest) × (0 < length (ahead rest))) }
@@ -52,6 +53,7 @@ impl<'a> Cursor<'a> {
     }
 
     /// The next segment that has a terminator, and what is behind it.
+    #[inline(always)]
     pub(crate) fn split_first(self) -> Option<(SegmentText<'a>, Cursor<'a>)>
         ensures first { MatchOption result (ended_ones (ahead self.entry) ≡ [])
             (λ p. ended_ones (ahead self.entry) ≡ seen p.0 ∷ ended_ones (ahead p.1)) }
@@ -63,6 +65,7 @@ impl<'a> Cursor<'a> {
     }
 
     /// The next segment, checked as any segment is, and what is behind it.
+    #[inline(always)]
     pub(crate) fn next(self) -> Result<(SegmentText<'a>, Cursor<'a>), EdiFault>
         ensures next { MatchResult result
             (λ p. next_of self.entry.service self.entry.len (ahead self.entry)

@@ -7,6 +7,7 @@ ghost use Rattle.edifact_text.specs.Reading.{trimmed};
 use memchr::memchr2;
 
 /// The byte is the release character.
+#[inline(always)]
 pub(crate) fn is_release(release: Option<u8>, byte: u8) -> bool
     ensures { result ≡ is_release release byte }
 {
@@ -35,6 +36,7 @@ pub(crate) fn end_of(bytes: &[u8], release: Option<u8>, separator: u8) -> Option
 }
 
 /// How many bytes in front neither cut nor release. They are passed over by vectors.
+#[inline(never)]
 fn quiet_length(bytes: &[u8], release: Option<u8>, separator: u8) -> usize
     ensures quiet { end_from release separator false bytes.now ≡ option_map
         (λ n. result + n) (end_from release separator false (drop result bytes.now)) }
@@ -50,9 +52,45 @@ fn quiet_length(bytes: &[u8], release: Option<u8>, separator: u8) -> usize
     }
 }
 
+/// How many bytes in front neither cut nor release, or fewer: one vector is looked at, where there is so much.
+#[inline(always)]
+fn near_length(bytes: &[u8], release: Option<u8>, separator: u8) -> Option<usize>
+    ensures quiet { IfSome result (λ n. end_from release separator false bytes.now ≡ option_map
+        (λ k. n + k) (end_from release separator false (drop n bytes.now))) }
+    ensures within { IfSome result (λ n. n < length bytes.now) }
+{
+    if bytes.len() < 32 {
+        return None;
+    }
+    let other = match release {
+        Some(other) => other,
+        None => separator,
+    };
+    match memchr2(separator, other, &bytes[..32]) {
+        Some(at) => Some(at),
+        None => None,
+    }
+}
+
 /// The index of the first separator that cuts, where it may stand far off. Only from a release character on is each byte
 /// looked at.
+#[inline(always)]
+#[tactic(auto, using(crate::proofs::FarLemmas::ends_at))]
 pub(crate) fn far_end_of(bytes: &[u8], release: Option<u8>, separator: u8) -> Option<usize>
+    ensures value { result ≡ end_from release separator false bytes.now }
+    ensures within { IfSome result (λ n. n < length bytes.now) }
+{
+    if let Some(start) = near_length(bytes, release, separator) {
+        if bytes[start] == separator && !is_release(release, separator) {
+            return Some(start);
+        }
+    }
+    end_behind(bytes, release, separator)
+}
+
+/// The same, without a look at the nearest bytes first.
+#[inline(never)]
+fn end_behind(bytes: &[u8], release: Option<u8>, separator: u8) -> Option<usize>
     ensures value { result ≡ end_from release separator false bytes.now }
     ensures within { IfSome result (λ n. n < length bytes.now) }
 {
@@ -64,6 +102,7 @@ pub(crate) fn far_end_of(bytes: &[u8], release: Option<u8>, separator: u8) -> Op
 }
 
 /// The bytes before this end, and those behind the separator that stands there; all of them where there is none.
+#[inline(always)]
 fn parted(
     bytes: &[u8],
     release: Option<u8>,
@@ -104,6 +143,7 @@ pub(crate) fn cut(bytes: &[u8], release: Option<u8>, separator: u8) -> (&[u8], O
 }
 
 /// The same, where the separator may stand far off.
+#[inline(always)]
 pub(crate) fn far_cut(bytes: &[u8], release: Option<u8>, separator: u8) -> (&[u8], Option<&[u8]>)
     ensures first { MatchOption result.1 (pieces release separator bytes.now ≡ result.0.now ∷ [])
         (λ rest. pieces release separator bytes.now
@@ -157,6 +197,7 @@ pub(crate) fn are_at_most(bytes: &[u8], release: Option<u8>, separator: u8, most
 }
 
 /// Carriage return, line feed, tab or space.
+#[inline(always)]
 pub(crate) fn is_blank(byte: u8) -> bool
     ensures { result ≡ is_blank byte }
 {
@@ -164,6 +205,7 @@ pub(crate) fn is_blank(byte: u8) -> bool
 }
 
 /// The bytes from the first that is no blank.
+#[inline(always)]
 pub(crate) fn skip_blanks(bytes: &[u8]) -> &[u8]
     ensures value { result.now ≡ trimmed bytes.now }
     ensures less { length result.now ≤ length bytes.now }

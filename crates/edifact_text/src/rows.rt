@@ -18,6 +18,7 @@ pub(crate) struct Trailers {
 
 impl SegmentText<'_> {
     /// Whether it is a trailer. The tag is looked for once.
+    #[inline(always)]
     pub(crate) fn trailers(self) -> Trailers
         ensures message { result.message
             ≡ is_text (part self.entry.service self.entry.bytes.now 0 0) (codes "UNT") }

@@ -47,6 +47,7 @@ impl<'a> SegmentText<'a> {
     }
 
     /// The fault at this segment, where it applies.
+    #[inline(always)]
     pub(crate) fn fault(self, applies: bool, code: EdiCode) -> Result<(), EdiFault>
         ensures { result ≡ row applies code self.entry.place }
     {
@@ -72,6 +73,7 @@ impl<'a> SegmentText<'a> {
     }
 
     /// Its tag is empty.
+    #[inline(always)]
     fn is_without_tag(self) -> bool
         ensures { result ≡ is_text (part self.entry.service self.entry.bytes.now 0 0) [] }
     {
@@ -82,6 +84,7 @@ impl<'a> SegmentText<'a> {
     }
 
     /// It has more than 64 elements, or an element more than 64 components.
+    #[inline(always)]
     #[tactic(auto, using(crate::proofs::ShortLemmas::never_large))]
     fn is_too_large(self) -> bool
         ensures { result ≡ is_too_large self.entry.service self.entry.bytes.now }
@@ -90,6 +93,14 @@ impl<'a> SegmentText<'a> {
         if self.bytes.len() < 64 {
             return false;
         }
+        self.is_seen_too_large()
+    }
+
+    /// The same, by counting.
+    #[inline(never)]
+    fn is_seen_too_large(self) -> bool
+        ensures { result ≡ is_too_large self.entry.service self.entry.bytes.now }
+    {
         let service = self.service;
         if !are_at_most(self.bytes, service.release, service.element, 64) {
             return true;
@@ -117,6 +128,7 @@ impl<'a> SegmentText<'a> {
     }
 
     /// The rows of any segment.
+    #[inline(always)]
     pub(crate) fn check(self) -> Result<(), EdiFault>
         ensures { result ≡ whole self.entry.service (seen self.entry) }
     {

@@ -34,6 +34,7 @@ impl<'a> Message<'a> {
 impl<'a> Segment<'a> {
     /// The segment's number in its message, the message header being 1.
     #[tactic(auto, unfolding(crate::specs::Views::numbered_view))]
+    #[inline(always)]
     pub fn number(&self) -> u64
         ensures { result ≡ (numbered_view self.now).number }
     {
@@ -49,6 +50,7 @@ impl<'a> Segment<'a> {
 
     /// The tag where it is three ordinary bytes before an element separator, as nearly every tag is. Nothing is said of another:
     /// that is what [`Segment::tag`] is for.
+    #[inline(always)]
     #[tactic(auto, using(crate::proofs::ReadingLemmas::part_is), unfolding(crate::specs::Views::numbered_view))]
     pub fn plain_tag(&self) -> Option<Tag>
         ensures { IfSome result (λ tag. component (numbered_view self.now).parts 0 0 ≡ letters_of tag) }
@@ -75,6 +77,7 @@ impl<'a> Iterator for Segments<'a> {
 
     ghost remaining = { item_count left_of };
 
+    #[inline(always)]
     #[tactic(auto, unfolding(crate::specs::Views::numbered_view, crate::specs::Views::left_of, crate::specs::Reading::segment_of))]
     fn next(&mut self) -> Option<Segment<'a>> {
         if self.count == 0 {

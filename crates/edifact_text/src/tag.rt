@@ -13,6 +13,7 @@ impl Tag {
     ghost use Rattle.edifact_text.specs.Views.{letters_of};
 
     /// The tag is these letters.
+    #[inline(always)]
     pub fn is(self, first: u8, second: u8, third: u8) -> bool
         ensures { IsTrue result ↔ (letters_of self ≡ first ∷ second ∷ third ∷ []) }
     {
@@ -20,6 +21,7 @@ impl Tag {
     }
 
     /// The same, for definitions that compute.
+    #[inline(always)]
     pub(crate) fn reads(self, first: u8, second: u8, third: u8) -> bool
         ensures { result ≡ is_text (letters_of self) (first ∷ second ∷ third ∷ []) }
     {

@@ -58,6 +58,7 @@ fn reads(component: Raw<'_>, text: &[u8]) -> bool
 }
 
 /// The tag is these letters.
+#[inline(always)]
 #[tactic(auto, using(crate::proofs::Texts::told))]
 fn is_tag(tag: Tag, first: u8, second: u8, third: u8) -> bool
     ensures { result ≡ bytes_eq (letters_of tag) (first ∷ second ∷ third ∷ []) }
@@ -66,6 +67,7 @@ fn is_tag(tag: Tag, first: u8, second: u8, third: u8) -> bool
 }
 
 /// What a segment of three ordinary letters is, where that asks for it by its qualifier.
+#[inline(always)]
 fn kind_under(tag: Tag, segment: &Segment<'_>) -> SegmentKind
     requires { component (numbered_view segment.now).parts 0 0 ≡ letters_of tag }
     ensures { result ≡ kind_of (numbered_view segment.now) }
@@ -86,6 +88,7 @@ fn kind_under(tag: Tag, segment: &Segment<'_>) -> SegmentKind
 }
 
 /// What the segment is, by its tag and, where that asks for it, by its qualifier.
+#[inline(always)]
 pub fn kind_of(segment: &Segment<'_>) -> SegmentKind
     ensures { result ≡ kind_of (numbered_view segment.now) }
 {
@@ -96,6 +99,7 @@ pub fn kind_of(segment: &Segment<'_>) -> SegmentKind
 }
 
 /// The same, by the tag's literal.
+#[inline(never)]
 fn kind_spelt(segment: &Segment<'_>) -> SegmentKind
     ensures { result ≡ kind_of (numbered_view segment.now) }
 {
