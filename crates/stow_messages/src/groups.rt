@@ -234,6 +234,7 @@ impl<'a> Group<'a> {
     }
 
     /// Takes one more segment of this kind into the group: the first of each kind counts.
+    #[inline(always)]
     pub fn note(&mut self, kind: SegmentKind, segment: &Segment<'a>)
         requires { kind ≡ kind_of (numbered_view segment.now) }
         ensures { found_view self.new

@@ -1,10 +1,9 @@
-ghost use Rattle.std.specs.Prelude.{◌≡◌, [], ◌∷◌, List, Some, None, true, false, option_map, MatchOption};
+ghost use Rattle.std.specs.Prelude.{◌≡◌, ◌∷◌, None, [], MatchOption, true, ◌&&◌, ◌||◌};
 ghost use Rattle.std.specs.Iterator.{YieldsFirstBy, item_count};
-ghost use Rattle.edifact_text.specs.Interchange.{Numbered};
 ghost use Rattle.edifact_text.specs.Views.{numbered_view, left_of};
-ghost use Rattle.stow_messages.specs.Groups.{begins, part_with_segment, part_at, parts_of};
+ghost use Rattle.stow_messages.specs.Groups.{begins, found_in, parts_of, until_part};
 ghost use Rattle.stow_messages.specs.Kinds.{kind_of};
-ghost use Rattle.stow_messages.specs.Views.{begun_view, part_view, parts_before, parts_left};
+ghost use Rattle.stow_messages.specs.Views.{found_view, part_view, parts_left, segments_left};
 
 use crate::groups::{Group, SegmentKind, kind_of};
 use edifact_text::{Segment, Segments};
@@ -23,7 +22,8 @@ pub enum Part<'a> {
 #[derive(Clone, Copy)]
 pub struct Parts<'a> {
     left: Segments<'a>,
-    begun: Option<Part<'a>>,
+    /// The segment before those, where it was taken to see that a group ends there.
+    ahead: Option<Segment<'a>>,
     handles: bool,
 }
 
@@ -34,57 +34,57 @@ impl<'a> Parts<'a> {
     {
         Parts {
             left: segments,
-            begun: None,
+            ahead: None,
             handles,
         }
     }
 
-    /// The part that a segment of this kind begins, if it begins one.
-    fn begun_by(&self, kind: SegmentKind, segment: &Segment<'a>) -> Option<Part<'a>>
+    /// The next segment.
+    #[inline(always)]
+    fn next_segment(&mut self) -> Option<Segment<'a>>
+        ensures segment { MatchOption result ((segments_left self.old ≡ []) × (segments_left self.new ≡ []))
+            (λ s. segments_left self.old ≡ numbered_view s ∷ segments_left self.new) }
+        ensures same { (self.new.handles ≡ self.old.handles) × (self.new.ahead ≡ None) }
+    {
+        match self.ahead {
+            Some(segment) => {
+                self.ahead = None;
+                Some(segment)
+            }
+            None => self.left.next(),
+        }
+    }
+
+    /// A segment of this kind begins a part.
+    #[inline(always)]
+    fn is_begun_by(&self, kind: SegmentKind, segment: &Segment<'a>) -> bool
         requires { kind ≡ kind_of (numbered_view segment.now) }
-        ensures { MatchOption result (begins self.now.handles (numbered_view segment.now) ≡ false)
-            (λ part. (begins self.now.handles (numbered_view segment.now) ≡ true)
-            × (part_view part ≡ part_at (numbered_view segment.now) [])) }
+        ensures { result ≡ begins self.now.handles (numbered_view segment.now) }
     {
         match kind {
-            SegmentKind::Location => Some(Part::Located(Group::at(segment))),
-            SegmentKind::Handling if self.handles => Some(Part::Handled(*segment)),
-            _ => None,
+            SegmentKind::Location => true,
+            SegmentKind::Handling => self.handles,
+            _ => false,
         }
     }
 
-    /// Takes one more segment, and gives the part that it completes, if it does.
-    fn advance(&mut self, segment: &Segment<'a>) -> Option<Part<'a>>
-        ensures left { (self.new.left ≡ self.old.left) × (self.new.handles ≡ self.old.handles) }
-        ensures parts { (rest : List Numbered) → MatchOption result
-            (parts_before self.old (numbered_view segment.now ∷ rest) ≡ parts_before self.new rest)
-            (λ part. parts_before self.old (numbered_view segment.now ∷ rest)
-            ≡ part_view part ∷ parts_before self.new rest) }
+    /// The group that a location begins. It is filled where it stands, and what ends it is left.
+    fn group_at(&mut self, location: &Segment<'a>) -> Group<'a>
+        requires { self.old.ahead ≡ None }
+        ensures found { found_view result ≡ found_in (numbered_view location.now)
+            (until_part self.old.handles (left_of self.old.left)) }
+        ensures left { parts_left self.new ≡ parts_of self.old.handles (left_of self.old.left) }
     {
-        let kind = kind_of(segment);
-        match self.begun_by(kind, segment) {
-            Some(part) => {
-                let complete = self.begun;
-                self.begun = Some(part);
-                complete
+        let mut group = Group::at(location);
+        while let Some(segment) = self.left.next() {
+            let kind = kind_of(&segment);
+            if self.is_begun_by(kind, &segment) {
+                self.ahead = Some(segment);
+                return group;
             }
-            None => {
-                self.note(kind, segment);
-                None
-            }
+            group.note(kind, &segment);
         }
-    }
-
-    /// Takes a segment that begins no part into the one that was begun.
-    fn note(&mut self, kind: SegmentKind, segment: &Segment<'a>)
-        requires { kind ≡ kind_of (numbered_view segment.now) }
-        ensures left { (self.new.left ≡ self.old.left) × (self.new.handles ≡ self.old.handles) }
-        ensures begun { begun_view self.new ≡ option_map
-            (λ p. part_with_segment p (numbered_view segment.now)) (begun_view self.old) }
-    {
-        if let Some(Part::Located(group)) = &mut self.begun {
-            group.note(kind, segment);
-        }
+        group
     }
 }
 
@@ -96,13 +96,13 @@ impl<'a> Iterator for Parts<'a> {
     ghost remaining = { item_count parts_left };
 
     fn next(&mut self) -> Option<Part<'a>> {
-        while let Some(segment) = self.left.next() {
-            if let Some(complete) = self.advance(&segment) {
-                return Some(complete);
+        while let Some(segment) = self.next_segment() {
+            match kind_of(&segment) {
+                SegmentKind::Location => return Some(Part::Located(self.group_at(&segment))),
+                SegmentKind::Handling if self.handles => return Some(Part::Handled(segment)),
+                _ => {}
             }
         }
-        let last = self.begun;
-        self.begun = None;
-        last
+        None
     }
 }
