@@ -1,8 +1,9 @@
 //! The components of a segment, found where they are asked for.
-ghost use Rattle.std.specs.Prelude.{◌≡◌, ◌∷◌, [], IfSome, MatchOption, slice_index_or};
-ghost use Rattle.edifact_text.specs.Pieces.{pieces};
+ghost use Rattle.std.specs.Prelude.{◌≡◌, ◌∷◌, [], IfSome, drop, slice_index_or, take, true};
+ghost use Rattle.edifact_text.specs.Pieces.{literal, pieces};
+ghost use Rattle.edifact_text.specs.Reading.{segment_of};
 ghost use Rattle.edifact_text.specs.Spelling.{is_service};
-ghost use Rattle.edifact_text.specs.Stages.{element_bytes, part};
+ghost use Rattle.edifact_text.specs.Stages.{part};
 ghost use Rattle.edifact_text.specs.Views.{letters_of, meant};
 
 use crate::pieces::{cut, from_piece, is_release};
@@ -21,55 +22,53 @@ fn is_service(service: Service, byte: u8) -> bool
         || byte == service.terminator
 }
 
-/// The tag of a segment and the elements behind it, where the tag is three ordinary bytes and an element separator. Nearly
+/// The tag of a segment, where that begins with three ordinary bytes and an element separator. Nearly
 /// every segment begins so, and for the others nothing is said.
 #[inline(always)]
-#[tactic(auto, using(crate::proofs::TagLemmas::tag_part))]
-pub(crate) fn split_tag(bytes: &[u8], service: Service) -> Option<(Tag, &[u8])>
-    ensures elements { IfSome result (λ p. pieces service.release service.element bytes.now
-        ≡ letters_of p.0 ∷ pieces service.release service.element p.1.now) }
-    ensures tag { IfSome result (λ p. part service bytes.now 0 0 ≡ letters_of p.0) }
+#[tactic(auto, using(crate::proofs::TagLemmas::tag_part, crate::proofs::TagLemmas::tag_parts))]
+pub(crate) fn plain_tag(bytes: &[u8], service: Service) -> Option<Tag>
+    ensures tag { IfSome result (λ tag. part service bytes.now 0 0 ≡ letters_of tag) }
+    ensures parts { IfSome result (λ _. segment_of service bytes.now
+        ≡ (take 3 bytes.now ∷ []) ∷ segment_of service (drop 4 bytes.now)) }
 {
     match bytes {
-        [a, b, c, d, rest @ ..] => {
+        [a, b, c, d, ..] => {
             if is_service(service, *a) || is_service(service, *b) || is_service(service, *c) {
                 return None;
             }
             if is_release(service.release, *d) || *d != service.element {
                 return None;
             }
-            let tag = Tag {
+            Some(Tag {
                 first: *a,
                 second: *b,
                 third: *c,
-            };
-            Some((tag, rest))
+            })
         }
         _ => None,
     }
 }
 
-/// The bytes of a segment from the element of this index on, or nothing past the last.
+/// It was seen that the segment begins with such a tag.
 #[inline(always)]
-fn from_element(bytes: &[u8], service: Service, index: usize) -> Option<&[u8]>
-    ensures { MatchOption result (element_bytes service bytes.now index ≡ [])
-        (λ rest. element_bytes service bytes.now index ≡ element_bytes service rest.now 0) }
+pub(crate) fn is_plain(bytes: &[u8], service: Service) -> bool
+    ensures { result ≡ true → segment_of service bytes.now
+        ≡ (take 3 bytes.now ∷ []) ∷ segment_of service (drop 4 bytes.now) }
 {
-    if index > 0 {
-        if let Some((_, behind)) = split_tag(bytes, service) {
-            return from_piece(behind, service.release, service.element, index - 1);
-        }
+    match plain_tag(bytes, service) {
+        Some(_) => true,
+        None => false,
     }
-    from_piece(bytes, service.release, service.element, index)
 }
 
 /// Component `j` of element `i` of a segment, or nothing where there is none. The first of an element isn't cut: where it ends
 /// is seen when it is read.
+#[inline(always)]
 #[tactic(auto, unfolding(crate::specs::Stages::part))]
 pub(crate) fn component_of(bytes: &[u8], service: Service, i: usize, j: usize) -> Raw<'_>
     ensures { meant result ≡ part service bytes.now i j }
 {
-    let rest = match from_element(bytes, service, i) {
+    let rest = match from_piece(bytes, service.release, service.element, i) {
         Some(rest) => rest,
         None => return Raw::new(&[], service.release),
     };
@@ -77,6 +76,15 @@ pub(crate) fn component_of(bytes: &[u8], service: Service, i: usize, j: usize) -
         return Raw::leading(rest, service);
     }
     let element = cut(rest, service.release, service.element).0;
+    inner_of(element, service, j)
+}
+
+/// Component `j` of an element, or nothing where there is none.
+#[inline(never)]
+fn inner_of(element: &[u8], service: Service, j: usize) -> Raw<'_>
+    ensures { meant result ≡ literal service.release
+        (slice_index_or (pieces service.release service.component element.now) j []) }
+{
     match from_piece(element, service.release, service.component, j) {
         Some(rest) => Raw::new(
             cut(rest, service.release, service.component).0,

@@ -1,4 +1,5 @@
-ghost use Rattle.std.specs.Prelude.{◌<◌, ◌+◌, ◌^◌};
+ghost use Rattle.std.specs.Prelude.{◌≡◌, ◌<◌, ◌+◌, ◌^◌, true, ◌∷◌, [], take, drop};
+ghost use Rattle.edifact_text.specs.Reading.{segment_of};
 
 use crate::cursor::Cursor;
 use crate::service::Service;
@@ -17,8 +18,12 @@ pub struct Message<'a> {
 #[derive(Clone, Copy)]
 pub struct Segment<'a> {
     pub(crate) bytes: &'a [u8],
+    /// It was seen to begin with a tag of three ordinary bytes and an element separator.
+    pub(crate) is_plain: bool,
     pub(crate) service: Service,
     pub(crate) number: u64,
+    ghost plain: { is_plain ≡ true → segment_of service bytes.now
+        ≡ (take 3 bytes.now ∷ []) ∷ segment_of service (drop 4 bytes.now) },
 }
 
 /// The segments of a message that are left, in their order.

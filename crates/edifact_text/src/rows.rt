@@ -4,7 +4,7 @@ ghost use Rattle.edifact_text.specs.Rows.{is_text};
 ghost use Rattle.edifact_text.specs.Stages.{unb_rows, unh_rows, unt_rows, unz_rows, is_of_type, part};
 ghost use Rattle.edifact_text.specs.Views.{seen};
 
-use crate::components::split_tag;
+use crate::components::plain_tag;
 use crate::faults::{EdiCode, EdiFault, Kind};
 use crate::numbers::is_one;
 use crate::segment_text::SegmentText;
@@ -25,8 +25,8 @@ impl SegmentText<'_> {
         ensures interchange { result.interchange
             ≡ is_text (part self.entry.service self.entry.bytes.now 0 0) (codes "UNZ") }
     {
-        match split_tag(self.bytes, self.service) {
-            Some((tag, _)) => Trailers {
+        match plain_tag(self.bytes, self.service) {
+            Some(tag) => Trailers {
                 message: tag.reads(b'U', b'N', b'T'),
                 interchange: tag.reads(b'U', b'N', b'Z'),
             },

@@ -7,7 +7,7 @@ ghost use Rattle.edifact_text.specs.Reading.{row};
 ghost use Rattle.edifact_text.specs.Stages.{part, whole, is_long, is_too_large};
 ghost use Rattle.edifact_text.specs.Views.{meant, seen};
 
-use crate::components::{component_of, split_tag};
+use crate::components::{component_of, plain_tag};
 use crate::faults::{EdiCode, EdiFault};
 use crate::numbers::count;
 use crate::pieces::{are_at_most, cut};
@@ -24,6 +24,7 @@ pub(crate) struct SegmentText<'a> {
 
 impl<'a> SegmentText<'a> {
     /// Component `j` of element `i`, or nothing where there is none.
+    #[inline(never)]
     pub(crate) fn component(self, i: usize, j: usize) -> Raw<'a>
         ensures { meant result ≡ part self.entry.service self.entry.bytes.now i j }
     {
@@ -77,7 +78,7 @@ impl<'a> SegmentText<'a> {
     fn is_without_tag(self) -> bool
         ensures { result ≡ is_text (part self.entry.service self.entry.bytes.now 0 0) [] }
     {
-        match split_tag(self.bytes, self.service) {
+        match plain_tag(self.bytes, self.service) {
             Some(_) => false,
             None => self.has(0, 0, b""),
         }

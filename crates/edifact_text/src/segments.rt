@@ -1,10 +1,10 @@
 //! What a caller reads of a message.
-ghost use Rattle.std.specs.Prelude.{◌≡◌, IfSome};
+ghost use Rattle.std.specs.Prelude.{◌≡◌, IfSome, drop};
 ghost use Rattle.std.specs.Iterator.{YieldsFirstBy, item_count};
 ghost use Rattle.edifact_text.specs.Interchange.{component};
 ghost use Rattle.edifact_text.specs.Views.{letters_of, meant, message_view, numbered_view, left_of};
 
-use crate::components::{component_of, split_tag};
+use crate::components::{component_of, is_plain};
 use crate::message::{Message, Segment, Segments};
 use crate::raw::Raw;
 use crate::tag::Tag;
@@ -51,19 +51,50 @@ impl<'a> Segment<'a> {
     /// The tag where it is three ordinary bytes before an element separator, as nearly every tag is. Nothing is said of another:
     /// that is what [`Segment::tag`] is for.
     #[inline(always)]
-    #[tactic(auto, using(crate::proofs::ReadingLemmas::part_is), unfolding(crate::specs::Views::numbered_view))]
+    #[tactic(auto, using(crate::proofs::TagLemmas::three_taken), unfolding(crate::specs::Views::numbered_view, crate::specs::Interchange::component))]
     pub fn plain_tag(&self) -> Option<Tag>
         ensures { IfSome result (λ tag. component (numbered_view self.now).parts 0 0 ≡ letters_of tag) }
     {
-        match split_tag(self.bytes, self.service) {
-            Some((tag, _)) => Some(tag),
-            None => None,
+        if !self.is_plain {
+            return None;
+        }
+        match self.bytes {
+            [a, b, c, ..] => Some(Tag {
+                first: *a,
+                second: *b,
+                third: *c,
+            }),
+            _ => None,
+        }
+    }
+
+    /// What stands behind a plain tag and its separator.
+    #[inline(always)]
+    fn behind_tag(&self) -> &'a [u8]
+        ensures { result.now ≡ drop 4 self.now.bytes.now }
+    {
+        match self.bytes {
+            [_, _, _, _, rest @ ..] => rest,
+            _ => &[],
         }
     }
 
     /// Component `j` of element `i`, both counted from 0. It is empty where the segment has no such element or component.
-    #[tactic(auto, using(crate::proofs::ReadingLemmas::part_is), unfolding(crate::specs::Views::numbered_view))]
+    #[inline(always)]
+    #[tactic(auto, using(crate::proofs::ReadingLemmas::part_is), unfolding(crate::specs::Views::numbered_view, crate::specs::Interchange::component))]
     pub fn component(&self, i: usize, j: usize) -> Raw<'a>
+        ensures { meant result ≡ component (numbered_view self.now).parts i j }
+    {
+        if self.is_plain && i > 0 {
+            return component_of(self.behind_tag(), self.service, i - 1, j);
+        }
+        self.seen_component(i, j)
+    }
+
+    /// The same, from the segment's first byte on.
+    #[inline(never)]
+    #[tactic(auto, using(crate::proofs::ReadingLemmas::part_is), unfolding(crate::specs::Views::numbered_view))]
+    fn seen_component(&self, i: usize, j: usize) -> Raw<'a>
         ensures { meant result ≡ component (numbered_view self.now).parts i j }
     {
         component_of(self.bytes, self.service, i, j)
@@ -90,6 +121,7 @@ impl<'a> Iterator for Segments<'a> {
         self.first += 1;
         Some(Segment {
             bytes: text.bytes,
+            is_plain: is_plain(text.bytes, text.service),
             service: text.service,
             number,
         })
