@@ -94,9 +94,41 @@ impl<'a> Raw<'a> {
         }
     }
 
+    /// The literal as it stands in the text, where no byte of it is released.
+    #[inline(always)]
+    #[tactic(auto, unfolding(crate::specs::Views::meant))]
+    fn unreleased(self) -> Option<&'a [u8]>
+        ensures { IfSome result (λ text. meant self.entry ≡ text.now) }
+    {
+        for (at, byte) in self.bytes.iter().enumerate() {
+            if is_release(self.release, *byte) {
+                return None;
+            }
+            if self.is_end(*byte) {
+                return Some(&self.bytes[..at]);
+            }
+        }
+        Some(self.bytes)
+    }
+
     /// Puts the literal into `out`, in place of what it held. Where it has more than `MOST` bytes the answer is false, and `out`
     /// is empty.
+    #[inline(always)]
     pub fn literal_into<const MOST: usize>(self, out: &mut ArrayVec<u8, MOST>) -> bool
+        ensures fits { IsTrue result ↔ (length (meant self.entry) ≤ MOST) }
+        ensures literal { IsTrue result → out.new.items ≡ meant self.entry }
+        ensures empty { ¬ IsTrue result → out.new.items ≡ [] }
+    {
+        if let Some(text) = self.unreleased() {
+            out.clear();
+            return out.try_extend_from_slice(text).is_ok();
+        }
+        self.spelt_into(out)
+    }
+
+    /// The same, byte by byte.
+    #[inline(never)]
+    fn spelt_into<const MOST: usize>(self, out: &mut ArrayVec<u8, MOST>) -> bool
         ensures fits { IsTrue result ↔ (length (meant self.entry) ≤ MOST) }
         ensures literal { IsTrue result → out.new.items ≡ meant self.entry }
         ensures empty { ¬ IsTrue result → out.new.items ≡ [] }
@@ -135,6 +167,7 @@ impl<'a> Raw<'a> {
     }
 
     /// The literal is this text.
+    #[inline(always)]
     pub fn is(self, text: &[u8]) -> bool
         ensures { IsTrue result ↔ (meant self.entry ≡ text.now) }
     {

@@ -1,6 +1,6 @@
 use Rattle.std.proofs.Common.{◌≡◌, ◌++◌, ◌≤◌, length}
 use Rattle.edifact_text.specs.Views.{meant}
-use Rattle.edifact_text.proofs.raw.Raw.literal_into.Given as goal
+use Rattle.edifact_text.proofs.raw.Raw.spelt_into.Given as goal
 
 abbrev pub invariant-loop-byte : goal.invariant-loop-byte
 invariant-loop-byte g l = record { so_far : meant l.self ≡ l.out.items ++ meant l.left; room : length l.out.items ≤ g.row.MOST }
