@@ -25,6 +25,7 @@ pub struct Group<'a> {
 }
 
 /// Component `j` of element `i` of the segment is this text.
+#[inline(always)]
 #[tactic(auto, using(crate::proofs::Texts::told))]
 pub fn has(segment: &Segment<'_>, i: usize, j: usize, text: &[u8]) -> bool
     ensures { result ≡ has (numbered_view segment.now) i j text.now }
@@ -50,6 +51,7 @@ pub enum SegmentKind {
 }
 
 /// The component is this text.
+#[inline(always)]
 #[tactic(auto, using(crate::proofs::Texts::told))]
 fn reads(component: Raw<'_>, text: &[u8]) -> bool
     ensures { result ≡ bytes_eq (meant component.entry) text.now }

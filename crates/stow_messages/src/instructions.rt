@@ -61,7 +61,8 @@ fn lift_in(
     handling: Option<Handling>,
     mark: u8,
 ) -> Result<Option<Lift>, StowFault>
-    ensures { result ≡ lift_in mark handling (found_view group.now) }
+    ensures value { result ≡ lift_in mark handling (found_view group.now) }
+    ensures memory { IfErr result (λ e. e.code ≢ StowCode.NoMemory) }
 {
     let cell = group.cell()?;
     let handling = match handling {
