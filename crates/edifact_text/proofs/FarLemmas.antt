@@ -1,7 +1,8 @@
 -- Bytes that are neither the separator nor the release character are passed over.
 use Rattle.std.proofs.Common.{◌≡◌, ℕ, zero, suc, ◌+◌, ◌<◌, ◌≤◌, List, [], ◌∷◌, Option, Some, None, Bool, true, false, refl, sym, ap, option_map, length, drop, get_or, arith, nat_eq, ◌==◌}
-use Rattle.std.proofs.Common.{take, subst, drop-cons, ◌∙◌}
-use Rattle.std.proofs.lemmas.List.{get_or-take, length-take-le}
+use Rattle.std.proofs.Common.{take, drop-cons, ◌∙◌, not}
+use Rattle.std.proofs.lemmas.Simd.{run_in_chunk_fails}
+use Rattle.std.specs.List.{prefix_len}
 use Rattle.std.proofs.lemmas.Grind.{common_steps}
 use Rattle.memchr.specs.Find.{IsFirstByte, Nowhere, Passes, is_byte2}
 use Rattle.edifact_text.specs.Characters.{is_release}
@@ -60,24 +61,15 @@ pub up_to_end : (r : Option ℕ) (sep other : ℕ) (xs : List ℕ) (o : Option �
 up_to_end r sep other xs None is e h = none_passes r sep (length xs) 0 xs (omega arith) (rw is at h)
 up_to_end r sep other xs (Some n) is e h = cc
 
--- The same of the first place in so many bytes in front.
-pub near_within : (test : ℕ → Bool) (at n : ℕ) (xs : List ℕ) (o : Option ℕ) → o ≡ Some at → n ≤ length xs → IsFirstByte test (take n xs) o →
-    at < length xs
-near_within test at n xs None e fits h = cc
-near_within test at n xs (Some m) e fits h =
-    let s : m ≡ at = cc in
-    omega (arith, s, h.0.high, length-take-le n xs fits, fits)
-
-pub up_to_near : (r : Option ℕ) (sep other at n : ℕ) (xs : List ℕ) (o : Option ℕ) → other ≡ other_of r sep → o ≡ Some at → n ≤ length xs →
-    IsFirstByte (is_byte2 sep other) (take n xs) o → end_from r sep false xs ≡ option_map (λ k. at + k) (end_from r sep false (drop at xs))
-up_to_near r sep other at n xs None is e fits h = cc
-up_to_near r sep other at n xs (Some m) is e fits h =
-    let s : m ≡ at = cc in
-    let k = rw is at h in
-    let here : m < n = omega (arith, k.0.high, length-take-le n xs fits) in
-    rw (← s) (passed_over r sep m xs (omega (arith, here, fits))
-    (λ j less. quiet_byte r sep (get_or xs j 0) (not_true _ (subst (λ b. ¬ (is_byte2 sep (other_of r sep) b ≡ true)) (get_or-take n xs j 0 (omega (arith, here, less)))
-    (k.0.before j (omega arith) less)))))
+-- Before the places of both in a vector stands neither.
+pub up_to_near : (r : Option ℕ) (sep other at : ℕ) (xs : List ℕ) → other ≡ other_of r sep → 32 ≤ length xs → at < 32 →
+    at ≤ prefix_len (λ b. not (b == sep)) (take 32 xs) → at ≤ prefix_len (λ b. not (b == other)) (take 32 xs) →
+    end_from r sep false xs ≡ option_map (λ k. at + k) (end_from r sep false (drop at xs))
+up_to_near r sep other at xs is room here h k =
+    passed_over r sep at xs (omega arith) (λ j less.
+    let e : (get_or xs j 0 == sep) ≡ false = run_in_chunk_fails (λ b. b == sep) xs 0 32 _ 0 room refl j (omega arith) (omega (arith, h, less)) in
+    let f : (get_or xs j 0 == other) ≡ false = run_in_chunk_fails (λ b. b == other) xs 0 32 _ 0 room refl j (omega arith) (omega (arith, k, less)) in
+    quiet_byte r sep (get_or xs j 0) (rw (← is, e, f) refl))
 
 -- A separator behind bytes that are passed over.
 pub ends_at : (r : Option ℕ) (sep at : ℕ) (xs : List ℕ) → at < length xs → get_or xs at 0 ≡ sep → is_release r sep ≡ false →

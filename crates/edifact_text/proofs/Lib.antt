@@ -16,5 +16,6 @@ pub mod StartLemmas
 pub mod OpenedLemmas
 pub mod ShortLemmas
 pub mod FarLemmas
+pub mod VectorLemmas
 pub mod RawLemmas
 pub mod TagLemmas

@@ -1,10 +1,12 @@
 //! Cutting bytes at a separator. A separator behind a release character cuts nothing.
-ghost use Rattle.std.specs.Prelude.{◌≡◌, ◌↔◌, ◌<◌, ◌≤◌, IsTrue, false, IfSome, MatchOption, length, slice_index_or, [], ◌∷◌, ◌+◌, drop, option_map};
+ghost use Rattle.std.specs.Prelude.{◌≡◌, ◌↔◌, ◌<◌, ◌≤◌, IsTrue, false, IfSome, MatchOption, length, slice_index_or, [], ◌∷◌, ◌+◌, drop, option_map, take, not, ◌==◌};
+ghost use Rattle.std.specs.List.{prefix_len};
 ghost use Rattle.edifact_text.specs.Characters.{is_release, is_blank};
 ghost use Rattle.edifact_text.specs.Pieces.{end_from, pieces};
 ghost use Rattle.edifact_text.specs.Reading.{trimmed};
 
 use memchr::memchr2;
+use std::simd::prelude::*;
 
 /// The byte is the release character.
 #[inline(always)]
@@ -52,7 +54,23 @@ fn quiet_length(bytes: &[u8], release: Option<u8>, separator: u8) -> usize
     }
 }
 
-/// How many bytes in front neither cut nor release, or fewer: one vector is looked at, where there is so much.
+/// How many of the first 32 bytes stand before one that is this byte: 32 where none is.
+#[inline(always)]
+fn place_in_vector(bytes: &[u8], byte: u8) -> usize
+    requires { 32 ≤ length bytes.now }
+    ensures { result ≡ prefix_len (λ b. not (b == byte)) (take 32 bytes.now) }
+{
+    let places = u8x32::from_slice(bytes)
+        .simd_eq(u8x32::splat(byte))
+        .to_bitmask();
+    if places == 0 {
+        32
+    } else {
+        places.trailing_zeros() as usize
+    }
+}
+
+/// How many bytes in front neither cut nor release, where those end within 32 bytes.
 #[inline(always)]
 fn near_length(bytes: &[u8], release: Option<u8>, separator: u8) -> Option<usize>
     ensures quiet { IfSome result (λ n. end_from release separator false bytes.now ≡ option_map
@@ -66,10 +84,8 @@ fn near_length(bytes: &[u8], release: Option<u8>, separator: u8) -> Option<usize
         Some(other) => other,
         None => separator,
     };
-    match memchr2(separator, other, &bytes[..32]) {
-        Some(at) => Some(at),
-        None => None,
-    }
+    let at = place_in_vector(bytes, separator).min(place_in_vector(bytes, other));
+    if at < 32 { Some(at) } else { None }
 }
 
 /// The index of the first separator that cuts, where it may stand far off. Only from a release character on is each byte

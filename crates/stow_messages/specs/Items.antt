@@ -1,6 +1,6 @@
 -- The items of a bay plan (BAPLIE, UN/EDIFACT D.95B): those of its groups in their order. The first fault in the order of the
 -- groups is the plan's.
-use Rattle.std.specs.Prelude.{ℕ, ◌≤◌, List, [], ◌∷◌, length, Option, Result, Ok, Err, false}
+use Rattle.std.specs.Prelude.{ℕ, List, [], ◌∷◌, Option, Result, Ok, Err, false}
 use Rattle.edifact_text.specs.Interchange.{Opened}
 use Rattle.edifact_text.specs.Reading.{opened}
 use Rattle.edifact_text.specs.declared.faults.EdiFault.{EdiFault}

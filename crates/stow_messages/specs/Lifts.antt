@@ -1,7 +1,7 @@
 -- The lifts of a movement instruction (MOVINS, UN/EDIFACT D.95B): those of its groups in their order, each handled as the last
 -- handling before it says. The first fault in the order of the segments is the instruction's, and those of a group come before
 -- those of the segment that ends it.
-use Rattle.std.specs.Prelude.{ℕ, ◌≤◌, List, [], ◌∷◌, length, Option, Some, None, Result, Ok, Err, true, if◌then◌else◌, codes}
+use Rattle.std.specs.Prelude.{ℕ, List, [], ◌∷◌, Option, Some, None, Result, Ok, Err, true, if◌then◌else◌, codes}
 use Rattle.std.specs.Option.{option_map}
 use Rattle.arrayvec.specs.ArrayVec.{ArrayVec}
 use Rattle.units_core.specs.declared.cells.Cell.{Cell}
