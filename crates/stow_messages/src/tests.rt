@@ -522,6 +522,88 @@ fn most_lifts(rt: HostRuntime) -> Result<(), Fail> {
     Ok(())
 }
 
+/// Free text of over 64 bytes, with released service characters, behind which a segment is read as any other.
+const LONG_TEXT: &str =
+    "FTX+AAA+++A TEXT OF OVER SIXTY-FOUR BYTES ?'QUOTED?' WITH ?+ AND ?: AND ?? IN IT'";
+
+/// Messages between headers and trailers of their own, each with the answer to the plan. What is ordinary is read one way and what
+/// isn't another, and each of these has both.
+static BOTH_WAYS: [(&str, &str); 6] = [
+    // released bytes in an identification, in the tag and in the qualifier of the next group
+    (
+        "LOC+147+0030082::5'MEA+WT++KGM:7'EQD+CN+AB?'CD'L?OC+14?7+0010082'EQD+CN+EF'MEA+WT++KGM:8'UNT+8+1'",
+        "AB'CD@0030082=7 EF@0010082=8 ",
+    ),
+    // segments on lines of their own, blanks among them
+    (
+        "\r\nLOC+147+0030082::5'\r\n \tMEA+WT++KGM:7'\r\nEQD+CN+AB'\r\nLOC+147+0010082'\r\nMEA+VGM++KGM:8'\r\nUNT+7+1'\r\n",
+        "AB@0030082=7 @0010082=8 ",
+    ),
+    // an empty identification, a group without a container, and one whose container stands before its mass
+    (
+        "LOC+147+0030082'EQD+CN+'MEA+WT++KGM:7'LOC+147+0010082'MEA+WT++KGM:8'LOC+147+0050082'EQD+CN+AB'MEA+WT++KGM:9'UNT+10+1'",
+        "@0030082=7 @0010082=8 AB@0050082=9 ",
+    ),
+    // a verified mass behind the other, and tags that are longer, shorter or joined
+    (
+        "LOC+147+0030082'MEA+WT++KGM:7'MEA+VGM++KGM:8'LOCO+147+1'LO+147+1'MEA:1+WT++LBR:1'EQD'UNT+9+1'",
+        "@0030082=8 ",
+    ),
+    // a fault in the last segment but one, behind a release character
+    (
+        "LOC+147+0030082'MEA+WT++KGM:7'EQD+CN+A?+B'LOC+147+0010082'MEA+WT++KGM:8?.5'MEA+VGM++LBR:8'UNT+8+1'",
+        "M5 segment 7",
+    ),
+    // a tag that ends with a release character, and one that is nothing but a release character
+    (
+        "LOC+147+0030082'MEA?+WT++KGM:6'?+LOC+147+1'MEA+WT++KGM:7'UNT+6+1'",
+        "@0030082=7 ",
+    ),
+];
+
+#[test]
+fn read_both_ways(rt: HostRuntime) -> Result<(), Fail> {
+    for (segments, expected) in &BOTH_WAYS {
+        let text = long_message(rt.alloc(), "UNH+1+BAPLIE:D:95B:UN'", "", 0, segments)?;
+        let answer = answer(rt.alloc(), text.as_bytes())?;
+        assert_eq!(rt; answer.as_str(), *expected, "{segments}");
+    }
+    Ok(())
+}
+
+/// The same group with free text before it, and with a fault as the last segment behind it.
+#[test]
+fn long_segments_between(rt: HostRuntime) -> Result<(), Fail> {
+    for (last, expected) in &LAST_SEGMENTS {
+        let alloc = rt.alloc();
+        let end = format!(in alloc;
+            "{LONG_TEXT}EQD+CN+AB'{LONG_TEXT}MEA+WT++KGM:7'{last}UNT+8+1'"
+        )?;
+        let headers = "UNH+1+BAPLIE:D:95B:UN'LOC+147+0030082'";
+        let text = long_message(rt.alloc(), headers, "", 0, end.as_str())?;
+        let answer = answer(rt.alloc(), text.as_bytes())?;
+        assert_eq!(rt; answer.as_str(), *expected, "{last}");
+    }
+    Ok(())
+}
+
+/// What stands last in the message, and the answer.
+static LAST_SEGMENTS: [(&str, &str); 3] = [
+    ("LOC+9+NLRTM'", "AB@0030082=7 "),
+    ("LOC+147+X'", "M2 segment 7"),
+    ("MEA+VGM++KGM:8,?5'", "AB@0030082=9 "),
+];
+
+/// Other service characters: what is ordinary elsewhere separates, and what separates elsewhere is ordinary.
+#[test]
+fn other_service_characters(rt: HostRuntime) -> Result<(), Fail> {
+    let text =
+        b"UNA|^,!*~UNB^UNOA|2^S^P^1|1^7~UNH^1^BAPLIE|D|95B|UN~LOC^147^0030082||5~MEA^WT^^KGM|7,5~EQD^CN^A+B?'!~C^22G1~LOC+147+X~UNT^6^1~UNZ^1^7~";
+    let shown = answer(rt.alloc(), text)?;
+    assert_eq!(rt; shown.as_str(), "A+B?'~C@0030082=8 ");
+    Ok(())
+}
+
 // A producer's habits: the service string advice, a line for each segment, and segments that are ignored.
 #[test]
 fn segments_between(rt: HostRuntime) -> Result<(), Fail> {
