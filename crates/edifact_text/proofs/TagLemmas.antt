@@ -5,7 +5,10 @@ use Rattle.edifact_text.specs.declared.service.Service.{Service}
 use Rattle.edifact_text.specs.Characters.{is_release}
 use Rattle.edifact_text.specs.Pieces.{pieces, literal}
 use Rattle.std.proofs.Common.{take, drop, map}
+use Rattle.std.proofs.Common.{Some, nat_eq, ◌≢◌}
 use Rattle.edifact_text.specs.Reading.{segment_of, element_of}
+use Rattle.edifact_text.specs.Rows.{is_text}
+use Rattle.edifact_text.proofs.RawLemmas.{at_byte}
 use Rattle.edifact_text.specs.Spelling.{is_service}
 use Rattle.edifact_text.specs.Stages.{part}
 use Rattle.edifact_text.proofs.ServedLemmas.{or_off}
@@ -70,3 +73,27 @@ tag_part sv (a ∷ b ∷ []) l h k m n e = absurd (omega arith)
 tag_part sv (a ∷ b ∷ c ∷ []) l h k m n e = absurd (omega arith)
 tag_part sv (a ∷ b ∷ c ∷ d ∷ rest) l h k m n e =
     tag_of sv a b c d rest (ordinary sv a h) (ordinary sv b k) (ordinary sv c m) n (grind (arith, common_steps, e))
+
+-- A first byte that is ordinary is the tag's first letter.
+first_is : (sv : Service) (b : ℕ) (bs : List ℕ) → IsOrdinary sv b → part sv (b ∷ bs) 0 0 ≡ b ∷ part sv bs 0 0
+unfolding part
+first_is sv b bs x =
+    let e : (b == sv.element || b == sv.component) ≡ false = rw (x.element, x.component) refl in
+    at_byte sv.release (Some (record { element = sv.element; component = sv.component })) b bs x.release e
+
+pub first_letter : (sv : Service) (bytes : List ℕ) → 1 ≤ length bytes → is_service sv (get_or bytes 0 0) ≡ false →
+    part sv bytes 0 0 ≡ get_or bytes 0 0 ∷ part sv (drop 1 bytes) 0 0
+first_letter sv [] l h = absurd (omega arith)
+first_letter sv (b ∷ bs) l h = first_is sv b bs (ordinary sv b h)
+
+-- Then the tag isn't empty, nor one with another first letter.
+pub not_empty : (sv : Service) (bytes : List ℕ) → 1 ≤ length bytes → is_service sv (get_or bytes 0 0) ≡ false → false ≡ is_text (part sv bytes 0 0) []
+unfolding is_text
+not_empty sv bytes l h = rw (first_letter sv bytes l h) refl
+
+pub not_tag : (sv : Service) (bytes : List ℕ) (a : ℕ) (more : List ℕ) → 1 ≤ length bytes → is_service sv (get_or bytes 0 0) ≡ false →
+    get_or bytes 0 0 ≢ a → false ≡ is_text (part sv bytes 0 0) (a ∷ more)
+unfolding is_text
+not_tag sv bytes a more l h off =
+    let e : nat_eq (get_or bytes 0 0) a ≡ false = grind (arith, common_steps, off) in
+    rw (first_letter sv bytes l h, e) refl

@@ -13,7 +13,7 @@ use crate::tag::Tag;
 
 /// The byte is a service character.
 #[inline(always)]
-fn is_service(service: Service, byte: u8) -> bool
+pub(crate) fn is_service(service: Service, byte: u8) -> bool
     ensures { result ≡ is_service service byte }
 {
     is_release(service.release, byte)

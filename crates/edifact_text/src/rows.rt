@@ -4,7 +4,7 @@ ghost use Rattle.edifact_text.specs.Rows.{is_text};
 ghost use Rattle.edifact_text.specs.Stages.{unb_rows, unh_rows, unt_rows, unz_rows, is_of_type, part};
 ghost use Rattle.edifact_text.specs.Views.{seen};
 
-use crate::components::plain_tag;
+use crate::components::is_service;
 use crate::faults::{EdiCode, EdiFault, Kind};
 use crate::numbers::is_one;
 use crate::segment_text::SegmentText;
@@ -19,24 +19,35 @@ pub(crate) struct Trailers {
 impl SegmentText<'_> {
     /// Whether it is a trailer. The tag is looked for once.
     #[inline(always)]
+    #[tactic(auto, using(crate::proofs::TagLemmas::not_tag))]
     pub(crate) fn trailers(self) -> Trailers
         ensures message { result.message
             ≡ is_text (part self.entry.service self.entry.bytes.now 0 0) (codes "UNT") }
         ensures interchange { result.interchange
             ≡ is_text (part self.entry.service self.entry.bytes.now 0 0) (codes "UNZ") }
     {
-        match plain_tag(self.bytes, self.service) {
-            Some(tag) => Trailers {
-                message: tag.reads(b'U', b'N', b'T'),
-                interchange: tag.reads(b'U', b'N', b'Z'),
+        // Nearly every segment has another first letter.
+        match self.bytes {
+            [first, ..] if *first != b'U' && !is_service(self.service, *first) => Trailers {
+                message: false,
+                interchange: false,
             },
-            None => {
-                let tag = self.component(0, 0);
-                Trailers {
-                    message: tag.reads(b"UNT"),
-                    interchange: tag.reads(b"UNZ"),
-                }
-            }
+            _ => self.seen_trailers(),
+        }
+    }
+
+    /// The same, by the tag's literal.
+    #[inline(never)]
+    fn seen_trailers(self) -> Trailers
+        ensures message { result.message
+            ≡ is_text (part self.entry.service self.entry.bytes.now 0 0) (codes "UNT") }
+        ensures interchange { result.interchange
+            ≡ is_text (part self.entry.service self.entry.bytes.now 0 0) (codes "UNZ") }
+    {
+        let tag = self.component(0, 0);
+        Trailers {
+            message: tag.reads(b"UNT"),
+            interchange: tag.reads(b"UNZ"),
         }
     }
 

@@ -7,7 +7,7 @@ ghost use Rattle.edifact_text.specs.Reading.{row};
 ghost use Rattle.edifact_text.specs.Stages.{part, whole, is_long, is_too_large};
 ghost use Rattle.edifact_text.specs.Views.{meant, seen};
 
-use crate::components::{component_of, plain_tag};
+use crate::components::{component_of, is_service};
 use crate::faults::{EdiCode, EdiFault};
 use crate::numbers::count;
 use crate::pieces::{are_at_most, cut};
@@ -75,12 +75,13 @@ impl<'a> SegmentText<'a> {
 
     /// Its tag is empty.
     #[inline(always)]
+    #[tactic(auto, using(crate::proofs::TagLemmas::not_empty))]
     fn is_without_tag(self) -> bool
         ensures { result ≡ is_text (part self.entry.service self.entry.bytes.now 0 0) [] }
     {
-        match plain_tag(self.bytes, self.service) {
-            Some(_) => false,
-            None => self.has(0, 0, b""),
+        match self.bytes {
+            [first, ..] if !is_service(self.service, *first) => false,
+            _ => self.has(0, 0, b""),
         }
     }
 

@@ -9,7 +9,6 @@ pub struct Tag {
 }
 
 impl Tag {
-    ghost use Rattle.edifact_text.specs.Rows.{is_text};
     ghost use Rattle.edifact_text.specs.Views.{letters_of};
 
     /// The tag is these letters.
@@ -18,13 +17,5 @@ impl Tag {
         ensures { IsTrue result ↔ (letters_of self ≡ first ∷ second ∷ third ∷ []) }
     {
         self.first == first && self.second == second && self.third == third
-    }
-
-    /// The same, for definitions that compute.
-    #[inline(always)]
-    pub(crate) fn reads(self, first: u8, second: u8, third: u8) -> bool
-        ensures { result ≡ is_text (letters_of self) (first ∷ second ∷ third ∷ []) }
-    {
-        self.is(first, second, third)
     }
 }
