@@ -59,7 +59,7 @@ impl<'a> Raw<'a> {
 
     /// The literal's first byte, and a component that means the rest of it.
     #[inline(always)]
-    #[tactic(auto, using(crate::proofs::RawLemmas::at_byte, crate::proofs::RawLemmas::at_end, crate::proofs::RawLemmas::at_released, crate::proofs::RawLemmas::at_last, crate::proofs::RawLemmas::at_none), unfolding(crate::specs::Views::meant))]
+    #[tactic(auto, unfolding(crate::specs::Views::meant))]
     pub(crate) fn split_first(self) -> Option<(u8, Raw<'a>)>
         ensures first { MatchOption result (meant self.entry ≡ [])
             (λ p. meant self.entry ≡ p.0 ∷ meant p.1) }

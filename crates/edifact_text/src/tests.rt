@@ -389,6 +389,17 @@ static COMPONENTS: [(usize, usize, &[u8]); 12] = [
     (7, 0, b""),
 ];
 
+/// The same of a segment with a tag of three letters.
+static PLAIN_COMPONENTS: [(usize, usize, &[u8]); 7] = [
+    (0, 0, b"XYZ"),
+    (0, 1, b""),
+    (1, 1, b"b"),
+    (2, 0, b"c"),
+    (2, 1, b"d~e"),
+    (6, 0, b"j"),
+    (7, 0, b""),
+];
+
 /// Those of a segment without a release character.
 static UNRELEASED: [(usize, usize, &[u8]); 2] = [(0, 0, b"A?"), (1, 0, b"?")];
 
@@ -517,6 +528,31 @@ fn has_components(
 fn components_by_their_places(rt: HostRuntime) {
     let text = b"UNA|^,!*~UNB^^^^^7~UNH^1^MOVINS|D|95B|UN~X^a|b^c|d!~e^f^g^h|i^j~UNT^3^1~UNZ^1^7~";
     assert_eq!(rt; has_components(text, b',', &COMPONENTS), Ok(true));
+}
+
+/// The same behind a tag of three ordinary letters.
+#[test]
+fn components_behind_a_plain_tag(rt: HostRuntime) {
+    let text =
+        b"UNA|^,!*~UNB^^^^^7~UNH^1^MOVINS|D|95B|UN~XYZ^a|b^c|d!~e^f^g^h|i^j~UNT^3^1~UNZ^1^7~";
+    assert_eq!(rt; has_components(text, b',', &PLAIN_COMPONENTS), Ok(true));
+}
+
+/// A tag is plain where it is three letters before an element separator, and no letter is released.
+#[test]
+fn plain_tags(rt: HostRuntime) -> Result<(), EdiFault> {
+    let text = b"UNB+++++7'UNH+1+MOVINS:D:95B:UN'ABC+1'ABC'A?BC+1'ABC:2+1'UNT+6+1'UNZ+1+7'";
+    let message = open(text, Kind::Movins)?;
+    let mut plain: u64 = 0;
+    for segment in message.segments() {
+        if let Some(tag) = segment.plain_tag() {
+            assert!(rt; tag.is(b'A', b'B', b'C'));
+            assert!(rt; !tag.is(b'A', b'B', b'D'));
+            plain = plain.wrapping_mul(10).wrapping_add(segment.number());
+        }
+    }
+    assert_eq!(rt; plain, 2);
+    Ok(())
 }
 
 /// Without a release character every byte is itself.

@@ -95,7 +95,6 @@ impl<'a> Iterator for Parts<'a> {
 
     ghost remaining = { item_count parts_left };
 
-    #[inline(always)]
     fn next(&mut self) -> Option<Part<'a>> {
         while let Some(segment) = self.next_segment() {
             match kind_of(&segment) {
