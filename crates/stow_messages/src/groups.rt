@@ -122,6 +122,7 @@ fn kind_spelt(segment: &Segment<'_>) -> SegmentKind
 }
 
 /// What a location is, by its qualifier.
+#[inline(always)]
 fn location_of(segment: &Segment<'_>) -> SegmentKind
     ensures { result ≡ (if has (numbered_view segment.now) 1 0 (codes "147")
         then SegmentKind.Location else SegmentKind.Other) }
@@ -134,6 +135,7 @@ fn location_of(segment: &Segment<'_>) -> SegmentKind
 }
 
 /// What a measurement is, by its qualifier.
+#[inline(always)]
 fn measurement_of(segment: &Segment<'_>) -> SegmentKind
     ensures { result ≡ measurement_of (numbered_view segment.now) }
 {

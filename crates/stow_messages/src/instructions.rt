@@ -100,9 +100,9 @@ fn lifts_of(alloc: Global, parts: Parts<'_>, mark: u8) -> Result<Vec<Lift>, Stow
     let mut lifts = Vec::new(alloc);
     let mut handling = None;
     for part in parts {
-        match &part {
-            Part::Handled(segment) => handling = Some(handling_at(segment)?),
-            Part::Located(group) => add(&mut lifts, group, handling, mark)?,
+        match part {
+            Part::Handled(segment) => handling = Some(handling_at(&segment)?),
+            Part::Located(group) => add(&mut lifts, &group, handling, mark)?,
         }
     }
     Ok(lifts)

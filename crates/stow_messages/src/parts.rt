@@ -69,7 +69,6 @@ impl<'a> Parts<'a> {
     }
 
     /// The group that a location begins. It is filled where it stands, and what ends it is left.
-    #[inline(always)]
     fn group_at(&mut self, location: &Segment<'a>) -> Group<'a>
         requires { self.old.ahead ≡ None }
         ensures found { found_view result ≡ found_in (numbered_view location.now)

@@ -44,8 +44,8 @@ fn items_of(alloc: Global, parts: Parts<'_>, mark: u8) -> Result<Vec<Item>, Stow
 {
     let mut items = Vec::new(alloc);
     for part in parts {
-        match &part {
-            Part::Located(group) => add(&mut items, group, mark)?,
+        match part {
+            Part::Located(group) => add(&mut items, &group, mark)?,
             Part::Handled(_) => {}
         }
     }
