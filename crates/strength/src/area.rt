@@ -44,7 +44,7 @@ fn signed(area: u64) -> i64
 
 /// The weighted values over the whole distance, rounded down.
 #[inline(always)]
-fn divided(lower: u64, above: u64, upper: u64, below: u64, divisor: &mut Divisor) -> u64
+fn rounded_down(lower: u64, above: u64, upper: u64, below: u64, divisor: &mut Divisor) -> u64
     requires lower { lower ≤ 10 ^ 8 }
     requires above { above ≤ 10 ^ 8 }
     requires upper { upper ≤ 10 ^ 8 }
@@ -75,7 +75,7 @@ fn on_line(x0: i128, y0: i128, x1: i128, y1: i128, x: i128, divisor: &mut Diviso
 {
     let above = natural(x1 - x);
     let below = natural(x - x0);
-    signed(divided(natural(y0), above, natural(y1), below, divisor))
+    signed(rounded_down(natural(y0), above, natural(y1), below, divisor))
 }
 
 /// A reading of a curve of numbers from 0 to 10^8, rounded down.

@@ -17,5 +17,5 @@ returns-clause-value c =
     let above = simp (to_z-of_z c.ranges.x1, to_z-of_z c.ranges.x, to_z-of_z p) at c.natural-above.ensures.value in
     let upper = simp (to_z-of_z c.ranges.y1) at c.natural-2.ensures.value in
     let below = simp (to_z-of_z c.ranges.x, to_z-of_z c.ranges.x0, to_z-of_z r) at c.natural-below.ensures.value in
-    to_z-of_z s ∙ (c.signed.ensures.value ∙ (ap (λ n. pos n) c.divided.ensures.value
+    to_z-of_z s ∙ (c.signed.ensures.value ∙ (ap (λ n. pos n) c.rounded_down.ensures.value
     ∙ on_line_is x0 c.args.y0 x1 c.args.y1 x c.natural.result c.natural-above.result c.natural-2.result c.natural-below.result lower above upper below))
