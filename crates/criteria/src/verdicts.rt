@@ -1,4 +1,4 @@
-ghost use Rattle.std.specs.Prelude.{◌≡◌, ◌*◌, ◌^◌, ◌≤◌, unsigned_abs};
+ghost use Rattle.std.specs.Prelude.{◌≡◌, ℕ, ℤ, ◌*◌, ◌^◌, ◌≤◌, unsigned_abs};
 ghost use Rattle.units_core.specs.Interpolation.{at};
 ghost use Rattle.moment_sums.specs.Bounded.{IsBounded};
 ghost use Rattle.moment_sums.specs.Kept.{values};
@@ -7,6 +7,7 @@ ghost use Rattle.hydrostat.specs.Floating.{draught_at, load, load_of, water};
 ghost use Rattle.righting.specs.Aboard.{levers_of};
 ghost use Rattle.strength.specs.Hull.{IsHullOf};
 ghost use Rattle.strength.specs.Immersed.{areas_of};
+ghost use Rattle.strength.specs.Running.{AreStrains};
 ghost use Rattle.strength.specs.Strains.{closes, closing_of};
 ghost use Rattle.criteria.specs.Least.{least_at};
 ghost use Rattle.criteria.specs.Judgement.{IsOutside, IsWhatever, judged, judgement_of, read, told, with_areas, with_closing, with_least, with_levers};
@@ -19,7 +20,7 @@ use hydrostat::{Afloat, Outside, on_waterline};
 use moment_sums::Totals;
 use righting::{Levers, levers_aboard};
 use ship_profile::Profile;
-use strength::{Areas, Hull, Strains, areas_aboard, closes, strains_of};
+use strength::{BonjeanRow, Hull, Strains, closes, strains_aboard};
 
 /// How a condition is judged.
 #[derive(Clone, Copy)]
@@ -38,7 +39,7 @@ pub enum Verdict {
 pub struct Nearby {
     hydro: usize,
     levers: usize,
-    bonjean: usize,
+    bonjean: BonjeanRow,
     least_gm: usize,
 }
 
@@ -83,29 +84,26 @@ fn judge_loaded(
     }
 }
 
-/// The verdict, once the immersed areas are known.
-fn judge_immersed(
+/// The verdict, once the loads and the closing error are known.
+fn judge_strained(
     profile: &Profile,
     totals: &Totals,
     a: &Afloat,
     levers: &Levers,
-    areas: &Areas,
-    hull: &Hull,
+    strains: &Strains,
     near: &mut Nearby,
 ) -> Verdict
-    requires of { IsHullOf hull.now profile.now.ship }
-    requires bounded { IsBounded (values totals.now) }
-    requires kg { unsigned_abs (values totals.now Weight) ≤ 10 ^ 9 }
     requires loaded { load a.now ≡ load_of (values totals.now) }
     requires length { a.now.lbp ≡ profile.now.ship.lbp }
-    ensures { IsWhatever (told result) levers.now.num levers.now.den
-        (λ y. with_closing profile.now (values totals.now) (water a.now) y (at areas.now.area)
-        (closes (closing_of (values totals.now)
-        (at areas.now.area) profile.now.ship.stations) profile.now.ship.closing_max)) }
+    ensures { (areas : ℕ → ℤ)
+        → AreStrains strains.now (values totals.now) areas profile.now.ship
+        → IsWhatever (told result) levers.now.num levers.now.den
+        (λ y. with_closing profile.now (values totals.now) (water a.now) y areas
+        (closes (closing_of (values totals.now) areas profile.now.ship.stations)
+        profile.now.ship.closing_max)) }
 {
-    let strains = strains_of(profile, hull, totals, areas);
     if closes(strains.closing, profile.closing_max()) {
-        judge_loaded(profile, totals, a, levers, &strains, near)
+        judge_loaded(profile, totals, a, levers, strains, near)
     } else {
         outside(Outside::Closing)
     }
@@ -130,8 +128,8 @@ fn judge_righted(
         (areas_of profile.now.tables.bonjean (draught_at (water a.now)
         (load_of (values totals.now)) profile.now.ship.lbp) profile.now.ship.stations)) }
 {
-    match areas_aboard(profile, a, &mut near.bonjean) {
-        Some(areas) => judge_immersed(profile, totals, a, levers, &areas, hull, near),
+    match strains_aboard(profile, hull, totals, a, &mut near.bonjean) {
+        Some(strains) => judge_strained(profile, totals, a, levers, &strains, near),
         None => outside(Outside::Bonjean),
     }
 }

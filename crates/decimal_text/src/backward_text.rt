@@ -38,6 +38,13 @@ impl BackwardText {
         }
     }
 
+    /// Takes the text away, so that another can be put. The bytes stay where they were, since setting all of them costs more than a line does.
+    pub fn clear(&mut self)
+        ensures { self.new ≡ [] }
+    {
+        self.start = ROOM;
+    }
+
     /// How many bytes can still be put before the text.
     pub fn room(&self) -> usize
         ensures { result + length self.now ≡ ROOM }

@@ -210,9 +210,9 @@ impl DraughtLine {
         }
     }
 
-    /// The draught at `x`, rounded down, where 64 bits decide it.
+    /// The draught in mm at `x`, rounded down, as [`DraughtLine::draught_down`] gives it, where 64 bits decide it.
     #[inline(always)]
-    fn decided(&self, x: Mm) -> Option<i64>
+    pub fn decided(&self, x: Mm) -> Option<i64>
         ensures { IfSome result (λ q. q
             ≡ floor_of (draught_at (water self.now.of) (load self.now.of) self.now.of.lbp x)) }
     {

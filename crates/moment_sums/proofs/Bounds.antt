@@ -1,14 +1,10 @@
 -- Bounds of sums, and the values of what is kept.
-use Rattle.std.proofs.Common.{◌≡◌, ◌≢◌, ◌∙◌, ℕ, zero, suc, ◌+◌, ◌*◌, ◌^◌, ◌<◌, ◌≤◌, ◌⊎◌, inl, inr, List, length, get_or, set, get_or-set_same, get_or-set_other, below_more, slice_get, replicate, Option, ℤ, pos, ◌+ℤ◌, ◌*ℤ◌, neg_ℤ, unsigned_abs, refl, sym, ap, subst, arith, to_z, of_z, to_z-of_z, FitsSigned}
+use Rattle.std.proofs.Common.{◌≡◌, ◌≢◌, ◌∙◌, ℕ, zero, suc, ◌+◌, ◌*◌, ◌^◌, ◌<◌, ◌≤◌, inl, inr, List, length, get_or, set, get_or-set_same, get_or-set_other, below_more, replicate, ℤ, pos, ◌+ℤ◌, neg_ℤ, unsigned_abs, refl, sym, ap, subst, arith, to_z, of_z, to_z-of_z, FitsSigned}
 use Rattle.std.proofs.lemmas.Bool.{cases_eq}
-use Rattle.std.proofs.lemmas.Option.{slice_get_past}
-use Rattle.units_core.specs.Bodies.{Mass}
-use Rattle.ship_profile.specs.declared.frames.Frame.{Frame}
 use Rattle.std.specs.Int.{w128}
 use Rattle.units_core.specs.Interpolation.{at, IsWithin}
 use Rattle.units_core.proofs.Signed.{signed_arith, one_part, sum_within}
-use Rattle.moment_sums.specs.Sum.{Column, Weight, MomentX, MomentY, MomentZ, Surface, WeightAft, MomentAft, at_frame, joined, negated, nothing, of_body}
-use Rattle.moment_sums.specs.Shares.{weight_aft, moment_aft}
+use Rattle.moment_sums.specs.Sum.{Column, Weight, MomentX, MomentY, MomentZ, Surface, WeightAft, MomentAft, joined, negated, nothing}
 use Rattle.prefix_scan.specs.Laws.{most_parts}
 use Rattle.moment_sums.specs.Kept.{Kept, IsKept, added, both_kept, values}
 use Rattle.moment_sums.specs.KeptLaws.{length-added}
@@ -122,36 +118,3 @@ module _ (ns : List ℤ) (g : ℕ → ℤ) (k : ℕ) (v : ℤ) (inside : k < len
         | inl same ↦ rw (same, get_or-set_same) s
         | inr ne ↦ rw get_or-set_other (w j)
       ]
-
--- the shares at all frames, and at the places behind them
-pub at_frames : (share : ℤ → Mass → ℤ) (frames : List Frame) (b : Mass) (ns : List ℤ) (n : ℕ) → length frames ≤ n
-    → ((k : ℕ) → k < n → at ns k ≡ at_frame share (slice_get frames k) b) → ((k : ℕ) → n ≤ k → at ns k ≡ pos 0) → (k : ℕ) → at ns k ≡ at_frame share (slice_get frames k) b
-at_frames share frames b ns n all done rest k =
-    below_or k n (done k) (λ past. rest k past ∙ ap (λ (o : Option Frame). at_frame share o b) (sym (slice_get_past frames k (omega arith)))) where
-      below_cases : (k n : ℕ) → (k < n) ⊎ (n ≤ k)
-      below_cases zero zero = inr (omega arith)
-      below_cases zero (suc n) = inl (omega arith)
-      below_cases (suc k) zero = inr (omega arith)
-      below_cases (suc k) (suc n) = elim (below_cases k n) [
-        | inl less ↦ inl (omega arith)
-        | inr past ↦ inr (omega arith)
-      ]
-
-      below_or : (k n : ℕ) {P : Type 0} → (k < n → P) → (n ≤ k → P) → P
-      below_or k n f g = elim (below_cases k n) [
-        | inl less ↦ f less
-        | inr past ↦ g past
-      ]
-
-pub values_of : (t : Kept) (frames : List Frame) (b : Mass) → t.kg ≡ pos b.kg → t.x ≡ pos b.kg *ℤ b.place.x → t.y ≡ pos b.kg *ℤ b.place.y → t.z ≡ pos b.kg *ℤ b.place.z → t.fsm ≡ b.fsm
-    → ((i : ℕ) → at t.weights_aft i ≡ at_frame weight_aft (slice_get frames i) b) → ((i : ℕ) → at t.moments_aft i ≡ at_frame moment_aft (slice_get frames i) b)
-    → values t ≡ of_body frames b
-values_of t frames b kg x y z fsm weights moments = λ j c. by c j where
-  by : (c : Column) → values t c ≡ of_body frames b c
-  by Weight = kg
-  by MomentX = x
-  by MomentY = y
-  by MomentZ = z
-  by Surface = fsm
-  by (WeightAft i) = weights i
-  by (MomentAft i) = moments i

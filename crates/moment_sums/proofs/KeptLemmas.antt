@@ -1,5 +1,5 @@
 -- A sum is what it keeps of its values, and of how many parts it is.
-use Rattle.std.proofs.Common.{◌≡◌, ℕ, ◌+◌, ◌<◌, ◌≤◌, List, length, map, ℤ, pos, refl, sym, ◌∙◌, arith, lt_of_not-le}
+use Rattle.std.proofs.Common.{◌≡◌, ℕ, ◌≤◌, map, ℤ, pos, refl, sym, ◌∙◌, arith, lt_of_not-le}
 use Rattle.std.specs.List.{range_with_len}
 use Rattle.std.proofs.lemmas.List.{get_or_past}
 use Rattle.std.proofs.lemmas.List.FromFn.{fill_by_all, get_or-map-range_with_len, length-map-range_with_len}
@@ -31,7 +31,7 @@ pub kept_size : (s : Sum) (n : ℕ) → size_of (kept_of s n) ≡ n
 kept_size s n = with_places (kept_of s n) (length-map-range_with_len (λ i. s (WeightAft i)) 0 16) (length-map-range_with_len (λ i. s (MomentAft i)) 0 16)
 
 -- sixteen places keep what has nothing behind them
-at_places : (f : ℕ → ℤ) → ((i : ℕ) → 16 ≤ i → f i ≡ pos 0) → (i : ℕ) → at (map f (range_with_len 0 16)) i ≡ f i
+pub at_places : (f : ℕ → ℤ) → ((i : ℕ) → 16 ≤ i → f i ≡ pos 0) → (i : ℕ) → at (map f (range_with_len 0 16)) i ≡ f i
 at_places f none i =
     dite (dec_le 16 i)
     (λ past. get_or_past (map f (range_with_len 0 16)) i (pos 0) (let n = length-map-range_with_len f 0 16 in omega (arith, n, past)) ∙ sym (none i past))

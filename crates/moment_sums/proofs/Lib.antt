@@ -2,6 +2,7 @@ pub mod AboardBounds
 pub mod BodyBounds
 pub mod Bounding
 pub mod Bounds
+pub mod ChangeLemmas
 pub mod KeptLemmas
 pub mod PlaceLemmas
 pub mod Sizes

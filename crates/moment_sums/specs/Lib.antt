@@ -1,4 +1,5 @@
 pub mod Bounded
+pub mod Changes
 pub mod Kept
 pub mod KeptLaws
 pub mod Shares

@@ -1,15 +1,15 @@
 ghost use Rattle.std.specs.Option.{option_to_list};
-ghost use Rattle.std.specs.Prelude.{◌≡◌, ℕ, ◌+◌, ◌*◌, ◌^◌, ◌<◌, ◌≤◌, ◌*ℤ◌, length, slice_get, true, unsigned_abs};
+ghost use Rattle.std.specs.Prelude.{◌≡◌, ◌+◌, ◌*◌, ◌^◌, ◌<◌, ◌≤◌, length, true, unsigned_abs};
 ghost use Rattle.prefix_scan.specs.Laws.{most_parts};
-ghost use Rattle.units_core.specs.Interpolation.{at, IsWithin};
-ghost use Rattle.moment_sums.specs.Shares.{moment_aft, weight_aft};
-ghost use Rattle.moment_sums.specs.Sum.{Weight, MomentX, MomentY, MomentZ, Surface, WeightAft, MomentAft, at_frame, changed_by, in_option, negated, of_body};
+ghost use Rattle.moment_sums.specs.Sum.{Weight, MomentX, MomentY, MomentZ, Surface, WeightAft, MomentAft, changed_by, joined, negated, of_body};
 ghost use Rattle.moment_sums.specs.Bounded.{IsBounded};
-ghost use Rattle.moment_sums.specs.Kept.{bodies_of, is_bounded, kept_of, size_of, values};
+ghost use Rattle.moment_sums.specs.Changes.{change_in, change_of};
+ghost use Rattle.moment_sums.specs.Kept.{bodies_of, both_kept, is_bounded, kept_of, size_of, values};
 
+use crate::changes::{change_shares, changed, moment_of, surface_of};
 use crate::limits::{are_centres, are_shares, both, is_share, times};
 use crate::rows::{add, negate, negate_all, plus};
-use crate::shares::{kg, mm, moment_aft, weight_aft};
+use crate::shares::kg;
 use lift_sequence::Step;
 use prefix_scan::Monoid;
 use ship_profile::Frames;
@@ -126,34 +126,87 @@ impl Totals {
         ensures parts { result.parts ≡ 1 }
         ensures size { size_of result ≡ 1 }
     {
-        let mass = kg(body);
-        let place = body.place();
-        Totals {
-            kg: mass,
-            x: moment(mass, mm(place.x)),
-            y: moment(mass, mm(place.y)),
-            z: moment(mass, mm(place.z)),
-            fsm: surface(body),
-            weights_aft: weights_aft(body, frames),
-            moments_aft: moments_aft(body, frames),
-            parts: 1,
-        }
+        let mut sum = Totals::unit();
+        sum.change(body, frames, false);
+        sum
     }
 }
 
 impl Totals {
-    /// What a body adds, where there is one.
-    fn of_option(body: Option<Body>, frames: &Frames) -> Totals
-        ensures values { values result ≡ in_option frames.now body }
-        ensures parts { result.parts ≡ length (option_to_list body) }
-        ensures size { size_of result ≤ 1 }
+    /// This sum with a body that is put in, or without one that is taken out.
+    #[inline(always)]
+    fn change(&mut self, body: &Body, frames: &Frames, taken: bool)
+        requires room { size_of self.old + 1 ≤ most_parts }
+        ensures kept { self.new
+            ≡ both_kept self.old (kept_of (change_of taken frames.now body.now) 1) }
+        ensures few { length frames.now ≤ 16 }
     {
-        match body {
-            Some(body) => Totals::of(&body, frames),
-            None => Totals::unit(),
+        let place = body.place();
+        self.kg = changed(self.kg, kg(body), taken);
+        self.x = changed(self.x, moment_of(body, place.x), taken);
+        self.y = changed(self.y, moment_of(body, place.y), taken);
+        self.z = changed(self.z, moment_of(body, place.z), taken);
+        self.fsm = changed(self.fsm, surface_of(body), taken);
+        change_shares(
+            &mut self.weights_aft,
+            &mut self.moments_aft,
+            body,
+            frames,
+            taken,
+        );
+        self.parts += 1;
+    }
+
+    /// This sum with what is put in or without what is taken out, where there is a body.
+    #[inline(always)]
+    fn change_in(&mut self, body: &Option<Body>, frames: &Frames, taken: bool)
+        requires room { size_of self.old + length (option_to_list body.now) ≤ most_parts }
+        ensures kept { self.new ≡ both_kept self.old
+            (kept_of (change_in taken frames.now body.now) (length (option_to_list body.now))) }
+        ensures values { values self.new
+            ≡ joined (values self.old) (change_in taken frames.now body.now) }
+    {
+        if let Some(body) = body {
+            self.change(body, frames, taken);
         }
     }
 
+    /// This sum after a step.
+    #[inline(always)]
+    fn change_by(&mut self, step: &Step, frames: &Frames)
+        requires room { size_of self.old + bodies_of step.now ≤ most_parts }
+        ensures kept { self.new
+            ≡ both_kept self.old (kept_of (changed_by frames.now step.now) (bodies_of step.now)) }
+        ensures values { values self.new
+            ≡ joined (values self.old) (changed_by frames.now step.now) }
+    {
+        self.change_in(&step.out, frames, true);
+        self.change_in(&step.put, frames, false);
+    }
+
+    /// This sum with one body more: its mass in kg, its moments and its free surface moment in kg mm, and at each frame the mass aft of it and
+    /// that mass's moment.
+    pub fn add(&mut self, body: &Body, frames: &Frames)
+        requires room { size_of self.old + 1 ≤ most_parts }
+        ensures kept { self.new ≡ both_kept self.old (kept_of (of_body frames.now body.now) 1) }
+        ensures values { values self.new ≡ joined (values self.old) (of_body frames.now body.now) }
+        ensures size { size_of self.new ≡ size_of self.old + 1 }
+    {
+        self.change(body, frames, false);
+    }
+
+    /// This sum after a step: without the body that the step takes out, with the one that it puts in. Masses are in kg, moments in kg mm. It
+    /// is what joining [`Totals::of_step`] to it gives, with no sum in between.
+    pub fn add_step(&mut self, step: &Step, frames: &Frames)
+        requires room { size_of self.old + bodies_of step.now ≤ most_parts }
+        ensures { self.new
+            ≡ both_kept self.old (kept_of (changed_by frames.now step.now) (bodies_of step.now)) }
+    {
+        self.change_by(step, frames);
+    }
+}
+
+impl Totals {
     /// What a step changes: the body that it takes out with the other sign, and the one that it puts in. The share of a body that is taken out
     /// is its share when it was put in, negated.
     pub fn of_step(step: &Step, frames: &Frames) -> Totals
@@ -162,9 +215,9 @@ impl Totals {
         ensures size { size_of result ≤ 2 }
         ensures kept { result ≡ kept_of (changed_by frames.now step.now) (bodies_of step.now) }
     {
-        let out = Totals::of_option(step.out, frames).minus();
-        let put = Totals::of_option(step.put, frames);
-        out.join(&put)
+        let mut sum = Totals::unit();
+        sum.change_by(step, frames);
+        sum
     }
 }
 
@@ -227,48 +280,4 @@ impl Monoid for Totals {
             parts: self.parts + right.parts,
         }
     }
-}
-
-/// The moment of a mass at the end of an arm.
-fn moment(kg: i128, arm: i128) -> i128
-    requires kg { unsigned_abs kg ≤ 10 ^ 9 }
-    requires arm { unsigned_abs arm ≤ 10 ^ 6 }
-    ensures value { result ≡ kg *ℤ arm }
-    ensures within { unsigned_abs result ≤ 10 ^ 15 }
-{
-    kg * arm
-}
-
-/// The free surface moment of a body.
-fn surface(body: &Body) -> i128
-    ensures value { result ≡ body.now.fsm }
-    ensures within { unsigned_abs result ≤ 10 ^ 12 }
-{
-    i128::from(body.fsm())
-}
-
-/// The mass of a body aft of each frame, and 0 at the places behind the last frame.
-fn weights_aft(body: &Body, frames: &Frames) -> [i128; 16]
-    ensures value { (i : ℕ) → at result i ≡ at_frame weight_aft (slice_get frames.now i) body.now }
-    ensures within { IsWithin (10 ^ 9) result }
-{
-    let list = frames.as_slice();
-    let mut shares = [0; 16];
-    for i in 0..list.len() {
-        shares[i] = weight_aft(body, list[i].x);
-    }
-    shares
-}
-
-/// The moment about each frame of the mass aft of it, and 0 at the places behind the last frame.
-fn moments_aft(body: &Body, frames: &Frames) -> [i128; 16]
-    ensures value { (i : ℕ) → at result i ≡ at_frame moment_aft (slice_get frames.now i) body.now }
-    ensures within { IsWithin (2 * 10 ^ 15) result }
-{
-    let list = frames.as_slice();
-    let mut shares = [0; 16];
-    for i in 0..list.len() {
-        shares[i] = moment_aft(body, list[i].x);
-    }
-    shares
 }

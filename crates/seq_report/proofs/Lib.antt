@@ -3,6 +3,7 @@ pub mod ChunkLemmas
 pub mod Digits
 pub mod FirstLemmas
 pub mod OffsetLemmas
+pub mod PartLemmas
 pub mod PlanLemmas
 pub mod RunLemmas
 pub mod SumLemmas

@@ -71,7 +71,7 @@ line_told case ready k s said f here is told = told ∙ ap failure_of (is ∙ ap
 pub parts_few : (k : ℕ) → k ≤ 120001 → parts_to k ≤ 2 ^ 19
 parts_few k h = omega arith
 
-few_bodies : (o : Option Step) → bodies_in o ≤ 2
+pub few_bodies : (o : Option Step) → bodies_in o ≤ 2
 few_bodies None = omega arith
 few_bodies (Some step) = by step.out step.put where
   by : (out put : Option Mass) → length (option_to_list out) + length (option_to_list put) ≤ 2

@@ -1,5 +1,6 @@
 ghost use Rattle.std.specs.Prelude.{◌≡◌, ◌+◌, ◌-◌, ◌^◌, ◌<◌, ◌≤◌, ℕ, length, map, slice_index_or, IfOk};
 ghost use Rattle.std.specs.List.{range_with_len};
+ghost use Rattle.prefix_scan.specs.Laws.{most_parts};
 ghost use Rattle.moment_sums.specs.Kept.{Kept, both_kept, size_of, values};
 ghost use Rattle.moment_sums.specs.Sum.{sum_of};
 ghost use Rattle.seq_report.specs.Cases.{IsReady, seen};
@@ -22,23 +23,24 @@ pub fn arrival_total(profile: &Profile, arrival: &Arrival) -> Totals
     let bodies = arrival.bodies();
     let mut sum = Totals::unit();
     for body in bodies {
-        sum = sum.join(&Totals::of(body, frames));
+        sum.add(body, frames);
     }
     sum
 }
 
-/// What the step behind line `k` changes; nothing behind the last line.
-pub fn change_behind(case: CaseView<'_>, k: u32) -> Totals
+/// Changes the sum at line `k` into that at the next line; nothing changes behind the last line.
+pub fn pass_line(case: CaseView<'_>, k: u32, sum: &mut Totals)
     requires ready { IsReady (seen case) }
     requires there { k ≤ length case.sequence.now.ops }
-    ensures { result
-        ≡ change_behind case.entry.profile.now.ship.frames case.entry.sequence.now.steps k }
+    requires room { size_of sum.old + 2 ≤ most_parts }
+    ensures { sum.new ≡ both_kept sum.old
+        (change_behind case.entry.profile.now.ship.frames case.entry.sequence.now.steps k) }
 {
     let k = k as usize;
     if k == case.sequence.len() {
-        return Totals::unit();
+        return;
     }
-    Totals::of_step(&case.sequence.step(k + 1), case.profile.frames())
+    sum.add_step(&case.sequence.step(k + 1), case.profile.frames());
 }
 
 /// What the steps behind the lines from `start` to `end` change together.
@@ -52,7 +54,7 @@ pub fn chunk_total(case: CaseView<'_>, start: u32, end: u32) -> Totals
 {
     let mut sum = Totals::unit();
     for k in start..end {
-        sum = sum.join(&change_behind(case, k));
+        pass_line(case, k, &mut sum);
     }
     sum
 }

@@ -128,14 +128,19 @@ fn put_judged(end: &mut BackwardText, line: &StepLine)
     end.put_byte(b' ');
 }
 
-/// Writes the line of a step, with the lift that leads to it.
-pub fn write_line(text: &mut String, lift: Option<&Op>, line: &StepLine) -> Result<(), AllocError>
+/// Writes the line of a step, with the lift that leads to it. The line is put together in `end`, whatever that held before.
+pub fn write_line(
+    text: &mut String,
+    end: &mut BackwardText,
+    lift: Option<&Op>,
+    line: &StepLine,
+) -> Result<(), AllocError>
     ensures { OnOk result (string_bytes text.new
         ≡ string_bytes text.old ++ line_of (option_map (λ op. op.now) lift.entry) (said line.now)) }
 {
-    let mut end = BackwardText::new();
-    put_judged(&mut end, line);
-    put_lift(&mut end, lift);
+    end.clear();
+    put_judged(end, line);
+    put_lift(end, lift);
     end.put_byte(b' ');
     end.put_natural(u64::from(line.step));
     end.append_to(text)

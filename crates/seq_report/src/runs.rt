@@ -14,7 +14,7 @@ use crate::inputs::Inputs;
 use crate::jobs::Lines;
 use crate::plans::Options;
 use crate::prepared::{Prepared, prepare};
-use crate::sink::{Sink, put_all};
+use crate::sink::Sink;
 use crate::weights::{items_are_light, ops_are_light};
 use claim_run::{Gate, Workers, run};
 use lift_sequence::{Arrival, Sequence};
@@ -50,7 +50,7 @@ fn put_report<S: Sink>(made: &CompleteReport, sink: &mut S) -> Result<Summary, R
         × (m < length made.now.text)
         × Appends (S.contents sink.old) (S.contents sink.new) (take m made.now.text)) }
 {
-    match put_all(sink, made.text().as_bytes()) {
+    match made.put_into(sink) {
         Ok(()) => Ok(made.summary()),
         Err(written) => Err(RunFault::Write(written)),
     }

@@ -6,13 +6,14 @@ ghost use Rattle.seq_report.specs.Chunks.{part_of};
 ghost use Rattle.seq_report.specs.Report.{failure_of, first_of, line_of, said};
 
 use crate::cases::CaseView;
-use crate::chunks::change_behind;
+use crate::chunks::pass_line;
 use crate::lines::write_line;
 use crate::step_lines::StepLine;
 use criteria::{Criterion, Nearby};
+use decimal_text::BackwardText;
 use lift_sequence::Op;
 use moment_sums::Totals;
-use prefix_scan::Monoid;
+use ship_profile::Profile;
 use std::alloc::{AllocError, Global};
 use std::marker::Model;
 use strength::Hull;
@@ -34,24 +35,29 @@ impl Model for Section {
 }
 
 impl Section {
-    /// No line.
-    fn new(alloc: Global) -> Section
-        ensures { result ≡ record { text = []; first = None } }
+    /// No line, with room for a text of so many bytes.
+    fn new(alloc: Global, room: usize) -> Result<Section, AllocError>
+        ensures { IfOk result (λ s. s ≡ record { text = []; first = None }) }
     {
-        Section {
-            text: String::new(alloc),
+        Ok(Section {
+            text: String::with_capacity(alloc, room)?,
             first: None,
-        }
+        })
     }
 
-    /// Adds the line of a step, with the lift that leads to it.
-    fn add(&mut self, lift: Option<&Op>, line: &StepLine) -> Result<(), AllocError>
+    /// Adds the line of a step, with the lift that leads to it. The line is put together in `end`.
+    fn add(
+        &mut self,
+        end: &mut BackwardText,
+        lift: Option<&Op>,
+        line: &StepLine,
+    ) -> Result<(), AllocError>
         ensures { OnOk result (self.new ≡ record {
           text = self.old.text ++ line_of (option_map (λ op. op.now) lift.entry) (said line.now);
           first = option_or self.old.first (failure_of (said line.now));
         }) }
     {
-        write_line(&mut self.text, lift, line)?;
+        write_line(&mut self.text, end, lift, line)?;
         self.first = self.first.or(line.failure());
         Ok(())
     }
@@ -82,6 +88,11 @@ pub struct Chunk {
     pub first: Totals,
 }
 
+/// About how many bytes a line of this ship's report has: room for so many saves copies, and a text that is longer grows.
+fn line_room(profile: &Profile) -> usize {
+    100 + 24 * profile.frames().as_slice().len()
+}
+
 /// The lines of a chunk.
 pub fn make_section(
     alloc: Global,
@@ -95,13 +106,15 @@ pub fn make_section(
     ensures { IfOk result
         (λ s. s ≡ part_of (map (line_in (seen case.entry)) (lines_in chunk.now))) }
 {
-    let mut section = Section::new(alloc);
+    let lines = chunk.end.saturating_sub(chunk.start) as usize;
+    let mut section = Section::new(alloc, lines.saturating_mul(line_room(case.profile)))?;
     let mut sum = chunk.first;
     let mut near = Nearby::default();
+    let mut end = BackwardText::new();
     for k in chunk.start..chunk.end {
         let line = StepLine::judged(case.profile, hull, k, &sum, &mut near);
-        section.add(case.lift(k), &line)?;
-        sum = sum.join(&change_behind(case, k));
+        section.add(&mut end, case.lift(k), &line)?;
+        pass_line(case, k, &mut sum);
     }
     Ok(section)
 }
@@ -121,7 +134,7 @@ pub fn first_failing(case: CaseView<'_>, hull: &Hull, chunk: &Chunk) -> Option<(
         if failure.is_some() {
             return failure;
         }
-        sum = sum.join(&change_behind(case, k));
+        pass_line(case, k, &mut sum);
     }
     None
 }

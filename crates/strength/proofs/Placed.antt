@@ -1,5 +1,5 @@
 -- Numbers written place by place; areas at all stations.
-use Rattle.std.proofs.Common.{◌≡◌, ◌∙◌, ℕ, zero, suc, ◌+◌, ◌*◌, ◌/◌, ◌<◌, ◌≤◌, ◌⊎◌, inl, inr, List, [], ◌∷◌, length, get_or, set, get_or-set_same, get_or-set_other, below_more, ◌≢◌, replicate, Option, None, Some, unsigned_abs, FitsSigned, to_z, of_z, to_z-of_z, ℤ, pos, ◌+ℤ◌, ◌-ℤ◌, ◌*ℤ◌, ◌≤ℤ◌, refl, sym, ap, arith}
+use Rattle.std.proofs.Common.{◌≡◌, ◌∙◌, ℕ, zero, suc, true, ◌+◌, ◌*◌, ◌/◌, ◌<◌, ◌≤◌, ◌⊎◌, inl, inr, List, [], ◌∷◌, length, get_or, set, get_or-set_same, get_or-set_other, below_more, ◌≢◌, replicate, Option, None, Some, unsigned_abs, FitsSigned, to_z, of_z, to_z-of_z, ℤ, pos, ◌+ℤ◌, ◌-ℤ◌, ◌*ℤ◌, ◌≤ℤ◌, refl, sym, ap, arith}
 use Rattle.std.specs.Prelude.{is_some}
 use Rattle.std.proofs.lemmas.Option.{slice_get_past}
 use Rattle.std.specs.Int.{w128}
@@ -81,3 +81,20 @@ on_line_is x0 y0 x1 y1 x a p b r e f g h =
 -- the next of running sums, written behind the first k
 pub set_next : (ns : List ℤ) (g : ℕ → ℤ) (k : ℕ) (v : ℤ) → k + 1 < length ns → ((n : ℕ) → n ≤ k → at ns n ≡ g n) → v ≡ g (k + 1) → (n : ℕ) → n ≤ k + 1 → at (set ns (k + 1) v) n ≡ g n
 set_next ns g k v inside done e n low = set_done ns g (k + 1) v inside (λ j less. done j (omega arith)) e n (omega arith)
+
+-- what holds of all numbers up to k, and of the next
+pub one_there : (found : ℕ → Option ℤ) → is_some (found 0) ≡ true → (j : ℕ) → j ≤ 0 → is_some (found j) ≡ true
+one_there found h zero low = h
+one_there found h (suc j) low = absurd (omega arith)
+
+pub next_there : (found : ℕ → Option ℤ) (k : ℕ) → ((j : ℕ) → j ≤ k → is_some (found j) ≡ true) → is_some (found (k + 1)) ≡ true → (j : ℕ) → j ≤ k + 1 → is_some (found j) ≡ true
+next_there found k done h j low = elim (below_cases j (k + 1)) [
+  | inl less ↦ done j (omega arith)
+  | inr past ↦ let same : j ≡ k + 1 = omega arith in rw same h
+]
+
+-- the areas are all there where none is missing
+pub areas_there : (t : CurveTable) (dr : ℤ → Ratio) (xs : List ℤ) (n : ℕ) → length xs ≤ n + 1 → ((j : ℕ) → j ≤ n → is_some (area_at t dr xs j) ≡ true) → Some (λ k. or_none (area_at t dr xs k)) ≡ areas_of t dr xs
+areas_there t dr xs n all done =
+    let every = range_all (λ j. is_some (area_at t dr xs j)) 0 (length xs) (λ i low high. let less : i ≤ n = omega arith in done i less) in
+    rw every refl

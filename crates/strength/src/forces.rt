@@ -3,6 +3,19 @@ ghost use Rattle.std.specs.Int.{int_div_euclid};
 ghost use Rattle.units_core.specs.Interpolation.{at, IsWithin};
 ghost use Rattle.strength.specs.Buoyancy.{IsBuoyancy, IsMoment, arm_top, force_top, tops};
 
+/// Twice the volume between two stations, by their places and their areas.
+#[inline(always)]
+pub fn force_between(aft: i64, fore: i64, first: i64, second: i64) -> i64
+    requires aft { unsigned_abs aft ≤ 10 ^ 6 }
+    requires fore { unsigned_abs fore ≤ 10 ^ 6 }
+    requires first { unsigned_abs first ≤ 10 ^ 8 }
+    requires second { unsigned_abs second ≤ 10 ^ 8 }
+    ensures value { result ≡ (fore -ℤ aft) *ℤ (first +ℤ second) }
+    ensures size { unsigned_abs result ≤ 4 * 10 ^ 14 }
+{
+    (fore - aft) * (first + second)
+}
+
 /// Twice the volume between the stations `k` and `k + 1`.
 fn force_term(xs: &[i64; 64], areas: &[i64; 64], k: usize) -> i64
     requires inside { k < 63 }
@@ -11,7 +24,7 @@ fn force_term(xs: &[i64; 64], areas: &[i64; 64], k: usize) -> i64
     ensures value { result ≡ force_top (at xs.now) (at areas.now) k }
     ensures size { unsigned_abs result ≤ 4 * 10 ^ 14 }
 {
-    (xs[k + 1] - xs[k]) * (areas[k] + areas[k + 1])
+    force_between(xs[k], xs[k + 1], areas[k], areas[k + 1])
 }
 
 /// Three times the place a third of the way from `near` to `far`.
@@ -56,6 +69,22 @@ fn product(a: i64, b: i64) -> i128
     i128::from(a) * i128::from(b)
 }
 
+/// Six times the moment about the after perpendicular of the volume between two stations, by their places and their areas.
+#[inline(always)]
+pub fn arm_between(aft: i64, fore: i64, first: i64, second: i64) -> i128
+    requires aft { unsigned_abs aft ≤ 10 ^ 6 }
+    requires fore { unsigned_abs fore ≤ 10 ^ 6 }
+    requires first { unsigned_abs first ≤ 10 ^ 8 }
+    requires second { unsigned_abs second ≤ 10 ^ 8 }
+    ensures value { result ≡ (fore -ℤ aft) *ℤ ((first *ℤ ((pos 2 *ℤ aft) +ℤ fore))
+        +ℤ (second *ℤ ((pos 2 *ℤ fore) +ℤ aft))) }
+    ensures size { unsigned_abs result ≤ 12 * 10 ^ 20 }
+{
+    let near = third_from(aft, fore);
+    let far = third_from(fore, aft);
+    product(distance(aft, fore), weighted(first, near, second, far))
+}
+
 /// Six times the moment about the after perpendicular of the volume between the stations `k` and `k + 1`.
 fn arm_term(xs: &[i64; 64], areas: &[i64; 64], k: usize) -> i128
     requires inside { k < 63 }
@@ -64,14 +93,7 @@ fn arm_term(xs: &[i64; 64], areas: &[i64; 64], k: usize) -> i128
     ensures value { result ≡ arm_top (at xs.now) (at areas.now) k }
     ensures size { unsigned_abs result ≤ 12 * 10 ^ 20 }
 {
-    let aft = xs[k];
-    let fore = xs[k + 1];
-    let first = third_from(aft, fore);
-    let second = third_from(fore, aft);
-    product(
-        distance(aft, fore),
-        weighted(areas[k], first, areas[k + 1], second),
-    )
+    arm_between(xs[k], xs[k + 1], areas[k], areas[k + 1])
 }
 
 /// Twice the volumes of the first intervals between stations, by how many they are, up to `intervals`.
@@ -123,15 +145,26 @@ pub fn buoyancy(volume: i64) -> i64
 /// What 41 times the moment of a volume is divided by.
 const PARTS: i128 = 2_400_000;
 
-/// 2^84 / 2,400,000, by which quotients are guessed.
-const RECIPROCAL: i128 = 8_059_505_464_097_527_831;
+/// 2^72 / 2,400,000 and 2^84 / 2,400,000, by which quotients are guessed.
+const RECIPROCAL: i128 = 1_967_652_701_195_686;
 
-/// About a 2,400,000th of a number; any number would do, since it is tested.
+const COARSE_RECIPROCAL: i128 = 8_059_505_464_097_527_831;
+
+/// About a 2,400,000th of a great number: right, or 1 too small.
+#[cold]
+fn coarse_guess(top: i128) -> i64 {
+    match i64::try_from(top >> 20) {
+        Ok(leading) => ((i128::from(leading) * COARSE_RECIPROCAL) >> 64) as i64,
+        Err(_) => 0,
+    }
+}
+
+/// About a 2,400,000th of a number, which is nearly always right below 2^71; any number would do, since it is tested.
 #[inline(always)]
 fn guess(top: i128) -> i64 {
-    match i64::try_from(top >> 20) {
+    match i64::try_from(top >> 8) {
         Ok(leading) => ((i128::from(leading) * RECIPROCAL) >> 64) as i64,
-        Err(_) => 0,
+        Err(_) => coarse_guess(top),
     }
 }
 

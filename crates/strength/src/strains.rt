@@ -1,5 +1,5 @@
-ghost use Rattle.std.specs.Prelude.{◌≡◌, ℕ, ◌^◌, ◌≤◌, ◌-ℤ◌, unsigned_abs};
-ghost use Rattle.units_core.specs.Interpolation.{at};
+ghost use Rattle.std.specs.Prelude.{◌≡◌, ℕ, ◌-◌, ◌^◌, ◌≤◌, ℤ, ◌-ℤ◌, unsigned_abs, length, ◌*◌};
+ghost use Rattle.units_core.specs.Interpolation.{at, IsWithin};
 ghost use Rattle.moment_sums.specs.Bounded.{IsBounded};
 ghost use Rattle.moment_sums.specs.Kept.{values};
 ghost use Rattle.moment_sums.specs.Sum.{Weight};
@@ -7,6 +7,7 @@ ghost use Rattle.hydrostat.specs.Floating.{load, water};
 ghost use Rattle.strength.specs.Hull.{IsHullOf};
 ghost use Rattle.strength.specs.Immersed.{areas_along};
 ghost use Rattle.strength.specs.Loads.{AreLoadsBy, AreLoadsOf, IsFloatingWith};
+ghost use Rattle.strength.specs.Running.{AreRunning, AreStrains};
 ghost use Rattle.strength.specs.Strains.{bending_at, closing_of, shear_at};
 
 use crate::closing::closes;
@@ -28,22 +29,27 @@ fn minus(one: i128, other: i128) -> i128
     one - other
 }
 
-/// The loads on the hull with this aboard, the areas of its sections as given.
-pub fn strains_of(profile: &Profile, hull: &Hull, totals: &Totals, areas: &Areas) -> Strains
+/// The loads on the hull with this aboard, by twice the volumes of the first intervals between stations and six times their moments about the
+/// after perpendicular, each by how many intervals they are.
+#[inline(always)]
+pub fn strains_by(
+    profile: &Profile,
+    hull: &Hull,
+    totals: &Totals,
+    volumes: &[i64; 64],
+    arms: &[i128; 64],
+) -> Strains
     requires of { IsHullOf hull.now profile.now.ship }
     requires bounded { IsBounded (values totals.now) }
     requires kg { unsigned_abs (values totals.now Weight) ≤ 10 ^ 9 }
-    ensures shear { (i : ℕ) → at result.loads.shear i ≡ shear_at (values totals.now)
-        (at areas.now.area) profile.now.ship.stations profile.now.ship.frames i }
-    ensures bending { (i : ℕ) → at result.loads.bending i ≡ bending_at (values totals.now)
-        (at areas.now.area) profile.now.ship.stations profile.now.ship.frames i }
-    ensures closing { result.closing
-        ≡ closing_of (values totals.now) (at areas.now.area) profile.now.ship.stations }
+    requires volumes { IsWithin (3 * 10 ^ 16) volumes.now }
+    requires arms { IsWithin (10 ^ 23) arms.now }
+    ensures { (areas : ℕ → ℤ) → AreRunning volumes.now arms.now
+        (at profile.now.ship.stations) areas (length profile.now.ship.stations - 1)
+        → AreStrains result (values totals.now) areas profile.now.ship }
 {
     let intervals = profile.stations().len() - 1;
     let frames = profile.frames().as_slice();
-    let volumes = running_volumes(hull.places(), &areas.area, intervals);
-    let arms = running_arms(hull.places(), &areas.area, intervals);
     let mut shear = [0; 16];
     let mut bending = [0; 16];
     for i in 0..frames.len() {
@@ -58,6 +64,24 @@ pub fn strains_of(profile: &Profile, hull: &Hull, totals: &Totals, areas: &Areas
         loads: Loads { shear, bending },
         closing: minus(i128::from(buoyancy(volumes[intervals])), totals.kg()),
     }
+}
+
+/// The loads on the hull with this aboard, the areas of its sections as given.
+pub fn strains_of(profile: &Profile, hull: &Hull, totals: &Totals, areas: &Areas) -> Strains
+    requires of { IsHullOf hull.now profile.now.ship }
+    requires bounded { IsBounded (values totals.now) }
+    requires kg { unsigned_abs (values totals.now Weight) ≤ 10 ^ 9 }
+    ensures shear { (i : ℕ) → at result.loads.shear i ≡ shear_at (values totals.now)
+        (at areas.now.area) profile.now.ship.stations profile.now.ship.frames i }
+    ensures bending { (i : ℕ) → at result.loads.bending i ≡ bending_at (values totals.now)
+        (at areas.now.area) profile.now.ship.stations profile.now.ship.frames i }
+    ensures closing { result.closing
+        ≡ closing_of (values totals.now) (at areas.now.area) profile.now.ship.stations }
+{
+    let intervals = profile.stations().len() - 1;
+    let volumes = running_volumes(hull.places(), &areas.area, intervals);
+    let arms = running_arms(hull.places(), &areas.area, intervals);
+    strains_by(profile, hull, totals, &volumes, &arms)
 }
 
 /// The loads on the hull of a ship afloat.

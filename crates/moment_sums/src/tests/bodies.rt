@@ -59,7 +59,7 @@ static OF_BOX: Values = [
 ];
 
 /// Both.
-static OF_BOTH: Values = [
+pub static OF_BOTH: Values = [
     21_401,
     1_048_450_000,
     21_901_200,

@@ -32,3 +32,22 @@ fn share_aft_of_frame(rt: HostRuntime) -> Result<(), Fail> {
     }
     Ok(())
 }
+
+/// A body of 450,000,000 kg and 300,002 mm, of which 149,994 mm lie aft of the frame at 50,000.
+const LONG: Row = Row {
+    kg: 450_000_000,
+    x: 50_007,
+    half: 150_001,
+    ..CONTAINER
+};
+
+#[test]
+fn share_of_long_body(rt: HostRuntime) -> Result<(), Fail> {
+    let frame = length(50_000)?;
+    let body = LONG.body()?;
+    // 450,000,000 * 149,994 / 300,002 = 224,989,500.07
+    assert_eq!(rt; weight_aft(&body, frame), 224_989_500);
+    // 450,000,000 * 149,994 * 149,994 / 600,004 = 16,873,537,536,749.8, whose product of 1.01 * 10^19 takes more than 64 bits
+    assert_eq!(rt; moment_aft(&body, frame), 16_873_537_536_749);
+    Ok(())
+}

@@ -1,5 +1,5 @@
 //! What steps change of a sum.
-use super::bodies::{OF_CONTAINER, Values, joined, values};
+use super::bodies::{OF_BOTH, OF_CONTAINER, Values, joined, values};
 use super::ships::{Check, on_box_ship};
 use super::tables::{BOX, CONTAINER};
 use crate::Totals;
@@ -108,4 +108,82 @@ impl Check for Idle {
 #[test]
 fn idle_step(rt: HostRuntime) -> Result<(), Fail> {
     on_box_ship(&rt, &Idle)
+}
+
+/// Two containers: 2 * 20,501, 2 * 1,025,050,000, 2 * 24,601,200, 2 * 213,210,400 and 2 * 7,000,003; aft of the frame at 50,000 twice the
+/// share that is rounded down, 2 * 10,250 with 2 * 15,524,382.
+static TWO_CONTAINERS: Values = [
+    41_002,
+    2_050_100_000,
+    49_202_400,
+    426_420_800,
+    14_000_006,
+    0,
+    20_500,
+    0,
+    0,
+    31_048_764,
+    0,
+];
+
+/// A sum of few bodies after a step.
+fn stepped(sum: &Totals, step: &Step, frames: &Frames) -> Result<Totals, Fail> {
+    if sum.size() > 1_000 {
+        return Err("too many bodies")?;
+    }
+    let mut next = *sum;
+    next.add_step(step, frames);
+    Ok(next)
+}
+
+/// The box aboard, then a load of the container, then another container in the box's place.
+#[derive(Clone, Copy)]
+struct Running;
+
+impl Check for Running {
+    fn check(&self, rt: &(impl Abort + AllocGlobal), frames: &Frames) -> Result<(), Fail> {
+        let container = Some(CONTAINER.body()?);
+        let first = BOX.body()?;
+        let mut sum = Totals::unit();
+        sum.add(&first, frames);
+        let load = Step {
+            out: None,
+            put: container,
+        };
+        let loaded = stepped(&sum, &load, frames)?;
+        assert_eq!(rt; values(&loaded).as_slice(), OF_BOTH.as_slice());
+        assert_eq!(rt; loaded.size(), 2);
+        let exchange = Step {
+            out: Some(first),
+            put: container,
+        };
+        let exchanged = stepped(&loaded, &exchange, frames)?;
+        assert_eq!(rt; values(&exchanged).as_slice(), TWO_CONTAINERS.as_slice());
+        assert_eq!(rt; exchanged.size(), 4);
+        Ok(())
+    }
+}
+
+#[test]
+fn running_sum(rt: HostRuntime) -> Result<(), Fail> {
+    on_box_ship(&rt, &Running)
+}
+
+/// The container put in where there is the box.
+#[derive(Clone, Copy)]
+struct Added;
+
+impl Check for Added {
+    fn check(&self, rt: &(impl Abort + AllocGlobal), frames: &Frames) -> Result<(), Fail> {
+        let mut sum = Totals::of(&BOX.body()?, frames);
+        sum.add(&CONTAINER.body()?, frames);
+        assert_eq!(rt; values(&sum).as_slice(), OF_BOTH.as_slice());
+        assert_eq!(rt; sum.size(), 2);
+        Ok(())
+    }
+}
+
+#[test]
+fn one_body_more(rt: HostRuntime) -> Result<(), Fail> {
+    on_box_ship(&rt, &Added)
 }

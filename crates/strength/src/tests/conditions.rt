@@ -2,7 +2,7 @@
 //! interval of 25 m.
 use super::cargo::{Container, floating, loaded};
 use super::ships::{Check, on_box_ship};
-use crate::{Hull, areas_aboard, loads_of, strains_of};
+use crate::{BonjeanRow, Hull, areas_aboard, loads_of, strains_aboard, strains_of};
 use ship_profile::Profile;
 use std::process::Abort;
 use std::test::Fail;
@@ -96,6 +96,31 @@ fn loads_of_container_amidships(rt: HostRuntime) -> Result<(), Fail> {
 #[test]
 fn loads_of_container_aft(rt: HostRuntime) -> Result<(), Fail> {
     on_box_ship(&rt, &AFT)
+}
+
+/// The loads of a condition by one walk along the stations.
+#[derive(Clone, Copy)]
+struct Walked(Condition);
+
+impl Check for Walked {
+    fn check(&self, rt: &(impl Abort + AllocGlobal), profile: &Profile) -> Result<(), Fail> {
+        let sum = loaded(profile.frames(), self.0.container)?;
+        let afloat = floating(profile, &sum)?;
+        let hull = Hull::new(profile);
+        let mut near = BonjeanRow::default();
+        let strains = strains_aboard(profile, &hull, &sum, &afloat.afloat, &mut near).ok_or(
+            "areas",
+        )?;
+        assert_eq!(rt; first_five(&strains.loads.shear), self.0.shear);
+        assert_eq!(rt; first_five(&strains.loads.bending), self.0.bending);
+        assert_eq!(rt; strains.closing, self.0.closing);
+        Ok(())
+    }
+}
+
+#[test]
+fn strains_by_one_walk(rt: HostRuntime) -> Result<(), Fail> {
+    on_box_ship(&rt, &Walked(AFT))
 }
 
 /// The hull of the box ship.

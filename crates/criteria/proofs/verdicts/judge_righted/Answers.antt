@@ -1,13 +1,26 @@
-use Rattle.std.proofs.Common.{◌∙◌, ap}
-use Rattle.hydrostat.specs.Floating.{draught_at, water}
+use Rattle.std.proofs.Common.{◌≡◌, ◌∙◌, ℕ, ℤ, Option, None, Some}
+use Rattle.ship_profile.specs.Record.{ProfileRecord}
+use Rattle.moment_sums.specs.Sum.{Sum}
+use Rattle.hydrostat.specs.Floating.{Hydrostatics, draught_at, water}
 use Rattle.moment_sums.specs.Kept.{values}
+use Rattle.units_core.specs.Ratio.{Ratio}
 use Rattle.strength.specs.Immersed.{areas_of}
-use Rattle.criteria.specs.Judgement.{with_areas}
+use Rattle.strength.specs.Running.{AreStrains, AreStrainsBy}
+use Rattle.strength.specs.Strains.{closes, closing_of}
+use Rattle.strength.specs.declared.loads.Strains.{Strains}
+use Rattle.criteria.specs.Judgement.{Judgement, with_areas, with_closing}
 use Rattle.criteria.proofs.verdicts.judge_righted.Goals as goal
+
+-- what is answered of any areas that the loads are by is answered of those that there are
+by_areas : (answer : Judgement) (p : ProfileRecord) (s : Sum) (w : Hydrostatics) (y : ℕ → Ratio) (r : Strains) (o : Option (ℕ → ℤ)) → AreStrainsBy r s o p.ship
+    → ((areas : ℕ → ℤ) → AreStrains r s areas p.ship → answer ≡ with_closing p s w y areas (closes (closing_of s areas p.ship.stations) p.ship.closing_max)) → answer ≡ with_areas p s w y o
+by_areas answer p s w y r None is h = absurd is
+by_areas answer p s w y r (Some areas) is h = h areas is
 
 pub returns-in-Some : goal.returns-in-Some
 returns-in-Some c =
     let p = c.args.profile.now in
     let a = c.args.a.now in
-    λ y are. c.judge_immersed.ensures y are ∙ ap (with_areas p (values c.args.totals.now) (water a) y)
-    (c.in-Some.ensures ∙ (λ j. areas_of p.tables.bonjean (draught_at (water a) (c.requires.loaded j) (c.requires.length j)) p.ship.stations))
+    let s = values c.args.totals.now in
+    λ y are. by_areas _ p s (water a) y c.in-Some.strains _ c.in-Some.ensures (λ areas is. c.judge_strained.ensures areas is y are)
+    ∙ (λ j. with_areas p s (water a) y (areas_of p.tables.bonjean (draught_at (water a) (c.requires.loaded j) (c.requires.length j)) p.ship.stations))

@@ -18,12 +18,10 @@ loop-body-preserved c =
     let inside = c.loop-body-test.true in
     let few = c.requires in
     let count : length c.bodies-bodies.result.now ≡ length c.args.arrival.now.bodies = ap length c.bodies-bodies.ensures in
-    let both = kept_laws.op_weight c.loop-body.sum c.of.result (omega (arith, so_far.size, c.of.ensures.size, inside, few, count)) in
     record {
       sum = body_more c.args.profile.now.ship.frames c.bodies-bodies.result.now c.loop-body.body-index c.body-item.result _ _ _
-          inside c.body-item.is so_far.sum (c.of.ensures.values ∙ ap (λ f. of_body f c.body-item.result) c.frames-frames.ensures.value)
-          (ap values c.join-sum.ensures ∙ values_both c.loop-body.sum c.of.result);
-      size = omega (arith, ap size_of c.join-sum.ensures, both, so_far.size, c.of.ensures.size);
+          inside c.body-item.is so_far.sum (ap (λ f. of_body f c.body-item.result) c.frames-frames.ensures.value) c.add.ensures.values;
+      size = omega (arith, c.add.ensures.size, so_far.size);
     }
 
 pub returns-clause-sum : goal.returns-clause-sum

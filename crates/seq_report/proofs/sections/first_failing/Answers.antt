@@ -1,12 +1,13 @@
-use Rattle.std.proofs.Common.{◌∙◌, ◌+◌, ◌-◌, ◌≤◌, map, ap, sym, subst, arith}
+use Rattle.std.proofs.Common.{◌∙◌, ◌+◌, ◌-◌, ◌≤◌, map, ap, refl, sym, subst, arith}
 use Rattle.std.specs.List.{range_with_len}
 use Rattle.std.specs.Option.{option_or}
 use Rattle.moment_sums.specs.Bounded.{IsBounded}
 use Rattle.moment_sums.specs.Kept.{values}
 use Rattle.seq_report.specs.Cases.{line_in, seen}
+use Rattle.seq_report.specs.Chunks.{change_behind}
 use Rattle.seq_report.specs.Report.{first_of}
 use Rattle.seq_report.proofs.ChunkLemmas.{first_here, or_other, or_some}
-use Rattle.seq_report.proofs.SumLemmas.{line_told, next_size, next_sum, room_for_next, sum_here}
+use Rattle.seq_report.proofs.SumLemmas.{line_told, next_size, next_sum, sum_here}
 use Rattle.seq_report.proofs.sections.first_failing.Goals as goal
 
 pub judged-line-requires-clause-bounded : goal.judged-line-requires-clause-bounded
@@ -16,10 +17,10 @@ judged-line-requires-clause-bounded c =
     let k = c.loop-k.k in
     subst IsBounded (sym (c.loop-k.invariant.sum ∙ sum_here case ready k)) (ready.bounded k)
 
-pub join-sum-requires : goal.join-sum-requires
-join-sum-requires c =
-    room_for_next (seen c.args.case) c.requires.ready c.loop-k.k (omega (arith, c.loop-k-test.true, c.requires.chunk.inside)) c.loop-k.sum c.change_behind.result
-    c.loop-k.invariant.size c.change_behind.ensures
+pub pass_line-requires-clause-room : goal.pass_line-requires-clause-room
+pass_line-requires-clause-room c =
+    let inside : c.loop-k.k ≤ 120000 = omega (arith, c.loop-k-test.true, c.requires.chunk.inside, c.requires.ready.few) in
+    omega (arith, inside, c.loop-k.invariant.size)
 
 pub returns-then-is_some : goal.returns-then-is_some
 returns-then-is_some c =
@@ -44,6 +45,6 @@ loop-k-preserved c =
       first = inv.first ∙ first_here case k e c.loop-k-test.true
           ∙ ap (λ o. option_or o (first_of (map (line_in case) (range_with_len (k + 1) (e - (k + 1)))))) (sym told)
           ∙ or_other c.failure-failure.result _ (sym c.is_some.ensures ∙ c.if-is_some.false);
-      sum = next_sum case ready k c.loop-k.sum c.change_behind.result c.join-sum.result inv.sum c.change_behind.ensures c.join-sum.ensures;
-      size = next_size case ready k inside c.loop-k.sum c.change_behind.result c.join-sum.result inv.size c.change_behind.ensures c.join-sum.ensures;
+      sum = next_sum case ready k c.loop-k.sum (change_behind case.profile.ship.frames case.sequence.steps k) c.pass_line.new.sum inv.sum refl c.pass_line.ensures;
+      size = next_size case ready k inside c.loop-k.sum (change_behind case.profile.ship.frames case.sequence.steps k) c.pass_line.new.sum inv.size refl c.pass_line.ensures;
     }

@@ -1,14 +1,14 @@
-use Rattle.std.proofs.Common.{◌≡◌, ◌∙◌, ◌++◌, ◌+◌, ◌-◌, [], ◌∷◌, map, ap, sym, subst, arith}
+use Rattle.std.proofs.Common.{◌≡◌, ◌∙◌, ◌++◌, ◌+◌, ◌-◌, ◌≤◌, [], ◌∷◌, map, ap, refl, sym, subst, arith}
 use Rattle.std.specs.List.{range_with_len}
 use Rattle.std.specs.Option.{option_or}
 use Rattle.std.proofs.lemmas.List.FromFn.{map-range_with_len_more}
 use Rattle.moment_sums.specs.Bounded.{IsBounded}
 use Rattle.moment_sums.specs.Kept.{values}
 use Rattle.seq_report.specs.Cases.{line_in, seen}
-use Rattle.seq_report.specs.Chunks.{Part, part_of}
+use Rattle.seq_report.specs.Chunks.{Part, change_behind, part_of}
 use Rattle.seq_report.specs.Report.{Line, Said, failure_of, lift_to, line_of, step_line, text_of}
 use Rattle.seq_report.proofs.ChunkLemmas.{part_more}
-use Rattle.seq_report.proofs.SumLemmas.{line_here, next_size, next_sum, room_for_next, sum_here}
+use Rattle.seq_report.proofs.SumLemmas.{line_here, next_size, next_sum, sum_here}
 use Rattle.seq_report.proofs.sections.make_section.Goals as goal
 
 pub judged-line-requires-clause-bounded : goal.judged-line-requires-clause-bounded
@@ -18,10 +18,10 @@ judged-line-requires-clause-bounded c =
     let k = c.loop-k.k in
     subst IsBounded (sym (c.loop-k.invariant.sum ∙ sum_here case ready k)) (ready.bounded k)
 
-pub join-sum-requires : goal.join-sum-requires
-join-sum-requires c =
-    room_for_next (seen c.args.case) c.requires.ready c.loop-k.k (omega (arith, c.loop-k-test.true, c.requires.chunk.inside)) c.loop-k.sum c.change_behind.result
-    c.loop-k.invariant.size c.change_behind.ensures
+pub pass_line-requires-clause-room : goal.pass_line-requires-clause-room
+pass_line-requires-clause-room c =
+    let inside : c.loop-k.k ≤ 120000 = omega (arith, c.loop-k-test.true, c.requires.chunk.inside, c.requires.ready.few) in
+    omega (arith, inside, c.loop-k.invariant.size)
 
 pub loop-k-preserved : goal.loop-k-preserved
 loop-k-preserved c =
@@ -47,6 +47,6 @@ loop-k-preserved c =
           ∙ ap (λ (l : Line). part_of (lines ++ l ∷ [])) (line_here case ready k (values c.loop-k.sum) inv.sum)
           ∙ ap part_of (sym (map-range_with_len_more (line_in case) start n k here))
           ∙ ap (λ m. part_of (map (line_in case) (range_with_len start m))) more;
-      sum = next_sum case ready k c.loop-k.sum c.change_behind.result c.join-sum.result inv.sum c.change_behind.ensures c.join-sum.ensures;
-      size = next_size case ready k (omega (arith, inside, there)) c.loop-k.sum c.change_behind.result c.join-sum.result inv.size c.change_behind.ensures c.join-sum.ensures;
+      sum = next_sum case ready k c.loop-k.sum (change_behind case.profile.ship.frames case.sequence.steps k) c.pass_line.new.sum inv.sum refl c.pass_line.ensures;
+      size = next_size case ready k (omega (arith, inside, there)) c.loop-k.sum (change_behind case.profile.ship.frames case.sequence.steps k) c.pass_line.new.sum inv.size refl c.pass_line.ensures;
     }

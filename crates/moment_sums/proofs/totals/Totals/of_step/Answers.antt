@@ -1,29 +1,34 @@
-use Rattle.std.proofs.Common.{arith, ◌∙◌, ap}
-use Rattle.moment_sums.specs.Kept.{Kept, kept_of, size_of, values}
-use Rattle.moment_sums.specs.KeptLaws.{kept_laws}
-use Rattle.moment_sums.proofs.Bounds.{values_both}
-use Rattle.moment_sums.proofs.KeptLemmas.{kept_is}
-use Rattle.moment_sums.proofs.StepLemmas.{step_values}
+use Rattle.std.proofs.Common.{◌∙◌, ap, arith}
+use Rattle.moment_sums.specs.Kept.{Kept, bodies_of, both_kept, kept_of, size_of, values}
+use Rattle.moment_sums.specs.Sum.{Sum, changed_by, joined}
+use Rattle.moment_sums.proofs.Bounds.{values_nothing}
+use Rattle.moment_sums.proofs.ChangeLemmas.{added_to_nothing, few_bodies, nothing_joined}
+use Rattle.moment_sums.proofs.KeptLemmas.{kept_size}
 use Rattle.moment_sums.proofs.totals.Totals.of_step.Goals as goal
 
-pub returns-clause-values : goal.returns-clause-values
-returns-clause-values c =
-    step_values c.args.frames.now c.args.step.now (values c.of_option.result) (values c.minus-out.result) (values c.of_option-put.result) (values c.join.result)
-    c.of_option.ensures.values c.minus-out.ensures.values c.of_option-put.ensures.values
-    (ap values c.join.ensures ∙ values_both c.minus-out.result c.of_option-put.result)
-
-pub returns-clause-parts : goal.returns-clause-parts
-returns-clause-parts c =
-    omega (arith, ap (λ (t : Kept). t.parts) c.join.ensures, c.of_option.ensures.parts, c.minus-out.ensures.parts, c.of_option-put.ensures.parts)
-
-pub returns-clause-size : goal.returns-clause-size
-returns-clause-size c =
-    let both = kept_laws.op_weight c.minus-out.result c.of_option-put.result (omega (arith, c.of_option.ensures.size, c.minus-out.ensures.size, c.of_option-put.ensures.size)) in
-    omega (arith, ap size_of c.join.ensures, both, c.of_option.ensures.size, c.minus-out.ensures.size, c.of_option-put.ensures.size)
+pub change_by-requires : goal.change_by-requires
+change_by-requires c =
+    let few = few_bodies c.args.step.now in
+    record { room = omega (arith, ap size_of c.unit-sum.ensures, few) }
 
 pub returns-clause-kept : goal.returns-clause-kept
 returns-clause-kept c =
-    let size = returns-clause-size c in
-    let sums = returns-clause-values c in
-    let bodies = returns-clause-parts c in
-    kept_is c.join.result (omega (arith, size)) ∙ (λ j. kept_of (sums j) (bodies j))
+    let sum = changed_by c.args.frames.now c.args.step.now in
+    let few = few_bodies c.args.step.now in
+    c.change_by.ensures.kept
+    ∙ ap (λ (s : Kept). both_kept s (kept_of sum (bodies_of c.args.step.now))) c.unit-sum.ensures
+    ∙ added_to_nothing sum (bodies_of c.args.step.now) (omega (arith, few))
+
+pub returns-clause-values : goal.returns-clause-values
+returns-clause-values c =
+    let sum = changed_by c.args.frames.now c.args.step.now in
+    c.change_by.ensures.values ∙ ap (λ (s : Sum). joined s sum) (ap values c.unit-sum.ensures ∙ values_nothing) ∙ nothing_joined sum
+
+pub returns-clause-parts : goal.returns-clause-parts
+returns-clause-parts c = ap (λ (t : Kept). t.parts) (returns-clause-kept c)
+
+pub returns-clause-size : goal.returns-clause-size
+returns-clause-size c =
+    let few = few_bodies c.args.step.now in
+    let size = ap size_of (returns-clause-kept c) ∙ kept_size (changed_by c.args.frames.now c.args.step.now) (bodies_of c.args.step.now) in
+    omega (arith, size, few)

@@ -1,0 +1,78 @@
+ghost use Rattle.std.specs.Prelude.{◌≡◌, ◌^◌, ◌*◌, ◌≤◌, ◌+ℤ◌, ◌*ℤ◌, pos, true, length, unsigned_abs};
+ghost use Rattle.units_core.specs.Interpolation.{IsWithin};
+ghost use Rattle.moment_sums.specs.Changes.{AreShared, signed};
+ghost use Rattle.moment_sums.specs.Shares.{moment_aft, weight_aft};
+
+use crate::shares::{Share, share_at};
+use ship_profile::Frames;
+use units_core::{Body, Mm};
+
+/// A number with what is put in or taken out.
+#[inline(always)]
+pub fn changed(number: i128, part: i64, taken: bool) -> i128
+    requires number { unsigned_abs number ≤ 10 ^ 30 }
+    requires part { unsigned_abs part ≤ 10 ^ 18 }
+    ensures { result ≡ number +ℤ signed taken part }
+{
+    if taken {
+        return number + i128::from(-part);
+    }
+    number + i128::from(part)
+}
+
+/// The moment of a body at the end of an arm, in kg mm.
+#[inline(always)]
+pub fn moment_of(body: &Body, arm: Mm) -> i64
+    ensures value { result ≡ pos body.now.kg *ℤ arm }
+    ensures within { unsigned_abs result ≤ 10 ^ 15 }
+{
+    i64::from(body.kg()) * i64::from(arm.get())
+}
+
+/// The free surface moment of a body, in kg mm.
+#[inline(always)]
+pub fn surface_of(body: &Body) -> i64
+    ensures value { result ≡ body.now.fsm }
+    ensures within { unsigned_abs result ≤ 10 ^ 12 }
+{
+    body.fsm()
+}
+
+/// Whether nothing of a body lies aft of a frame.
+#[inline(always)]
+fn is_nothing(share: &Share) -> bool
+    ensures weight { result ≡ true → share.now.weight ≡ pos 0 }
+    ensures moment { result ≡ true → share.now.moment ≡ pos 0 }
+{
+    share.weight == 0 && share.moment == 0
+}
+
+/// Changes the masses aft of the frames and the moments of these by a body that is put in or taken out, in one pass over the frames.
+#[inline(always)]
+pub fn change_shares(
+    weights: &mut [i128; 16],
+    moments: &mut [i128; 16],
+    body: &Body,
+    frames: &Frames,
+    taken: bool,
+)
+    requires weights_near { IsWithin (10 ^ 29) weights.old }
+    requires moments_near { IsWithin (10 ^ 29) moments.old }
+    ensures weights { AreShared weight_aft (10 ^ 9) taken frames.now body.now
+        weights.old weights.new }
+    ensures moments { AreShared moment_aft (2 * 10 ^ 15) taken frames.now body.now
+        moments.old moments.new }
+    ensures few { length frames.now ≤ 16 }
+{
+    // A copy of its own stays in registers while the rows are written.
+    let body = *body;
+    let list = frames.as_slice();
+    for i in 0..list.len() {
+        let share = share_at(&body, list[i].x);
+        if is_nothing(&share) {
+            continue;
+        }
+        weights[i] = changed(weights[i], share.weight, taken);
+        moments[i] = changed(moments[i], share.moment, taken);
+    }
+}

@@ -1,0 +1,8 @@
+-- Bookkeeping: the row of a table in which the last argument was found, and the ends of that row.
+use Rattle.std.specs.Prelude.{◌≡◌, ℕ, ◌+◌, ◌<◌, ℤ, List, length}
+use Rattle.units_core.specs.Interpolation.{at}
+
+pub record IsRowOf (arguments : List ℤ) (row : ℕ) (lower upper : ℤ) : Type 0 where
+  pub inside : row + 1 < length arguments
+  pub is_lower : lower ≡ at arguments row
+  pub is_upper : upper ≡ at arguments (row + 1)
