@@ -28,6 +28,7 @@ pub struct Figures {
 }
 
 /// The figures of a ship afloat, with these levers and loads.
+#[inline(always)]
 pub fn figures_of(a: &Afloat, levers: &Levers, strains: &Strains) -> Figures
     ensures { AreFigures result a.now levers.now strains.now }
 {

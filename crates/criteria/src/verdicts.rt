@@ -44,6 +44,7 @@ pub struct Nearby {
 }
 
 /// The verdict by the first criterion that isn't met, if there is one.
+#[inline(always)]
 fn judged(criterion: Option<Criterion>, figures: Figures) -> Verdict
     ensures { told result ≡ judged criterion (read figures) }
 {
@@ -61,6 +62,7 @@ fn outside(cause: Outside) -> Verdict
 }
 
 /// The verdict, once the loads are known.
+#[inline(always)]
 fn judge_loaded(
     profile: &Profile,
     totals: &Totals,
@@ -85,6 +87,7 @@ fn judge_loaded(
 }
 
 /// The verdict, once the loads and the closing error are known.
+#[inline(always)]
 fn judge_strained(
     profile: &Profile,
     totals: &Totals,
@@ -110,6 +113,7 @@ fn judge_strained(
 }
 
 /// The verdict, once the levers are known.
+#[inline(always)]
 fn judge_righted(
     profile: &Profile,
     totals: &Totals,
@@ -128,13 +132,15 @@ fn judge_righted(
         (areas_of profile.now.tables.bonjean (draught_at (water a.now)
         (load_of (values totals.now)) profile.now.ship.lbp) profile.now.ship.stations)) }
 {
-    match strains_aboard(profile, hull, totals, a, &mut near.bonjean) {
-        Some(strains) => judge_strained(profile, totals, a, levers, &strains, near),
+    let strains = strains_aboard(profile, hull, totals, a, &mut near.bonjean);
+    match &strains {
+        Some(strains) => judge_strained(profile, totals, a, levers, strains, near),
         None => outside(Outside::Bonjean),
     }
 }
 
 /// The verdict on a ship that floats.
+#[inline(always)]
 fn judge_afloat(
     profile: &Profile,
     totals: &Totals,

@@ -7,7 +7,7 @@ use Rattle.units_core.proofs.Order.{times_order}
 use Rattle.units_core.proofs.Ring.{diff_of, diff_same, differences, one_times, times_one}
 use Rattle.units_core.specs.Ratio.{whole, ◌over◌, ◌⊗◌, ◌⊘◌, Is, floor_of}
 use Rattle.units_core.proofs.Ratios.{is_sum_over, is_zero, is_over, is_whole, is_quotient, is_product, is_reduced, one_positive}
-use Rattle.units_core.proofs.Decisions.{floor_is, floor_same, floor_unique}
+use Rattle.units_core.proofs.Decisions.{floor_same}
 use Rattle.strength.specs.Buoyancy.{arm_top, force_top, moment_top, sum_of, tops}
 
 pub more : (g : ℕ → ℤ) (k : ℕ) → tops g k +ℤ g k ≡ tops g (k + 1)
@@ -70,15 +70,6 @@ sum_fits a b e f h = rw (e, f) h
 
 pub sum_back : {a' b' : ℤ} (a b : ℤ) → a' ≡ a → b' ≡ b → FitsSigned w64 (a +ℤ b) → to_z w64 (of_z w64 (a' +ℤ b')) ≡ a +ℤ b
 sum_back a b e f h = rw (e, f) (to_z-of_z h)
-
--- what makes a number a quotient
-pub quotient_is : (n q d : ℤ) → pos 1 ≤ℤ d → pos 0 ≤ℤ (n -ℤ (q *ℤ d)) → (n -ℤ (q *ℤ d)) <ℤ d → q ≡ int_div_euclid n d
-quotient_is n q d positive low small = floor_unique q (floor_of (n over d)) (n over d) positive (first n (q *ℤ d) low, rw (distributes q (pos 1) d, one_times d) (second n (q *ℤ d) d small)) (floor_is (n over d) positive) where
-  first : (n p : ℤ) → pos 0 ≤ℤ (n -ℤ p) → p ≤ℤ n
-  first n p h = omega (arith, signed_arith, h)
-
-  second : (n p d : ℤ) → (n -ℤ p) <ℤ d → n <ℤ (p +ℤ d)
-  second n p d h = omega (arith, signed_arith, h)
 
 -- 41 / 800,000 is 1025 / 20,000,000, and 41 / 2,400,000 is 1025 / 60,000,000
 pub fewer : (v : ℤ) → floor_of ((v *ℤ pos 41) over pos 800000) ≡ floor_of ((v *ℤ pos 1025) over pos 20000000)

@@ -1,12 +1,12 @@
 -- What is decided on the code's fraction is decided of the textbook's ratio, and both round down alike.
-use Rattle.std.proofs.Common.{◌≡◌, ◌<◌, ℤ, pos, negsuc, ◌+ℤ◌, ◌*ℤ◌, ◌≤ℤ◌, ◌<ℤ◌, sym, ◌∙◌, arith}
+use Rattle.std.proofs.Common.{◌≡◌, ◌<◌, ℤ, pos, negsuc, ◌+ℤ◌, ◌-ℤ◌, ◌*ℤ◌, ◌≤ℤ◌, ◌<ℤ◌, sym, ◌∙◌, arith}
 use Rattle.std.specs.Prelude.{int_le}
 use Rattle.std.specs.Int.{int_div_euclid}
 use borrow.Author.Differences.{true_is_le, false_is_le}
 use Rattle.std.proofs.lemmas.Int.{by_lt_z}
 use Rattle.units_core.proofs.Signed.{signed_arith, int_div_euclid-parts, distributes, product_positive}
 use Rattle.units_core.proofs.Order.{cancel_order, times_order}
-use Rattle.units_core.proofs.Ring.{diff_of, diff_same, differences}
+use Rattle.units_core.proofs.Ring.{diff_of, diff_same, differences, one_times}
 use Rattle.units_core.proofs.Ratios.{at_least_in, at_least_out, floor_in, order_in}
 use Rattle.units_core.specs.Ratio.{Ratio, ◌over◌, Is, IsFloor, floor_of, is_at_least, is_at_most, is_no_more}
 
@@ -76,3 +76,15 @@ order_out n m d a b p q h =
 
 pub no_more_same : (n m d : ℤ) (a b : Ratio) → Is n d a → Is m d b → int_le n m ≡ is_no_more a b
 no_more_same n m d a b p q = same_test n m (a.top *ℤ b.bottom) (b.top *ℤ a.bottom) (order_in n m d a b p q) (order_out n m d a b p q)
+
+-- what makes a number a quotient rounded down: what it leaves
+pub quotient_by : (n q d : ℤ) → pos 0 ≤ℤ (n -ℤ (q *ℤ d)) → (n -ℤ (q *ℤ d)) <ℤ d → IsFloor q (n over d)
+quotient_by n q d low small = (first n (q *ℤ d) low, rw (distributes q (pos 1) d, one_times d) (second n (q *ℤ d) d small)) where
+  first : (n p : ℤ) → pos 0 ≤ℤ (n -ℤ p) → p ≤ℤ n
+  first n p h = omega (arith, signed_arith, h)
+
+  second : (n p d : ℤ) → (n -ℤ p) <ℤ d → n <ℤ (p +ℤ d)
+  second n p d h = omega (arith, signed_arith, h)
+
+pub quotient_is : (n q d : ℤ) → pos 1 ≤ℤ d → pos 0 ≤ℤ (n -ℤ (q *ℤ d)) → (n -ℤ (q *ℤ d)) <ℤ d → q ≡ int_div_euclid n d
+quotient_is n q d positive low small = floor_unique q (floor_of (n over d)) (n over d) positive (quotient_by n q d low small) (floor_is (n over d) positive)

@@ -134,6 +134,30 @@ fn figures_are_rounded_down(rt: HostRuntime) {
     }
 }
 
+// longer than 63 bits, also with divisors longer than 103: 5 * 10^26 = 3 * 10^23 * 1,666 + 2 * 10^23, and 10^30 = 7 * 142,857,142,857,142,857,142,857,142,857 + 1
+#[test]
+fn long_fractions_are_rounded_down(rt: HostRuntime) {
+    const FIVE: i128 = 500_000_000_000_000_000_000_000_000;
+    let thirds = 300_000_000_000_000_000_000_000;
+    let power = 1 << 100;
+    let great = 1_000_000_000_000_000_000_000_000_000_000;
+    let seventh = 142_857_142_857_142_857_142_857_142_857;
+    for (num, den, down) in [
+        (FIVE, thirds, 1_666),
+        (-FIVE, thirds, -1_667),
+        (9 * power, power, 9),
+        (9 * power - 1, power, 8),
+        (-9 * power, power, -9),
+        (-9 * power - 1, power, -10),
+        (3 * (power << 4) + 5, power << 4, 3),
+        (-3 * (power << 4) - 5, power << 4, -4),
+        (great, 7, seventh),
+        (-great, 7, -seventh - 1),
+    ] {
+        assert_eq!(rt; floor(Frac { num, den }), down, "{num} / {den}");
+    }
+}
+
 #[test]
 fn limits_are_met_exactly(rt: HostRuntime) {
     assert!(rt; at_least(Frac { num: 450, den: 3 }, 150));

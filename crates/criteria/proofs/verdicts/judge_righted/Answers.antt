@@ -22,5 +22,5 @@ returns-in-Some c =
     let p = c.args.profile.now in
     let a = c.args.a.now in
     let s = values c.args.totals.now in
-    λ y are. by_areas _ p s (water a) y c.in-Some.strains _ c.in-Some.ensures (λ areas is. c.judge_strained.ensures areas is y are)
+    λ y are. by_areas _ p s (water a) y c.in-Some.strains _ (rw c.in-Some.is at c.strains_aboard-strains.ensures) (λ areas is. c.judge_strained.ensures areas is y are)
     ∙ (λ j. with_areas p s (water a) y (areas_of p.tables.bonjean (draught_at (water a) (c.requires.loaded j) (c.requires.length j)) p.ship.stations))

@@ -1,7 +1,7 @@
 use Rattle.std.proofs.Common.{rules, ◌∙◌, pos, ◌-ℤ◌, ◌*ℤ◌, ◌≤ℤ◌, ◌<ℤ◌, FitsSigned, to_z-of_z, refl, arith}
 use Rattle.std.specs.Int.{w64, w128}
 use Rattle.units_core.proofs.Signed.{signed_arith}
-use Rattle.strength.proofs.Adding.{quotient_is}
+use Rattle.units_core.proofs.Decisions.{quotient_is}
 use Rattle.strength.proofs.forces.divided.Goals as goal
 
 pub returns-then-is_rest : goal.returns-then-is_rest
