@@ -83,6 +83,10 @@ record_of texts = document_in texts.ship >>= (λ ms. profile_of ms texts.tables)
 abbrev pub place_of : ProfileRecord → Cell → Option Place
 place_of r cell = tables.place_of r.tables cell
 
+-- the number of a cell, from 0 in the order of her cells
+abbrev pub number_of : ProfileRecord → Cell → Option ℕ
+number_of r cell = tables.number_of r.tables cell
+
 -- the number of the tank of a name
 abbrev pub tank_of : ProfileRecord → List ℕ → Option ℕ
 tank_of r name = tables.tank_of r.tables name

@@ -1,5 +1,5 @@
 ghost use Rattle.std.specs.Prelude.{◌≡◌, ◌≢◌, ◌↔◌, IsTrue, Ok, Err, IfOk, IfErr, length, option_map};
-ghost use Rattle.ship_profile.specs.Record.{texts_of, tables_in, record_of, place_of, tank_of, tank_body, IsSound};
+ghost use Rattle.ship_profile.specs.Record.{texts_of, tables_in, record_of, place_of, number_of, tank_of, tank_body, IsSound};
 ghost use Rattle.ship_profile.specs.Ship.{extent_of, IsSoundShip};
 ghost use Rattle.ship_profile.specs.Written.{IsWritten};
 ghost use Rattle.ship_tables.specs.Record.{IsSound as AreTables};
@@ -182,6 +182,13 @@ impl Profile {
         ensures { result ≡ place_of self.now cell }
     {
         self.tables.cell(cell)
+    }
+
+    /// The number of a cell, from 0 in the order of `cells.csv`, in constant time; `None` for a cell that the ship hasn't.
+    pub fn cell_number(&self, cell: Cell) -> Option<usize>
+        ensures { result ≡ number_of self.now cell }
+    {
+        self.tables.cell_number(cell)
     }
 
     /// The number of the tank of a name, from 0 in the order of `tanks.csv`; `None` for a tank that isn't there.

@@ -1,3 +1,4 @@
+pub mod CellLemmas
 pub mod CurveLemmas
 pub mod EqualityLemmas
 pub mod Examples

@@ -2,6 +2,7 @@ pub mod Curves
 pub mod Extents
 pub mod Faults
 pub mod Gathering
+pub mod Lookup
 pub mod Outcome
 pub mod Printed
 pub mod Record

@@ -250,6 +250,10 @@ tables_of extent stations texts =
 abbrev pub place_of : TablesRecord → Cell → Option Place
 place_of t cell = lookup (cell_eq cell) t.cells
 
+-- the number of a cell, from 0 in the order of the file
+abbrev pub number_of : TablesRecord → Cell → Option ℕ
+number_of t cell = position (cell_eq cell) (keys_of t.cells)
+
 -- the number of the tank of a name, from 0 in the order of the file
 abbrev pub tank_of : TablesRecord → List ℕ → Option ℕ
 tank_of t name = position (λ tank. bytes_eq name tank.name) t.tanks

@@ -4,6 +4,7 @@
 //! the look-ups take no memory.
 #![tactic(auto)]
 
+mod cell_lists;
 mod curves;
 mod extents;
 #[cfg(test)]

@@ -1,14 +1,15 @@
 ghost use Rattle.std.specs.Prelude.{◌≡◌, ◌≢◌, ◌↔◌, IsTrue, Ok, Err, IfOk, IfErr, All, map, slice_get, ◌≤◌, ◌^◌, unsigned_abs};
-ghost use Rattle.std.specs.Map.{lookup};
+ghost use Rattle.std.specs.List.{position};
+ghost use Rattle.std.specs.Map.{keys_of, lookup};
 ghost use Rattle.units_core.specs.Cells.{cell_eq};
 ghost use Rattle.ship_tables.specs.Record.{IsPlace, place_at, places_in};
 
+use crate::cell_lists::CellList;
 use crate::extents::Extent;
 use crate::faults::TableFault;
 use crate::forms::cells_layout;
 use crate::reading::read_file;
 use crate::rows::Row;
-use indexmap::IndexSet;
 use std::alloc::Global;
 use std::marker::Model;
 use units_core::{Cell, Mm, Place, same_items};
@@ -16,7 +17,7 @@ use units_core::{Cell, Mm, Place, same_items};
 /// The cells of a ship in the order of their file, each with where a container in it stands.
 #[derive(Debug, Drop)]
 pub struct CellPlaces {
-    cells: IndexSet<Cell>,
+    cells: CellList,
     places: Vec<Place>,
 }
 
@@ -27,9 +28,9 @@ impl Model for CellPlaces {
 
     ghost Value = { List (Cell × Place) };
 
-    ghost view = { λ c. zip c.cells.keys c.places.items };
+    ghost view = { λ c. zip c.cells c.places.items };
 
-    ghost invariant = { λ c. length c.places.items ≡ length c.cells.keys };
+    ghost invariant = { λ c. length c.places.items ≡ length c.cells };
 }
 
 /// The place at an index.
@@ -44,11 +45,18 @@ fn place_number(places: &[Place], index: usize) -> Option<Place>
 }
 
 impl CellPlaces {
+    /// The number of a cell, from 0 in the order of the file, in constant time; `None` for a cell that the ship hasn't.
+    pub fn number(&self, cell: Cell) -> Option<usize>
+        ensures { result ≡ position (cell_eq cell) (keys_of self.now) }
+    {
+        self.cells.find(cell)
+    }
+
     /// Where a container in a cell stands, in constant time; `None` for a cell that the ship hasn't.
     pub fn get(&self, cell: Cell) -> Option<Place>
         ensures { result ≡ lookup (cell_eq cell) self.now }
     {
-        let index = self.cells.get_index_of(&cell)?;
+        let index = self.cells.find(cell)?;
         place_number(self.places.as_slice(), index)
     }
 
@@ -95,8 +103,7 @@ pub fn read_places(alloc: Global, extent: &Extent, text: &[u8]) -> Result<CellPl
 {
     let read = read_file(alloc, &cells_layout(*extent), text)?;
     let places = places(alloc, read.rows.as_slice())?;
-    Ok(CellPlaces {
-        cells: read.cells,
-        places,
-    })
+    let cells = Vec::from_slice(alloc, read.cells.as_slice())?;
+    let cells = CellList::new(alloc, cells)?;
+    Ok(CellPlaces { cells, places })
 }

@@ -1,5 +1,5 @@
 ghost use Rattle.std.specs.Prelude.{◌≡◌, ◌≢◌, ◌↔◌, IsTrue, ◌≤◌, length, option_map, Ok, Err, IfOk, IfErr, IfSome};
-ghost use Rattle.ship_tables.specs.Record.{texts_of, tables_of, place_of, tank_of, tank_body, IsSound, IsHydroTable, IsLeverTable, IsBonjeanTable, IsLeastGmTable, IsPlace};
+ghost use Rattle.ship_tables.specs.Record.{texts_of, tables_of, place_of, number_of, tank_of, tank_body, IsSound, IsHydroTable, IsLeverTable, IsBonjeanTable, IsLeastGmTable, IsPlace};
 ghost use Rattle.ship_tables.specs.Written.{IsWritten};
 
 use crate::curves::{Curves, read_bonjean, read_curves, read_least_gm};
@@ -74,6 +74,13 @@ impl Tables {
         ensures placed { IfSome result IsPlace }
     {
         self.cells.get(cell)
+    }
+
+    /// The number of a cell, from 0 in the order of `cells.csv`, in constant time; `None` for a cell that the ship hasn't.
+    pub fn cell_number(&self, cell: Cell) -> Option<usize>
+        ensures { result ≡ number_of self.now cell }
+    {
+        self.cells.number(cell)
     }
 
     /// The hydrostatic table.

@@ -22,4 +22,6 @@ invariant_of-result c =
     let sound = file_in-sound (cells_form c.args.extent.now) (omega arith) _ (read_by c.in_ok-read.read) file in
     let places : c.in_ok-places.places.items ≡ map place_at rows = rw slice at c.in_ok-places.ensures.ok in
     let cells : length (cells_in rows) ≡ length rows = cells-length (length_column ∷ length_column ∷ length_column ∷ size_column ∷ []) rows sound.kept.rows.each in
-    ap length places ∙ (length-map rows place_at ∙ (sym cells ∙ sym (ap length gathered.seen)))
+    let copied : c.in_ok-cells.cells.items ≡ c.in_ok-read.read.cells.keys = search rules in
+    let kept : c.in_ok-cells-2.cells ≡ c.in_ok-read.read.cells.keys = c.in_ok-cells-2.ensures ∙ copied in
+    ap length places ∙ (length-map rows place_at ∙ (sym cells ∙ (sym (ap length gathered.seen) ∙ sym (ap length kept))))

@@ -6,14 +6,14 @@ use Rattle.ship_tables.proofs.places.CellPlaces.get.Goals as goal
 
 pub returns-in_err-index : goal.returns-in_err-index
 returns-in_err-index c =
-    let none : position (cell_eq c.args.cell) c.self.inside.cells.keys ≡ None = sym c.get_index_of.ensures.index ∙ c.in_err-index.was in
+    let none : position (cell_eq c.args.cell) c.self.inside.cells ≡ None = sym c.find.ensures ∙ c.in_err-index.was in
     rw (← c.self.view_is)
-    (c.from_residual.ensures ∙ sym (lookup-zip (cell_eq c.args.cell) c.self.inside.cells.keys c.self.inside.places.items ∙ ap (at_index c.self.inside.places.items) none))
+    (c.from_residual.ensures ∙ sym (lookup-zip (cell_eq c.args.cell) c.self.inside.cells c.self.inside.places.items ∙ ap (at_index c.self.inside.places.items) none))
 
 pub returns : goal.returns
 returns c =
-    let found : position (cell_eq c.args.cell) c.self.inside.cells.keys ≡ Some c.in_ok-index.index = sym c.get_index_of.ensures.index ∙ c.in_ok-index.was in
+    let found : position (cell_eq c.args.cell) c.self.inside.cells ≡ Some c.in_ok-index.index = sym c.find.ensures ∙ c.in_ok-index.was in
     let places : c.as_slice.result.now ≡ c.self.inside.places.items = search rules in
     let value : c.place_number.result ≡ slice_get c.self.inside.places.items c.in_ok-index.index = rw (← places) c.place_number.ensures in
     rw (← c.self.view_is)
-    (value ∙ sym (lookup-zip (cell_eq c.args.cell) c.self.inside.cells.keys c.self.inside.places.items ∙ ap (at_index c.self.inside.places.items) found))
+    (value ∙ sym (lookup-zip (cell_eq c.args.cell) c.self.inside.cells c.self.inside.places.items ∙ ap (at_index c.self.inside.places.items) found))
