@@ -12,7 +12,7 @@ use Rattle.lift_sequence.specs.declared.faults.SeqFault.{SeqFault}
 use Rattle.lift_sequence.specs.declared.operations.Op.{Op}
 use Rattle.lift_sequence.specs.Aboard.{Aboard, after_step, nothing, with_item}
 use Rattle.lift_sequence.specs.Arrival.{arrival_fault, fault_at, fills_fault, items_fault, with_items}
-use Rattle.lift_sequence.specs.Faults.{AreLegal, IsArrivalFault, IsFirst, IsLegalArrival, IsLegalSequence, IsSequenceFault, fault_at_number, fault_of_fill, fault_of_item, fault_of_step}
+use Rattle.lift_sequence.specs.Faults.{AreLegal, IsArrivalFault, IsFirst, IsLegalArrival, IsLegalSequence, IsSequenceFault, fault_at_number, fault_of_fill, fault_of_step}
 use Rattle.lift_sequence.specs.Legal.{stand_fault}
 use Rattle.lift_sequence.specs.Sequence.{first_fault, sequence_fault}
 use Rattle.lift_sequence.proofs.States.{none_first, passed, stopped}

@@ -1,7 +1,6 @@
 -- What is aboard, item by item and step by step.
-use Rattle.std.proofs.Common.{◌≡◌, ℕ, zero, suc, ◌+◌, ◌<◌, ◌≤◌, arith, length-append, List, [], ◌∷◌, ◌++◌, length, take, drop, get_or, Option, None, Some, Bool, true, false, cond, nat_eq, refl, sym, ap, ◌∙◌}
+use Rattle.std.proofs.Common.{◌≡◌, ℕ, zero, suc, ◌+◌, ◌<◌, ◌≤◌, arith, length-append, List, [], ◌∷◌, ◌++◌, length, take, drop, get_or, Option, None, Some, Bool, true, false, cond, refl, sym, ap, ◌∙◌}
 use Rattle.std.specs.List.{filter_map}
-use Rattle.std.specs.Map.{lookup}
 use Rattle.std.specs.Option.{option_or, option_map, option_to_list}
 use Rattle.std.proofs.lemmas.List.{take_more, drop_more}
 use Rattle.std.proofs.lemmas.List.Elements.{filter_map-append}
@@ -12,10 +11,9 @@ use Rattle.stow_messages.specs.declared.items.Item.{Item}
 use Rattle.ship_profile.specs.declared.fills.TankFill.{TankFill}
 use Rattle.ship_profile.specs.Record.{ProfileRecord, tank_body}
 use Rattle.lift_sequence.specs.declared.containers.Container.{Container}
-use Rattle.lift_sequence.specs.declared.stowage.Stowage.{Stowage}
 use Rattle.lift_sequence.specs.declared.faults.SeqFault.{SeqFault}
 use Rattle.lift_sequence.specs.declared.faults.SeqCode.{SeqCode}
-use Rattle.lift_sequence.specs.Aboard.{Aboard, cargo_in, with_cell, with_tank, container_of, after_step}
+use Rattle.lift_sequence.specs.Aboard.{Aboard, with_cell, with_tank, container_of, after_step}
 use Rattle.lift_sequence.specs.Arrival.{with_items, with_fills, items_fault, fills_fault, fault_at}
 use Rattle.lift_sequence.specs.declared.operations.Op.{Op}
 use Rattle.lift_sequence.specs.Bodies.{steps_of}
@@ -26,10 +24,6 @@ use Rattle.lift_sequence.proofs.Listings.{cells_same}
 -- two that hold the same in each cell and in each tank are one
 pub same : (a b : Aboard) → ((cell : Cell) → a.cells cell ≡ b.cells cell) → ((tank : ℕ) → a.tanks tank ≡ b.tanks tank) → a ≡ b
 same a b h k = λ i. record { cells = λ cell. h cell i; tanks = λ tank. k tank i }
-
--- tables whose entries are as they were hold what they held
-pub unchanged : (s t : Stowage) → t.cells.entries ≡ s.cells.entries → t.tanks.entries ≡ s.tanks.entries → cargo_in t ≡ cargo_in s
-unchanged s t h k = λ i. record { cells = λ cell. lookup (cell_eq cell) (h i); tanks = λ tank. lookup (nat_eq tank) (k i) }
 
 -- a container that is put back where it was
 pub put_back : (at : Aboard) (cell : Cell) (c : Container) → at.cells cell ≡ Some c → with_cell (with_cell at cell None) cell (Some c) ≡ at

@@ -5,10 +5,10 @@ use Rattle.lift_sequence.proofs.stowage.Stowage.overlap.Goals as goal
 
 pub returns-then-is_rival : goal.returns-then-is_rival
 returns-then-is_rival c =
-    let cells = (cargo_in c.args.self.now).cells in
+    let cells = (cargo_in c.args.profile.now c.args.self.now).cells in
     ap (λ x. Some x) c.in_bay.ensures ∙ sym (found cells c.args.cell c.loop-bay.bay (search rules) c.loop-bay.invariant (search rules))
 
 pub returns : goal.returns
 returns c =
-    let cells = (cargo_in c.args.self.now).cells in
+    let cells = (cargo_in c.args.profile.now c.args.self.now).cells in
     sym (none_found cells c.args.cell c.loop-bay.bay (search rules) c.loop-bay.invariant)

@@ -4,4 +4,4 @@ use Rattle.lift_sequence.specs.Legal.{is_rival}
 use Rattle.lift_sequence.proofs.stowage.Stowage.overlap.Given as goal
 
 abbrev pub invariant-loop-bay : goal.invariant-loop-bay
-invariant-loop-bay l = (b : ℕ) → b < l.bay → is_rival (cargo_in l.self).cells l.cell b ≡ false
+invariant-loop-bay l = (b : ℕ) → b < l.bay → is_rival (cargo_in l.profile l.self).cells l.cell b ≡ false
