@@ -30,10 +30,10 @@ enum Handling {
 /// A cell's location, and of each kind the first segment that follows it in its group.
 struct Group<'a> {
     handling: Handling,
-    location: &'a Segment,
-    container: Option<&'a Segment>,
-    verified: Option<&'a Segment>,
-    gross: Option<&'a Segment>,
+    location: &'a Segment<'a>,
+    container: Option<&'a Segment<'a>>,
+    verified: Option<&'a Segment<'a>>,
+    gross: Option<&'a Segment<'a>>,
 }
 
 /// The items of a bay plan.
@@ -67,14 +67,14 @@ pub fn lifts(text: &[u8]) -> Answer<Vec<Step>> {
 }
 
 /// The groups of a message. Where a handling is given, it holds for all of them; else those that the message orders.
-fn groups(message: &Message, given: Option<Handling>) -> Answer<Vec<Group<'_>>> {
+fn groups<'a>(message: &'a Message<'a>, given: Option<Handling>) -> Answer<Vec<Group<'a>>> {
     let mut groups: Vec<Group> = Vec::new();
     let mut handling = given;
     let mut in_group = false;
     for segment in &message.segments {
         let qualifier = segment.component(1, 0);
-        match (segment.tag(), qualifier) {
-            (b"HAN", _) if given.is_none() => {
+        match (&*segment.tag(), &*qualifier) {
+            (b"HAN", qualifier) if given.is_none() => {
                 handling = match qualifier {
                     b"LOA" => Some(Handling::Load),
                     b"DIS" => Some(Handling::Discharge),
@@ -87,7 +87,7 @@ fn groups(message: &Message, given: Option<Handling>) -> Answer<Vec<Group<'_>>> 
                 groups.push(Group { handling, location: segment, container: None, verified: None, gross: None });
                 in_group = true;
             }
-            (tag, _) if in_group => {
+            (tag, qualifier) if in_group => {
                 let group = groups.last_mut().expect("the group is open");
                 let part = match (tag, qualifier) {
                     (b"EQD", _) => &mut group.container,
@@ -109,25 +109,25 @@ fn groups(message: &Message, given: Option<Handling>) -> Answer<Vec<Group<'_>>> 
 
 impl Group<'_> {
     fn cell(&self) -> Answer<Cell> {
-        Ok(Cell::read(self.location.component(2, 0)).ok_or("a location isn't six or seven digits")?)
+        Ok(Cell::read(&self.location.component(2, 0)).ok_or("a location isn't six or seven digits")?)
     }
 
     fn name(&self) -> Answer<Vec<u8>> {
-        let name = self.container.map_or(&[][..], |container| container.component(2, 0));
+        let name = self.container.map_or(Vec::new(), |container| container.component(2, 0).into_owned());
         if name.len() > 17 {
             return refuse("an identification is too long");
         }
-        Ok(name.to_vec())
+        Ok(name)
     }
 
     /// The container that the group speaks of, if it speaks of one.
     fn item(&self, decimal_mark: u8) -> Answer<Option<Item>> {
         match self.verified.or(self.gross) {
             Some(measure) => {
-                if measure.component(3, 0) != b"KGM" {
+                if *measure.component(3, 0) != *b"KGM" {
                     return refuse("a mass isn't in KGM");
                 }
-                let mass = mass(measure.component(3, 1), decimal_mark)?;
+                let mass = mass(&measure.component(3, 1), decimal_mark)?;
                 Ok(Some(Item { cell: self.cell()?, name: self.name()?, mass }))
             }
             None if self.container.is_some() => refuse("a container has no mass"),
