@@ -15,6 +15,9 @@ pub enum Value {
 }
 
 pub fn read(text: &[u8]) -> Answer<Entries> {
+    if text.len() > 1_048_576 {
+        return refuse("ship.toml is too long");
+    }
     let text = text.strip_prefix(b"\xef\xbb\xbf").unwrap_or(text);
     let text = String::from_utf8(text.to_vec()).or(refuse("ship.toml isn't UTF-8"))?;
     let mut reader = Reader { text: text.chars().collect(), at: 0 };

@@ -16,7 +16,7 @@ mod profile;
 mod report;
 mod table_text;
 
-use std::io::Write;
+use std::io::{ErrorKind, Write};
 use std::path::Path;
 use std::process::ExitCode;
 
@@ -91,7 +91,10 @@ impl Texts {
                 cross_curves: file("kn.csv")?,
                 bonjean: file("bonjean.csv")?,
                 tanks: file("tanks.csv")?,
-                least_heights: file("gm.csv").ok(),
+                least_heights: match file("gm.csv") {
+                    Err(fault) if fault.kind() == ErrorKind::NotFound => None,
+                    text => Some(text?),
+                },
             },
             plan: std::fs::read(&words.plan)?,
             instruction: std::fs::read(&words.instruction)?,
