@@ -178,31 +178,31 @@ impl Reader {
     fn array(&mut self) -> Answer<Value> {
         self.take("[");
         let mut values = Vec::new();
-        loop {
-            self.skip_lines();
-            if self.take("]") {
-                return Ok(Value::Array(values));
-            }
-            values.push(self.value()?);
-            self.skip_lines();
-            if !self.take(",") && self.next() != Some(']') {
-                return refuse("an array of ship.toml isn't closed");
-            }
-        }
+        self.items("]", "an array of ship.toml isn't closed", |text| {
+            values.push(text.value()?);
+            Ok(())
+        })?;
+        Ok(Value::Array(values))
     }
 
     fn inline_table(&mut self) -> Answer<Value> {
         self.take("{");
         let mut table = Entries::new();
+        self.items("}", "a table of ship.toml isn't closed", |text| text.pair(&mut table))?;
+        Ok(Value::Table(table))
+    }
+
+    /// Reads items with commas between them, up to the bracket that closes them.
+    fn items(&mut self, close: &str, unclosed: &'static str, mut item: impl FnMut(&mut Self) -> Answer<()>) -> Answer<()> {
         loop {
             self.skip_lines();
-            if self.take("}") {
-                return Ok(Value::Table(table));
+            if self.take(close) {
+                return Ok(());
             }
-            self.pair(&mut table)?;
+            item(self)?;
             self.skip_lines();
-            if !self.take(",") && self.next() != Some('}') {
-                return refuse("a table of ship.toml isn't closed");
+            if !self.take(",") && self.next() != close.chars().next() {
+                return refuse(unclosed);
             }
         }
     }
