@@ -1,7 +1,8 @@
 ghost use Rattle.std.specs.Prelude.{◌≡◌, ◌+◌, ◌-◌, ◌<◌, ◌≤◌, ◌∷◌, ◌++◌, [], length, replicate, IsAscii, is_ok, string_bytes, if◌then◌else◌};
 ghost use Rattle.std.specs.Fmt.{decimal, signed_decimal};
 
-use itoa::{Buffer, write_digits};
+use crate::four_digits::FourDigits;
+use itoa::Buffer;
 use std::alloc::AllocError;
 use std::marker::Model;
 
@@ -10,14 +11,15 @@ pub const ROOM: usize = 2048;
 
 /// An ASCII text that grows at its front. Contracts see it as the bytes that it holds.
 #[derive(Drop)]
-pub struct BackwardText {
+pub struct BackwardText<'a> {
+    digits: &'a FourDigits,
     /// The text is what these end with.
     bytes: [u8; ROOM],
     /// Where the text begins.
     start: usize,
 }
 
-impl Model for BackwardText {
+impl<'a> Model for BackwardText<'a> {
     ghost use Rattle.std.specs.Prelude.{ℕ, List, drop, ◌≤◌, IsAscii};
 
     ghost Value = { List ℕ };
@@ -27,12 +29,13 @@ impl Model for BackwardText {
     ghost invariant = { λ t. (t.start ≤ 2048) × IsAscii (drop t.start t.bytes) };
 }
 
-impl BackwardText {
-    /// An empty text.
-    pub fn new() -> BackwardText
+impl<'a> BackwardText<'a> {
+    /// An empty text, whose numbers are put by this table.
+    pub fn new(digits: &'a FourDigits) -> BackwardText<'a>
         ensures { result ≡ [] }
     {
         BackwardText {
+            digits,
             bytes: [0; ROOM],
             start: ROOM,
         }
@@ -81,7 +84,7 @@ impl BackwardText {
         ensures text { self.new ≡ decimal n ++ self.old }
         ensures short { length self.new ≤ length self.old + 20 }
     {
-        self.start = write_digits(n, &mut self.bytes, self.start);
+        self.start = self.digits.write(n, &mut self.bytes, self.start);
     }
 
     /// Puts so many zeros before the text.

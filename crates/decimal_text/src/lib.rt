@@ -5,7 +5,9 @@
 #![tactic(auto)]
 
 mod backward_text;
+mod four_digits;
 #[cfg(test)]
 mod tests;
 
 pub use backward_text::{BackwardText, ROOM};
+pub use four_digits::FourDigits;

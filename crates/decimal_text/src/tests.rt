@@ -1,43 +1,49 @@
 //! Numbers at the places where their digits change in count, and whole lines, against what Rust prints.
-use crate::{BackwardText, ROOM};
+use crate::{BackwardText, FourDigits, ROOM};
 use std::alloc::{AllocError, Global};
 use std::process::Abort;
 
 /// What a text appends to an empty one.
-fn appended(alloc: Global, line: &BackwardText) -> Result<String, AllocError> {
+fn appended(alloc: Global, line: &BackwardText<'_>) -> Result<String, AllocError> {
     let mut text = String::new(alloc);
     line.append_to(&mut text)?;
     Ok(text)
 }
 
 /// A number as it is put.
-fn number(alloc: Global, n: i128) -> Result<String, AllocError> {
-    let mut line = BackwardText::new();
+fn number(alloc: Global, digits: &FourDigits, n: i128) -> Result<String, AllocError> {
+    let mut line = BackwardText::new(digits);
     line.put_number(n);
     appended(alloc, &line)
 }
 
 /// Compares numbers with their texts.
 fn compare(rt: &(impl Abort + AllocGlobal), rows: &[(i128, &str)]) {
+    let Ok(digits) = FourDigits::new(rt.alloc()) else {
+        panic!(rt; "no memory")
+    };
     for row in rows {
         let (n, wanted) = *row;
-        let Ok(text) = number(rt.alloc(), n) else {
+        let Ok(text) = number(rt.alloc(), &digits, n) else {
             panic!(rt; "no memory")
         };
         assert_eq!(rt; text.as_str(), wanted);
     }
 }
 
-static SHORT: [(i128, &str); 9] = [
+static SHORT: [(i128, &str); 12] = [
     (0, "0"),
     (9, "9"),
     (10, "10"),
     (99, "99"),
     (100, "100"),
+    (999, "999"),
+    (1_000, "1000"),
     (9_999, "9999"),
     (10_000, "10000"),
     (1_000_203, "1000203"),
     (10_200_300_405, "10200300405"),
+    (1_234_005_678_000, "1234005678000"),
 ];
 
 static NEGATIVE: [(i128, &str); 6] = [
@@ -75,7 +81,10 @@ fn numbers_past_64_bits(rt: HostRuntime) {
 
 #[test]
 fn numbers_in_digits(rt: HostRuntime) {
-    let mut line = BackwardText::new();
+    let Ok(digits) = FourDigits::new(rt.alloc()) else {
+        panic!(&rt; "no memory")
+    };
+    let mut line = BackwardText::new(&digits);
     line.put_in_digits(0, 2);
     line.put_byte(b' ');
     line.put_in_digits(7, 3);
@@ -91,7 +100,10 @@ fn numbers_in_digits(rt: HostRuntime) {
 
 #[test]
 fn a_line_behind_another(rt: HostRuntime) {
-    let mut line = BackwardText::new();
+    let Ok(digits) = FourDigits::new(rt.alloc()) else {
+        panic!(&rt; "no memory")
+    };
+    let mut line = BackwardText::new(&digits);
     line.put_byte(b'\n');
     line.put_words(" PASS");
     line.put_number(-42);

@@ -113,7 +113,7 @@ pub fn write_headings(text: &mut String) -> Result<(), AllocError>
 }
 
 /// Puts a number before the line, or a dash where there is none.
-fn put_number(line: &mut BackwardText, number: Option<i128>)
+fn put_number(line: &mut BackwardText<'_>, number: Option<i128>)
     requires room { length line.old + 40 ≤ 2048 }
     ensures text { line.new ≡ number_text number ++ line.old }
     ensures short { length line.new ≤ length line.old + 40 }
@@ -125,7 +125,7 @@ fn put_number(line: &mut BackwardText, number: Option<i128>)
 }
 
 /// Puts the figure of a column, behind a space, before the line.
-fn put_figure(line: &mut BackwardText, figures: &Figures, column: Column)
+fn put_figure(line: &mut BackwardText<'_>, figures: &Figures, column: Column)
     requires room { length line.old + 41 ≤ 2048 }
     ensures text { line.new ≡ (32 ∷ number_text (figure_of (read figures.now) column)) ++ line.old }
     ensures short { length line.new ≤ length line.old + 41 }
@@ -135,7 +135,7 @@ fn put_figure(line: &mut BackwardText, figures: &Figures, column: Column)
 }
 
 /// Puts the figures of the columns, each behind a space, before the line.
-fn put_numbers(line: &mut BackwardText, figures: &Figures)
+fn put_numbers(line: &mut BackwardText<'_>, figures: &Figures)
     requires room { length line.old + 492 ≤ 2048 }
     ensures text { line.new ≡ numbers_text (read figures.now) ++ line.old }
     ensures short { length line.new ≤ length line.old + 492 }
@@ -148,7 +148,7 @@ fn put_numbers(line: &mut BackwardText, figures: &Figures)
 }
 
 /// Puts the shear force and the bending moment at a frame before the line.
-fn put_frame(line: &mut BackwardText, figures: &Figures, i: usize)
+fn put_frame(line: &mut BackwardText<'_>, figures: &Figures, i: usize)
     requires frame { i < 16 }
     requires room { length line.old + 81 ≤ 2048 }
     ensures text { line.new ≡ frame_text (read figures.now) i ++ line.old }
@@ -160,7 +160,7 @@ fn put_frame(line: &mut BackwardText, figures: &Figures, i: usize)
 }
 
 /// Puts the same of a frame behind another before the line.
-fn put_next_frame(line: &mut BackwardText, figures: &Figures, i: usize)
+fn put_next_frame(line: &mut BackwardText<'_>, figures: &Figures, i: usize)
     requires frame { i < 16 }
     requires room { length line.old + 82 ≤ 2048 }
     ensures text { line.new ≡ next_frame_text (read figures.now) i ++ line.old }
@@ -171,7 +171,7 @@ fn put_next_frame(line: &mut BackwardText, figures: &Figures, i: usize)
 }
 
 /// Puts the shear forces and bending moments up to the frame of this number, the first being 0, before the line.
-fn put_frames_up_to(line: &mut BackwardText, figures: &Figures, last: usize)
+fn put_frames_up_to(line: &mut BackwardText<'_>, figures: &Figures, last: usize)
     requires frame { last < 16 }
     requires room { length line.old + (82 * last + 81) ≤ 2048 }
     ensures text { line.new ≡ frames_up_to (read figures.now) last ++ line.old }
@@ -186,7 +186,7 @@ fn put_frames_up_to(line: &mut BackwardText, figures: &Figures, last: usize)
 }
 
 /// Puts the shear forces and bending moments at so many frames, behind a space, before the line.
-fn put_frames(line: &mut BackwardText, figures: &Figures, frames: usize)
+fn put_frames(line: &mut BackwardText<'_>, figures: &Figures, frames: usize)
     requires some { 1 ≤ frames }
     requires few { frames ≤ 16 }
     requires room { length line.old + 1312 ≤ 2048 }
@@ -198,7 +198,7 @@ fn put_frames(line: &mut BackwardText, figures: &Figures, frames: usize)
 }
 
 /// Puts all figures of a line, each behind a space, before what follows them.
-pub fn put_figures(line: &mut BackwardText, figures: &Figures, frames: usize)
+pub fn put_figures(line: &mut BackwardText<'_>, figures: &Figures, frames: usize)
     requires some { 1 ≤ frames }
     requires few { frames ≤ 16 }
     requires room { length line.old + 1804 ≤ 2048 }

@@ -12,6 +12,7 @@ use crate::chunks::chunk_total;
 use crate::sections::{Chunk, Section, first_failing, make_section};
 use claim_run::{Job, Scout};
 use criteria::Criterion;
+use decimal_text::FourDigits;
 use moment_sums::Totals;
 use prefix_scan::Cuts;
 use std::alloc::{AllocError, Global};
@@ -43,7 +44,7 @@ impl<'a> Job for Changes<'a> {
     }
 }
 
-/// The lines of each chunk: as a job their texts, and for scouts the first of them that fails.
+/// The lines of each chunk, for scouts that look for the first of them that fails.
 #[derive(Drop)]
 pub struct Lines<'a> {
     pub case: CaseView<'a>,
@@ -57,19 +58,34 @@ pub struct Lines<'a> {
     pub ghost sum: { AreFirstSums case.profile.now.ship.frames case.arrival.now.bodies case.sequence.now.steps cuts.now sums.now },
 }
 
-impl<'a> Job for Lines<'a> {
+/// The text of the lines of each chunk, as a job for workers.
+#[derive(Drop)]
+pub struct Texts<'a> {
+    pub lines: &'a Lines<'a>,
+    /// By which all numbers are put, made once for all workers.
+    pub digits: FourDigits,
+}
+
+impl<'a> Job for Texts<'a> {
     ghost use Rattle.std.specs.Prelude.{length, map};
     ghost use Rattle.seq_report.specs.Cases.{line_in, seen};
     ghost use Rattle.seq_report.specs.Chunks.{chunk_of, part_of};
 
     type Out = Section;
 
-    ghost value = { λ s k. part_of (map (line_in (seen s.case)) (chunk_of s.cuts.now k)) };
+    ghost value = { λ s k. part_of (map (line_in (seen s.lines.now.case)) (chunk_of s.lines.now.cuts.now k)) };
 
-    ghost pieces = { λ s. length s.cuts.now };
+    ghost pieces = { λ s. length s.lines.now.cuts.now };
 
     fn piece(&self, alloc: Global, k: u32) -> Result<Section, AllocError> {
-        make_section(alloc, self.case, &self.hull, &self.chunk(k))
+        let lines = self.lines;
+        make_section(
+            alloc,
+            lines.case,
+            &lines.hull,
+            &self.digits,
+            &lines.chunk(k),
+        )
     }
 }
 

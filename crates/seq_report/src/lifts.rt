@@ -24,7 +24,7 @@ impl fmt::Display for CellText {
 }
 
 /// Puts a cell in its seven digits before the line.
-fn put_cell(line: &mut BackwardText, cell: Cell)
+fn put_cell(line: &mut BackwardText<'_>, cell: Cell)
     requires room { length line.old + 60 ≤ 2048 }
     ensures text { line.new ≡ cell_text cell ++ line.old }
     ensures short { length line.new ≤ length line.old + 60 }
@@ -42,7 +42,7 @@ pub fn shown(byte: u8) -> u8
 }
 
 /// Puts the name of a tank before the line.
-fn put_name(line: &mut BackwardText, name: &[u8])
+fn put_name(line: &mut BackwardText<'_>, name: &[u8])
     requires room { length name.now + length line.old ≤ 2048 }
     ensures { line.new ≡ map shown name.now ++ line.old }
 {
@@ -54,7 +54,7 @@ fn put_name(line: &mut BackwardText, name: &[u8])
 }
 
 /// Puts the two cells of a restow before the line.
-fn put_cells(line: &mut BackwardText, from: Cell, to: Cell)
+fn put_cells(line: &mut BackwardText<'_>, from: Cell, to: Cell)
     requires room { length line.old + 121 ≤ 2048 }
     ensures text { line.new ≡ (cell_text from ++ (codes ">" ++ cell_text to)) ++ line.old }
     ensures short { length line.new ≤ length line.old + 121 }
@@ -65,7 +65,7 @@ fn put_cells(line: &mut BackwardText, from: Cell, to: Cell)
 }
 
 /// Puts a step before the line: a letter for its kind, and the cell, the tank or both cells.
-fn put_op(line: &mut BackwardText, op: &Op)
+fn put_op(line: &mut BackwardText<'_>, op: &Op)
     requires room { length line.old + 122 ≤ 2048 }
     ensures text { line.new ≡ op_text op.now ++ line.old }
     ensures short { length line.new ≤ length line.old + 122 }
@@ -91,7 +91,7 @@ fn put_op(line: &mut BackwardText, op: &Op)
 }
 
 /// Puts what leads to a step before the rest of its line; nothing leads to the condition on arrival.
-pub fn put_lift(line: &mut BackwardText, lift: Option<&Op>)
+pub fn put_lift(line: &mut BackwardText<'_>, lift: Option<&Op>)
     requires room { length line.old + 122 ≤ 2048 }
     ensures text { line.new ≡ lift_text (option_map (λ op. op.now) lift.entry) ++ line.old }
     ensures short { length line.new ≤ length line.old + 122 }

@@ -78,7 +78,7 @@ pub fn write_header(text: &mut String) -> Result<(), AllocError>
 }
 
 /// Puts the criterion that fails, behind the word for it, before the end of a line.
-fn put_failure(end: &mut BackwardText, criterion: Criterion)
+fn put_failure(end: &mut BackwardText<'_>, criterion: Criterion)
     requires room { length end.old + 9 ≤ 2048 }
     ensures text { end.new ≡ (codes " FAIL " ++ code_of criterion) ++ end.old }
     ensures short { length end.new ≤ length end.old + 9 }
@@ -88,7 +88,7 @@ fn put_failure(end: &mut BackwardText, criterion: Criterion)
 }
 
 /// Puts the table outside of which a condition lies, behind the word for it, before the end of a line.
-fn put_outside(end: &mut BackwardText, outside: Outside)
+fn put_outside(end: &mut BackwardText<'_>, outside: Outside)
     requires room { length end.old + 16 ≤ 2048 }
     ensures text { end.new ≡ (codes " OUTSIDE " ++ cause_of outside) ++ end.old }
     ensures short { length end.new ≤ length end.old + 16 }
@@ -98,7 +98,7 @@ fn put_outside(end: &mut BackwardText, outside: Outside)
 }
 
 /// Puts how a step is judged before the end of its line: its figures and the verdict, or what lies outside of the tables.
-fn put_verdict(end: &mut BackwardText, line: &StepLine)
+fn put_verdict(end: &mut BackwardText<'_>, line: &StepLine)
     requires room { length end.old + 1813 ≤ 2048 }
     ensures text { end.new ≡ verdict_text line.now.frames (told line.now.verdict) ++ end.old }
     ensures short { length end.new ≤ length end.old + 1813 }
@@ -117,7 +117,7 @@ fn put_verdict(end: &mut BackwardText, line: &StepLine)
 }
 
 /// Puts the displacement, how it is judged, and the end of the line at the end of a text.
-fn put_judged(end: &mut BackwardText, line: &StepLine)
+fn put_judged(end: &mut BackwardText<'_>, line: &StepLine)
     requires room { length end.old + 1855 ≤ 2048 }
     ensures text { end.new ≡ judged_text (said line.now) ++ end.old }
     ensures short { length end.new ≤ length end.old + 1855 }
@@ -131,7 +131,7 @@ fn put_judged(end: &mut BackwardText, line: &StepLine)
 /// Writes the line of a step, with the lift that leads to it. The line is put together in `end`, whatever that held before.
 pub fn write_line(
     text: &mut String,
-    end: &mut BackwardText,
+    end: &mut BackwardText<'_>,
     lift: Option<&Op>,
     line: &StepLine,
 ) -> Result<(), AllocError>

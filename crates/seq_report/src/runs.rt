@@ -11,12 +11,13 @@ use crate::cases::CaseView;
 use crate::complete::{CompleteReport, Summary};
 use crate::faults::RunFault;
 use crate::inputs::Inputs;
-use crate::jobs::Lines;
+use crate::jobs::{Lines, Texts};
 use crate::plans::Options;
 use crate::prepared::{Prepared, prepare};
 use crate::sink::Sink;
 use crate::weights::{items_are_light, ops_are_light};
 use claim_run::{Gate, Workers, run};
+use decimal_text::FourDigits;
 use lift_sequence::{Arrival, Sequence};
 use moment_sums::Totals;
 use prefix_scan::Cuts;
@@ -36,7 +37,9 @@ fn report_in_chunks<G: Gate, R: Threads + Wait + Sync>(
 ) -> Result<CompleteReport, AllocError>
     ensures { IfOk result (λ made. made ≡ outcome_in (seen lines.now.case)) }
 {
-    let made = run(rt, alloc, gate, workers, lines.chunks(), lines)?;
+    let digits = FourDigits::new(alloc)?;
+    let texts = Texts { lines, digits };
+    let made = run(rt, alloc, gate, workers, lines.chunks(), &texts)?;
     CompleteReport::join(alloc, made, lines.case.lines())
 }
 

@@ -10,7 +10,7 @@ use crate::chunks::pass_line;
 use crate::lines::write_line;
 use crate::step_lines::StepLine;
 use criteria::{Criterion, Nearby};
-use decimal_text::BackwardText;
+use decimal_text::{BackwardText, FourDigits};
 use lift_sequence::Op;
 use moment_sums::Totals;
 use ship_profile::Profile;
@@ -48,7 +48,7 @@ impl Section {
     /// Adds the line of a step, with the lift that leads to it. The line is put together in `end`.
     fn add(
         &mut self,
-        end: &mut BackwardText,
+        end: &mut BackwardText<'_>,
         lift: Option<&Op>,
         line: &StepLine,
     ) -> Result<(), AllocError>
@@ -93,11 +93,12 @@ fn line_room(profile: &Profile) -> usize {
     100 + 24 * profile.frames().as_slice().len()
 }
 
-/// The lines of a chunk.
+/// The lines of a chunk, their numbers put by this table.
 pub fn make_section(
     alloc: Global,
     case: CaseView<'_>,
     hull: &Hull,
+    digits: &FourDigits,
     chunk: &Chunk,
 ) -> Result<Section, AllocError>
     requires ready { IsReady (seen case) }
@@ -110,7 +111,7 @@ pub fn make_section(
     let mut section = Section::new(alloc, lines.saturating_mul(line_room(case.profile)))?;
     let mut sum = chunk.first;
     let mut near = Nearby::default();
-    let mut end = BackwardText::new();
+    let mut end = BackwardText::new(digits);
     for k in chunk.start..chunk.end {
         let line = StepLine::judged(case.profile, hull, k, &sum, &mut near);
         section.add(&mut end, case.lift(k), &line)?;

@@ -3,7 +3,7 @@ use crate::lifts::put_lift;
 use crate::{Criterion, Summary};
 use arrayvec::ArrayVec;
 use box_ship::{LIMITS, LOAD_TO_STARBOARD, SHIP};
-use decimal_text::BackwardText;
+use decimal_text::{BackwardText, FourDigits};
 use lift_sequence::Op;
 use std::alloc::Global;
 use std::process::Abort;
@@ -254,7 +254,8 @@ fn names_of_tanks(rt: HostRuntime) -> Result<(), Fail> {
     ] {
         let mut name = ArrayVec::new();
         let _ = name.try_extend_from_slice(bytes);
-        let mut line = BackwardText::new();
+        let digits = FourDigits::new(rt.alloc())?;
+        let mut line = BackwardText::new(&digits);
         put_lift(&mut line, Some(&Op::Fill { name, kg: 5 }));
         let mut text = String::new(rt.alloc());
         line.append_to(&mut text)?;
