@@ -1,6 +1,9 @@
 -- Bookkeeping: a ship, what is aboard of her on arrival, and the steps from there, all of which can be done.
-use Rattle.std.specs.Prelude.{◌≡◌, ℕ, ◌+◌, ◌-◌, ◌<◌, ◌≤◌, ℤ, ◌+ℤ◌, List, length, map, take, slice_get, Option, None, Some, Ok}
-use Rattle.std.specs.List.{range_with_len}
+use Rattle.std.specs.Prelude.{◌≡◌, ◌≢◌, false, Vec, IfOk, IfErr, Result, Err, ℕ, ◌+◌, ◌-◌, ◌<◌, ◌≤◌, ◌^◌, ℤ, ◌+ℤ◌, List, length, map, take, slice_get, Option, None, Some, Ok}
+use Rattle.std.specs.declared.alloc.Global.{Global}
+use Rattle.std.specs.List.{AllByRecursion, range_with_len}
+use Rattle.stow_messages.specs.declared.items.Item.{Item}
+use Rattle.stow_messages.specs.declared.lifts.Lift.{Lift}
 use Rattle.units_core.specs.Bodies.{Mass}
 use Rattle.lift_sequence.specs.Aboard.{Aboard, after_all}
 use Rattle.ship_profile.specs.Record.{ProfileRecord}
@@ -16,8 +19,10 @@ use Rattle.seq_report.specs.declared.cases.CaseView.{CaseView}
 use Rattle.claim_board.specs.Claims.{IsLeastFound}
 use Rattle.seq_report.specs.declared.sections.Chunk.{Chunk}
 use Rattle.seq_report.specs.Chunks.{chunk_of, parts_to, step_of_first, sum_to}
+use Rattle.seq_report.specs.declared.faults.RunFault.{RunFault}
+use Rattle.seq_report.specs.declared.faults.RunFault.TheVariants.{NoMemory}
 use Rattle.seq_report.specs.declared.inputs.Inputs.{Inputs}
-use Rattle.seq_report.specs.Refusal.{Outcome, items_in, orders_in, outcome_on, ship_in}
+use Rattle.seq_report.specs.Refusal.{Outcome, TellsMemory, is_cut, is_write, items_in, items_of, lifts_of, orders_in, outcome_from, outcome_of, outcome_on, ship_in}
 use Rattle.seq_report.specs.Report.{Line, line_at, lines_of, sum_at}
 
 abbrev pub case_on : ProfileRecord → ArrivalRecord → SequenceRecord → Case
@@ -65,6 +70,31 @@ pub record IsToldBy (inputs : Inputs) (case : Case) : Type 0 where
   pub items : items_in inputs ≡ Ok case.arrival.items
   pub fills : case.arrival.fills ≡ case.profile.fills
   pub orders : orders_in inputs ≡ Ok case.sequence.ops
+
+-- What was read of an input, by what it says where it is accepted and by its refusal; out of memory may stand for that.
+pub record IsRead {A : Type 0} (reading : Result A RunFault) (Says : A → Type 0) (Refuses : RunFault → Type 0) : Type 0 where
+  pub ok : IfOk reading Says
+  pub refused : IfErr reading (λ e. e ≢ NoMemory → Refuses e)
+  pub memory : IfErr reading TellsMemory
+  pub silent : is_write reading ≡ false
+  pub uncut : is_cut reading ≡ false
+
+-- a bay plan that was read, and a movement instruction
+abbrev pub IsPlanRead : Result (Vec Item Global) RunFault → List ℕ → Type 0
+IsPlanRead plan text = IsRead plan (λ p. items_of text ≡ Ok p.items) (λ e. items_of text ≡ Err e)
+
+abbrev pub AreMovesRead : Result (Vec Lift Global) RunFault → List ℕ → Type 0
+AreMovesRead moves text = IsRead moves (λ m. (lifts_of text ≡ Ok m.items) × (length m.items ≤ 200000)) (λ e. lifts_of text ≡ Err e)
+
+-- The ship of the inputs with what is aboard of her on arrival, where none of the three is refused: what remains of the outcome, and what is known of
+-- them.
+pub record AreArrived (inputs : Inputs) (profile : ProfileRecord) (arrival : ArrivalRecord) : Type 0 where
+  pub outcome : outcome_of inputs ≡ outcome_from profile (cargo_on arrival) inputs
+  pub ship : ship_in inputs ≡ Ok profile
+  pub items : items_in inputs ≡ Ok arrival.items
+  pub fills : arrival.fills ≡ profile.fills
+  pub arrived : HasArrived profile arrival
+  pub light : AllByRecursion (λ (item : Item). item.kg ≤ 10 ^ 9) arrival.items
 
 -- everything aboard on arrival, added up
 pub record IsArrivalTotal (ship : ProfileRecord) (arrival : ArrivalRecord) (total : Kept) : Type 0 where

@@ -76,15 +76,21 @@ cuts_refusal fault = Cuts fault
 abbrev pub ship_in : Inputs → Result ProfileRecord RunFault
 ship_in inputs = refused_as Profile (record_of (texts_of inputs.profile))
 
+abbrev pub items_of : List ℕ → Result (List Item) RunFault
+items_of text = refused_as Baplie (bay_plan text)
+
 abbrev pub items_in : Inputs → Result (List Item) RunFault
-items_in inputs = refused_as Baplie (bay_plan inputs.baplie.now)
+items_in inputs = items_of inputs.baplie.now
 
 abbrev pub arrival_in : ProfileRecord → List Item → Result Aboard RunFault
 arrival_in ship items = refused_as Arrival (unless (arrival_fault ship items ship.fills) (on_arrival items ship.fills))
 
 -- the lifts of the movement instruction, and the rows of the steps file, where there is one
+abbrev pub lifts_of : List ℕ → Result (List lift.Lift) RunFault
+lifts_of text = refused_as Movins (movement_instruction text)
+
 abbrev pub lifts_in : Inputs → Result (List lift.Lift) RunFault
-lifts_in inputs = refused_as Movins (movement_instruction inputs.movins.now)
+lifts_in inputs = lifts_of inputs.movins.now
 
 abbrev pub some_rows : Result (List StepRow) RunFault → Result (Option (List StepRow)) RunFault
 some_rows (Ok rows) = Ok (Some rows)

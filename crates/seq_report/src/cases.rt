@@ -1,16 +1,19 @@
 ghost use Rattle.std.specs.List.{AllByRecursion};
 ghost use Rattle.std.specs.Prelude.{◌≡◌, ◌≢◌, ◌+◌, ◌^◌, ◌≤◌, length, option_map, false, IfOk, IfErr, Ok, Err};
 ghost use Rattle.lift_sequence.specs.Arrival.{cargo_on};
-ghost use Rattle.seq_report.specs.Cases.{HasArrived, IsMade, IsReady, IsToldBy, outcome_in, seen};
-ghost use Rattle.seq_report.specs.Refusal.{TellsMemory, items_in, orders_in, outcome_for, outcome_from, outcome_of, outcome_with, is_cut, is_write};
+ghost use Rattle.seq_report.specs.Cases.{AreArrived, AreMovesRead, HasArrived, IsMade, IsPlanRead, IsRead, IsReady, IsToldBy, outcome_in, seen};
+ghost use Rattle.seq_report.specs.Refusal.{TellsMemory, arrival_in, orders_in, outcome_of, outcome_with, is_cut, is_write, ship_in};
 ghost use Rattle.seq_report.specs.Report.{lift_to};
 
 use crate::faults::RunFault;
-use crate::inputs::{Inputs, arrival, items, orders, sequence, ship};
+use crate::inputs::{Inputs, arrival, items, lifts, orders_by, sequence, ship};
 use crate::weights::{items_are_light, ops_are_light};
+use claim_run::Workers;
 use lift_sequence::{Arrival, Op, Sequence};
 use ship_profile::Profile;
 use std::alloc::Global;
+use std::thread::{Threads, join};
+use stow_messages::{Item, Lift};
 
 /// A ship, what is aboard of her on arrival, and the steps from there, each of which can be done.
 #[derive(Debug, Drop)]
@@ -94,53 +97,104 @@ fn case_on_ops(
     })
 }
 
-/// The case of what the inputs order from the condition on arrival, or the first refusal.
-fn case_from_arrival(
-    alloc: Global,
-    profile: Profile,
-    arrival: Arrival,
-    inputs: &Inputs<'_>,
-) -> Result<Case, RunFault>
-    requires arrived { HasArrived profile arrival }
-    requires light { AllByRecursion (λ item. item.kg ≤ 10 ^ 9) arrival.items }
-    ensures ok { IfOk result
-        (λ case. outcome_from profile (cargo_on arrival) inputs.now ≡ Ok (outcome_in case)) }
-    ensures ship { IfOk result (λ case. case.profile ≡ profile) }
-    ensures arrival { IfOk result (λ case. case.arrival ≡ arrival) }
-    ensures orders { IfOk result (λ case. orders_in inputs.now ≡ Ok case.sequence.ops) }
-    ensures ready { IfOk result IsReady }
-    ensures arrived { IfOk result (λ case. HasArrived case.profile case.arrival) }
-    ensures made { IfOk result (λ case. IsMade case.profile case.arrival case.sequence) }
+/// A ship with what is aboard of her on arrival, or why an item or a fill can't be.
+fn arrive(alloc: Global, profile: Profile, items: Vec<Item>) -> Result<(Profile, Arrival), RunFault>
+    ensures ok { IfOk result (λ r. arrival_in profile items.items ≡ Ok (cargo_on r.1)) }
+    ensures ship { IfOk result (λ r. r.0 ≡ profile) }
+    ensures items { IfOk result (λ r. r.1.items ≡ items.items) }
+    ensures fills { IfOk result (λ r. r.1.fills ≡ r.0.fills) }
+    ensures arrived { IfOk result (λ r. HasArrived r.0 r.1) }
+    ensures light { IfOk result (λ r. AllByRecursion (λ item. item.kg ≤ 10 ^ 9) r.1.items) }
     ensures refused { IfErr result
-        (λ e. e ≢ RunFault.NoMemory → outcome_from profile (cargo_on arrival) inputs.now ≡ Err e) }
+        (λ e. e ≢ RunFault.NoMemory → arrival_in profile items.items ≡ Err e) }
     ensures memory { IfErr result TellsMemory }
     ensures silent { is_write result ≡ false }
     ensures uncut { is_cut result ≡ false }
 {
-    let ops = orders(alloc, inputs)?;
-    case_on_ops(alloc, profile, arrival, ops)
-}
-
-/// The case of a ship, or the first refusal of the other inputs.
-fn case_on_ship(alloc: Global, profile: Profile, inputs: &Inputs<'_>) -> Result<Case, RunFault>
-    ensures ok { IfOk result (λ case. outcome_for profile inputs.now ≡ Ok (outcome_in case)) }
-    ensures ship { IfOk result (λ case. case.profile ≡ profile) }
-    ensures items { IfOk result (λ case. items_in inputs.now ≡ Ok case.arrival.items) }
-    ensures fills { IfOk result (λ case. case.arrival.fills ≡ case.profile.fills) }
-    ensures orders { IfOk result (λ case. orders_in inputs.now ≡ Ok case.sequence.ops) }
-    ensures ready { IfOk result IsReady }
-    ensures arrived { IfOk result (λ case. HasArrived case.profile case.arrival) }
-    ensures made { IfOk result (λ case. IsMade case.profile case.arrival case.sequence) }
-    ensures refused { IfErr result
-        (λ e. e ≢ RunFault.NoMemory → outcome_for profile inputs.now ≡ Err e) }
-    ensures memory { IfErr result TellsMemory }
-    ensures silent { is_write result ≡ false }
-    ensures uncut { is_cut result ≡ false }
-{
-    let items = items(alloc, inputs)?;
     items_are_light(&items);
     let arrival = arrival(alloc, &profile, items)?;
-    case_from_arrival(alloc, profile, arrival, inputs)
+    Ok((profile, arrival))
+}
+
+/// The ship of the inputs with what is aboard of her on arrival, or the first refusal of her profile, the bay plan and the arrival: by what was read
+/// of the first two, each by itself.
+fn arrived_by(
+    alloc: Global,
+    inputs: &Inputs<'_>,
+    profile: Result<Profile, RunFault>,
+    plan: Result<Vec<Item>, RunFault>,
+) -> Result<(Profile, Arrival), RunFault>
+    requires ship { IsRead profile (λ p. ship_in inputs.now ≡ Ok p)
+        (λ e. ship_in inputs.now ≡ Err e) }
+    requires items { IsPlanRead plan inputs.now.baplie.now }
+    ensures told { IfOk result (λ r. AreArrived inputs.now r.0 r.1) }
+    ensures refused { IfErr result (λ e. e ≢ RunFault.NoMemory → outcome_of inputs.now ≡ Err e) }
+    ensures memory { IfErr result TellsMemory }
+    ensures silent { is_write result ≡ false }
+    ensures uncut { is_cut result ≡ false }
+{
+    match profile {
+        Ok(profile) => match plan {
+            Ok(items) => arrive(alloc, profile, items),
+            Err(fault) => Err(fault),
+        },
+        Err(fault) => Err(fault),
+    }
+}
+
+/// The case that the inputs tell of, or the first refusal: by what came of the first three inputs, and what was read of the others.
+fn case_by(
+    alloc: Global,
+    inputs: &Inputs<'_>,
+    arrived: Result<(Profile, Arrival), RunFault>,
+    orders: Result<Vec<Op>, RunFault>,
+) -> Result<Case, RunFault>
+    requires arrived { IsRead arrived (λ r. AreArrived inputs.now r.0 r.1)
+        (λ e. outcome_of inputs.now ≡ Err e) }
+    requires orders { IsRead orders (λ o. orders_in inputs.now ≡ Ok o.items)
+        (λ e. orders_in inputs.now ≡ Err e) }
+    ensures ok { IfOk result (λ case. outcome_of inputs.now ≡ Ok (outcome_in case)) }
+    ensures told { IfOk result (IsToldBy inputs.now) }
+    ensures ready { IfOk result IsReady }
+    ensures arrived { IfOk result (λ case. HasArrived case.profile case.arrival) }
+    ensures made { IfOk result (λ case. IsMade case.profile case.arrival case.sequence) }
+    ensures refused { IfErr result (λ e. e ≢ RunFault.NoMemory → outcome_of inputs.now ≡ Err e) }
+    ensures memory { IfErr result TellsMemory }
+    ensures silent { is_write result ≡ false }
+    ensures uncut { is_cut result ≡ false }
+{
+    match arrived {
+        Ok((profile, arrival)) => match orders {
+            Ok(ops) => case_on_ops(alloc, profile, arrival, ops),
+            Err(fault) => Err(fault),
+        },
+        Err(fault) => Err(fault),
+    }
+}
+
+/// The case that the inputs tell of, or the first refusal, both messages as they were read.
+fn case_read(
+    alloc: Global,
+    inputs: &Inputs<'_>,
+    plan: Result<Vec<Item>, RunFault>,
+    moves: Result<Vec<Lift>, RunFault>,
+) -> Result<Case, RunFault>
+    requires plan { IsPlanRead plan inputs.now.baplie.now }
+    requires moves { AreMovesRead moves inputs.now.movins.now }
+    ensures ok { IfOk result (λ case. outcome_of inputs.now ≡ Ok (outcome_in case)) }
+    ensures told { IfOk result (IsToldBy inputs.now) }
+    ensures ready { IfOk result IsReady }
+    ensures arrived { IfOk result (λ case. HasArrived case.profile case.arrival) }
+    ensures made { IfOk result (λ case. IsMade case.profile case.arrival case.sequence) }
+    ensures refused { IfErr result (λ e. e ≢ RunFault.NoMemory → outcome_of inputs.now ≡ Err e) }
+    ensures memory { IfErr result TellsMemory }
+    ensures silent { is_write result ≡ false }
+    ensures uncut { is_cut result ≡ false }
+{
+    let profile = ship(alloc, inputs);
+    let arrived = arrived_by(alloc, inputs, profile, plan);
+    let orders = orders_by(alloc, inputs, moves);
+    case_by(alloc, inputs, arrived, orders)
 }
 
 /// The case that the inputs tell of, or the first refusal, in the order of [`crate::report`]. Out of memory may stand for any refusal.
@@ -155,6 +209,54 @@ pub fn case_of(alloc: Global, inputs: &Inputs<'_>) -> Result<Case, RunFault>
     ensures silent { is_write result ≡ false }
     ensures uncut { is_cut result ≡ false }
 {
-    let profile = ship(alloc, inputs)?;
-    case_on_ship(alloc, profile, inputs)
+    let plan = items(alloc, inputs.baplie);
+    let moves = lifts(alloc, inputs.movins);
+    case_read(alloc, inputs, plan, moves)
+}
+
+/// Both messages, each read in a thread of its own. They don't depend on one another. The closures take plain slices, since nothing is known of what
+/// one answers that takes a value with a lifetime in its type.
+fn messages_in_two<R: Threads>(
+    rt: &R,
+    alloc: Global,
+    plan: &[u8],
+    moves: &[u8],
+) -> (Result<Vec<Item>, RunFault>, Result<Vec<Lift>, RunFault>)
+    ensures plan { IsPlanRead result.0 plan.now }
+    ensures moves { AreMovesRead result.1 moves.now }
+{
+    join(
+        rt,
+        move || -> Result<Vec<Item>, RunFault>
+            ensures { IsPlanRead result plan.entry.now }
+        { items(alloc, plan) },
+        move || -> Result<Vec<Lift>, RunFault>
+            ensures { AreMovesRead result moves.entry.now }
+        { lifts(alloc, moves) },
+    )
+}
+
+/// The same case, the messages read in two threads where there are two workers: of several refusals the first in the order of the inputs is told
+/// all the same.
+pub fn case_in<R: Threads>(
+    rt: &R,
+    alloc: Global,
+    workers: Workers,
+    inputs: &Inputs<'_>,
+) -> Result<Case, RunFault>
+    ensures ok { IfOk result (λ case. outcome_of inputs.now ≡ Ok (outcome_in case)) }
+    ensures told { IfOk result (IsToldBy inputs.now) }
+    ensures ready { IfOk result IsReady }
+    ensures arrived { IfOk result (λ case. HasArrived case.profile case.arrival) }
+    ensures made { IfOk result (λ case. IsMade case.profile case.arrival case.sequence) }
+    ensures refused { IfErr result (λ e. e ≢ RunFault.NoMemory → outcome_of inputs.now ≡ Err e) }
+    ensures memory { IfErr result TellsMemory }
+    ensures silent { is_write result ≡ false }
+    ensures uncut { is_cut result ≡ false }
+{
+    if workers.get() == 1 {
+        return case_of(alloc, inputs);
+    }
+    let (plan, moves) = messages_in_two(rt, alloc, inputs.baplie, inputs.movins);
+    case_read(alloc, inputs, plan, moves)
 }

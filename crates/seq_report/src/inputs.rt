@@ -1,8 +1,8 @@
 ghost use Rattle.std.specs.Prelude.{◌≡◌, ◌≢◌, ◌≤◌, length, option_map, false, IfOk, IfErr, Ok, Err};
 ghost use Rattle.lift_sequence.specs.Sequence.{IsOf};
 ghost use Rattle.lift_sequence.specs.Arrival.{cargo_on};
-ghost use Rattle.seq_report.specs.Cases.{HasArrived, IsMade};
-ghost use Rattle.seq_report.specs.Refusal.{TellsMemory, arrival_in, is_cut, is_write, items_in, lifts_in, orders_in, orders_on, rows_of, sequence_in, ship_in};
+ghost use Rattle.seq_report.specs.Cases.{AreMovesRead, HasArrived, IsMade};
+ghost use Rattle.seq_report.specs.Refusal.{TellsMemory, arrival_in, is_cut, is_write, items_of, lifts_of, orders_in, orders_on, rows_of, sequence_in, ship_in};
 
 use crate::faults::RunFault;
 use crate::refusals::{
@@ -41,15 +41,15 @@ pub fn ship(alloc: Global, inputs: &Inputs<'_>) -> Result<Profile, RunFault>
     }
 }
 
-/// The items of the bay plan.
-pub fn items(alloc: Global, inputs: &Inputs<'_>) -> Result<Vec<Item>, RunFault>
-    ensures ok { IfOk result (λ items. items_in inputs.now ≡ Ok items.items) }
-    ensures refused { IfErr result (λ e. e ≢ RunFault.NoMemory → items_in inputs.now ≡ Err e) }
+/// The items of the text of a bay plan.
+pub fn items(alloc: Global, text: &[u8]) -> Result<Vec<Item>, RunFault>
+    ensures ok { IfOk result (λ items. items_of text.now ≡ Ok items.items) }
+    ensures refused { IfErr result (λ e. e ≢ RunFault.NoMemory → items_of text.now ≡ Err e) }
     ensures memory { IfErr result TellsMemory }
     ensures silent { is_write result ≡ false }
     ensures uncut { is_cut result ≡ false }
 {
-    match baplie(alloc, inputs.baplie) {
+    match baplie(alloc, text) {
         Ok(items) => Ok(items),
         Err(fault) => Err(baplie_refusal(fault)),
     }
@@ -73,16 +73,16 @@ pub fn arrival(alloc: Global, profile: &Profile, items: Vec<Item>) -> Result<Arr
     }
 }
 
-/// The lifts of the movement instruction.
-fn lifts(alloc: Global, inputs: &Inputs<'_>) -> Result<Vec<Lift>, RunFault>
-    ensures ok { IfOk result (λ lifts. lifts_in inputs.now ≡ Ok lifts.items) }
-    ensures refused { IfErr result (λ e. e ≢ RunFault.NoMemory → lifts_in inputs.now ≡ Err e) }
+/// The lifts of the text of a movement instruction.
+pub fn lifts(alloc: Global, text: &[u8]) -> Result<Vec<Lift>, RunFault>
+    ensures ok { IfOk result (λ lifts. lifts_of text.now ≡ Ok lifts.items) }
+    ensures refused { IfErr result (λ e. e ≢ RunFault.NoMemory → lifts_of text.now ≡ Err e) }
     ensures memory { IfErr result TellsMemory }
     ensures silent { is_write result ≡ false }
     ensures uncut { is_cut result ≡ false }
     ensures few { IfOk result (λ lifts. length lifts.items ≤ 200000) }
 {
-    match movins(alloc, inputs.movins) {
+    match movins(alloc, text) {
         Ok(lifts) => Ok(lifts),
         Err(fault) => Err(movins_refusal(fault)),
     }
@@ -124,16 +124,23 @@ fn orders_on(alloc: Global, inputs: &Inputs<'_>, lifts: Vec<Lift>) -> Result<Vec
     }
 }
 
-/// The steps that the movement instruction and the steps file order.
-pub fn orders(alloc: Global, inputs: &Inputs<'_>) -> Result<Vec<Op>, RunFault>
+/// The steps that the movement instruction, as it was read, and the steps file order.
+pub fn orders_by(
+    alloc: Global,
+    inputs: &Inputs<'_>,
+    moves: Result<Vec<Lift>, RunFault>,
+) -> Result<Vec<Op>, RunFault>
+    requires { AreMovesRead moves inputs.now.movins.now }
     ensures ok { IfOk result (λ o. orders_in inputs.now ≡ Ok o.items) }
     ensures refused { IfErr result (λ e. e ≢ RunFault.NoMemory → orders_in inputs.now ≡ Err e) }
     ensures memory { IfErr result TellsMemory }
     ensures silent { is_write result ≡ false }
     ensures uncut { is_cut result ≡ false }
 {
-    let lifts = lifts(alloc, inputs)?;
-    orders_on(alloc, inputs, lifts)
+    match moves {
+        Ok(lifts) => orders_on(alloc, inputs, lifts),
+        Err(fault) => Err(fault),
+    }
 }
 
 /// The sequence of these steps from the condition on arrival.

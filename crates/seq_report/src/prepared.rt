@@ -6,7 +6,7 @@ ghost use Rattle.seq_report.specs.Chunks.{AreFirstSums};
 ghost use Rattle.seq_report.specs.Plans.{Fits, IsPlanFault};
 ghost use Rattle.seq_report.specs.Refusal.{Outcome, TellsMemory, outcome_of, is_refusal, is_write};
 
-use crate::cases::{Case, CaseView, case_of};
+use crate::cases::{Case, CaseView, case_in};
 use crate::chunks::{arrival_total, joined_to_arrival};
 use crate::faults::RunFault;
 use crate::inputs::Inputs;
@@ -117,7 +117,7 @@ pub fn prepare<G: Gate, R: Threads + Wait + Sync>(
     ensures memory { IfErr result TellsMemory }
     ensures silent { is_write result ≡ false }
 {
-    let case = case_of(alloc, inputs)?;
+    let case = case_in(rt, alloc, options.workers, inputs)?;
     match chunked(rt, alloc, gate, &case, options) {
         Ok((cuts, sums)) => Ok(Prepared { case, cuts, sums }),
         Err(fault) => Err(fault),
