@@ -1,11 +1,11 @@
 -- How a ship is judged with a sum of masses and moments aboard, and her figures.
-use Rattle.std.specs.Prelude.{◌≡◌, ℕ, ◌*◌, ℤ, pos, option_map, List, Bool, true, false, Option, None, Some}
+use Rattle.std.specs.Prelude.{◌≡◌, ℕ, ◌*◌, ℤ, pos, option_map, List, Bool, true, false, Option, None, Some, int_lt, if◌then◌else◌}
 use Rattle.units_core.specs.Interpolation.{at}
 use Rattle.units_core.specs.Ratio.{Ratio, floor_of}
 use Rattle.ship_profile.specs.Record.{ProfileRecord}
 use Rattle.ship_profile.specs.Ship.{ShipRecord}
 use Rattle.moment_sums.specs.Sum.{Sum, Weight}
-use Rattle.hydrostat.specs.Floating.{Hydrostatics, Load, draught_at, gm, load_of, trim, hydrostatics_at}
+use Rattle.hydrostat.specs.Floating.{Hydrostatics, Load, draught_at, gm, list, load_of, trim, hydrostatics_at}
 use Rattle.righting.specs.Levers.{AreOrdinates, greatest_of, mm_degrees, simpson}
 use Rattle.criteria.specs.Criteria.{not_met}
 use Rattle.hydrostat.specs.declared.outside.Outside.{Outside}
@@ -14,11 +14,14 @@ use Rattle.criteria.specs.declared.criterion.Criterion.{Criterion}
 use Rattle.criteria.specs.declared.verdicts.Verdict.{Verdict}
 use Rattle.criteria.specs.declared.verdicts.Verdict.TheVariants as verdict
 use Rattle.criteria.specs.declared.figures.Figures.{Figures}
-use Rattle.criteria.specs.Printed.{list_down}
 use Rattle.righting.specs.Aboard.{levers_of}
 use Rattle.criteria.specs.Least.{least_at}
 use Rattle.strength.specs.Immersed.{areas_of}
 use Rattle.strength.specs.Strains.{bending_at, closes, closing_of, shear_at}
+
+-- the list, where the metacentric height is positive
+abbrev pub list_down : Hydrostatics → Load → Option ℤ
+list_down w l = if int_lt (pos 0) (gm w l).top then Some (floor_of (list w l)) else None
 
 -- the figures, rounded toward minus infinity
 pub record Printed : Type 0 where

@@ -1,6 +1,6 @@
 pub mod Criteria
 pub mod Judgement
 pub mod Least
+pub mod Measures
 pub mod Met
-pub mod Ordinates
 pub mod Printed

@@ -5,8 +5,8 @@ use Rattle.units_core.specs.Interpolation.{at}
 use Rattle.units_core.specs.Ratio.{Ratio, ◌over◌}
 use Rattle.hydrostat.specs.declared.particulars.Afloat.{Afloat}
 use Rattle.hydrostat.specs.Floating.{load, water}
-use Rattle.righting.specs.declared.ordinates.Levers.{Levers}
-use Rattle.righting.specs.Levers.{AreOrdinates}
+use Rattle.criteria.specs.declared.measures.CurveMeasures.{CurveMeasures}
+use Rattle.criteria.specs.Measures.{AreMeasures}
 use Rattle.ship_profile.specs.Ship.{ShipRecord}
 use Rattle.criteria.specs.declared.criterion.Criterion.{Criterion}
 use Rattle.strength.specs.declared.loads.Loads.{Loads}
@@ -23,10 +23,10 @@ condition_of a y loads least = record {
   least_gm = option_map (λ f. f.num over f.den) least;
 }
 
--- the answer is the first criterion that isn't met, whatever ordinates the levers are
-abbrev pub IsFirstNotMet : Option Criterion → ShipRecord → Afloat → Levers → Loads → Option Frac → Type 0
-IsFirstNotMet answer ship a levers loads least = (y : ℕ → Ratio) → AreOrdinates levers.num levers.den y → answer ≡ not_met ship (condition_of a y loads least)
+-- the answer is the first criterion that isn't met, whatever ordinates the measures are of
+abbrev pub IsFirstNotMet : Option Criterion → ShipRecord → Afloat → CurveMeasures → Loads → Option Frac → Type 0
+IsFirstNotMet answer ship a curve loads least = (y : ℕ → Ratio) → AreMeasures curve y → answer ≡ not_met ship (condition_of a y loads least)
 
 -- and whether a criterion holds
-abbrev pub IsHeld : Bool → ShipRecord → Afloat → Levers → Loads → Option Frac → Criterion → Type 0
-IsHeld answer ship a levers loads least criterion = (y : ℕ → Ratio) → AreOrdinates levers.num levers.den y → answer ≡ holds ship (condition_of a y loads least) criterion
+abbrev pub IsHeld : Bool → ShipRecord → Afloat → CurveMeasures → Loads → Option Frac → Criterion → Type 0
+IsHeld answer ship a curve loads least criterion = (y : ℕ → Ratio) → AreMeasures curve y → answer ≡ holds ship (condition_of a y loads least) criterion

@@ -1,17 +1,15 @@
--- The figures of a condition that lies within all tables: each the textbook's ratio, rounded toward minus infinity.
-use Rattle.std.specs.Prelude.{◌≡◌, ℕ, ◌*◌, ℤ, pos, Option, None, Some, option_map, int_lt, if◌then◌else◌}
+-- Bookkeeping: the code's figures of a condition that lies within all tables, each the textbook's ratio rounded toward minus infinity.
+use Rattle.std.specs.Prelude.{◌≡◌, ℕ, ◌*◌, ℤ, pos, Some, option_map}
 use Rattle.units_core.specs.Interpolation.{at}
 use Rattle.units_core.specs.Ratio.{Ratio, Is, floor_of}
 use Rattle.hydrostat.specs.declared.particulars.Afloat.{Afloat}
-use Rattle.hydrostat.specs.Floating.{Hydrostatics, Load, draught_at, gm, list, load, trim, water}
-use Rattle.righting.specs.declared.ordinates.Levers.{Levers}
-use Rattle.righting.specs.Levers.{AreOrdinates, greatest_of, mm_degrees, simpson}
+use Rattle.hydrostat.specs.Floating.{Hydrostatics, Load, draught_at, gm, load, trim, water}
+use Rattle.righting.specs.Levers.{greatest_of, mm_degrees, simpson}
+use Rattle.criteria.specs.declared.measures.CurveMeasures.{CurveMeasures}
+use Rattle.criteria.specs.Measures.{AreMeasures}
 use Rattle.strength.specs.declared.loads.Strains.{Strains}
 use Rattle.criteria.specs.declared.figures.Figures.{Figures}
-
--- the list, where the metacentric height is positive
-abbrev pub list_down : Hydrostatics → Load → Option ℤ
-list_down w l = if int_lt (pos 0) (gm w l).top then Some (floor_of (list w l)) else None
+use Rattle.criteria.specs.Judgement.{list_down}
 
 -- how she floats
 pub record AreFloating (f : Figures) (w : Hydrostatics) (l : Load) (lbp : ℤ) : Type 0 where
@@ -36,20 +34,17 @@ pub record AreLoads (f : Figures) (s : Strains) : Type 0 where
   pub shear : (i : ℕ) → at f.shear i ≡ at s.loads.shear i
   pub bending : (i : ℕ) → at f.bending i ≡ at s.loads.bending i
 
-pub record AreFigures (f : Figures) (a : Afloat) (levers : Levers) (s : Strains) : Type 0 where
+pub record AreFigures (f : Figures) (a : Afloat) (curve : CurveMeasures) (s : Strains) : Type 0 where
   pub floating : AreFloating f (water a) (load a) a.lbp
-  pub righting : (y : ℕ → Ratio) → AreOrdinates levers.num levers.den y → AreRighting f y
+  pub righting : (y : ℕ → Ratio) → AreMeasures curve y → AreRighting f y
   pub loads : AreLoads f s
 
--- of any ordinates that the numbers are
-abbrev pub IsAreaDown : ℤ → Levers → ℕ → ℕ → Type 0
-IsAreaDown q levers k n = (y : ℕ → Ratio) → AreOrdinates levers.num levers.den y → q ≡ floor_of (mm_degrees (simpson y k n))
+-- of any ordinates that the measures are of
+abbrev pub IsLeverDown : ℤ → CurveMeasures → Type 0
+IsLeverDown q curve = (y : ℕ → Ratio) → AreMeasures curve y → Some q ≡ option_map (λ k. floor_of (y k)) (greatest_of y 6 7)
 
-abbrev pub IsLeverDown : ℤ → Levers → Type 0
-IsLeverDown q levers = (y : ℕ → Ratio) → AreOrdinates levers.num levers.den y → Some q ≡ option_map (λ k. floor_of (y k)) (greatest_of y 6 7)
-
-abbrev pub IsAngle : ℕ → Levers → Type 0
-IsAngle q levers = (y : ℕ → Ratio) → AreOrdinates levers.num levers.den y → Some q ≡ option_map (λ k. 5 * k) (greatest_of y 0 13)
+abbrev pub IsAngle : ℕ → CurveMeasures → Type 0
+IsAngle q curve = (y : ℕ → Ratio) → AreMeasures curve y → Some q ≡ option_map (λ k. 5 * k) (greatest_of y 0 13)
 
 -- the figure of any ratio that n / d is
 abbrev pub IsFigure : ℤ → ℤ → ℤ → Type 0

@@ -1,11 +1,14 @@
+ghost use Rattle.std.specs.Prelude.{◌≡◌};
 ghost use Rattle.criteria.specs.Printed.{AreFigures};
 
+use crate::measures::CurveMeasures;
+use crate::quotients::Reciprocal;
 use crate::rounding::{
-    angle, area_down, draught_down, gm_down, lever_down, list_down, mean_down, trim_down,
+    aft_down, angle, area_figure, fwd_down, gm_down, lever_down, list_down, mean_down, trim_down,
 };
-use hydrostat::Afloat;
-use righting::Levers;
+use hydrostat::{Afloat, DraughtLine};
 use strength::Strains;
+use units_core::Mm;
 
 /// The figures of a condition, rounded down: lengths in mm, the list in ten-thousandths, areas in mm degrees, the angle in degrees, forces
 /// in kg, bending moments in kg mm.
@@ -27,23 +30,33 @@ pub struct Figures {
     pub bending: [i128; 16],
 }
 
-/// The figures of a ship afloat, with these levers and loads.
+/// The figures of a ship of this length afloat, with these draughts along her, measures of her levers and loads.
 #[inline(always)]
-pub fn figures_of(a: &Afloat, levers: &Levers, strains: &Strains) -> Figures
-    ensures { AreFigures result a.now levers.now strains.now }
+pub fn figures_of(
+    a: &Afloat,
+    length: Mm,
+    line: &DraughtLine,
+    curve: &CurveMeasures,
+    strains: &Strains,
+) -> Figures
+    requires of { line.now.of ≡ a.now }
+    requires length { a.now.lbp ≡ length }
+    ensures { AreFigures result a.now curve.now strains.now }
 {
+    // The levers have one divisor, and so have the areas.
+    let near = Reciprocal::of(curve.best.den);
     Figures {
         gm: gm_down(a),
         mean: mean_down(a),
-        aft: draught_down(a, 0),
-        fwd: draught_down(a, a.lbp),
+        aft: aft_down(line),
+        fwd: fwd_down(line, length),
         trim: trim_down(a),
         list: list_down(a),
-        area_30: area_down(levers, 0, 3),
-        area_40: area_down(levers, 0, 4),
-        area_30_40: area_down(levers, 6, 1),
-        lever: lever_down(levers),
-        angle: angle(levers),
+        area_30: area_figure(curve.sum_30, near),
+        area_40: area_figure(curve.sum_40, near),
+        area_30_40: area_figure(curve.sum_30_40, near),
+        lever: lever_down(curve, near),
+        angle: angle(curve),
         closing: strains.closing,
         shear: strains.loads.shear,
         bending: strains.loads.bending,

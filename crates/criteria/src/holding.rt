@@ -6,9 +6,11 @@ ghost use Rattle.criteria.specs.Met.{IsFirstNotMet, IsHeld};
 use crate::criterion::Criterion;
 use crate::decisions::{draughts_hold, is_stiff, least_holds, list_holds};
 use crate::frames::{bending_holds, shear_holds};
-use crate::levers::{area_reaches, lever_reaches, peaks_from};
+use crate::levers::{
+    area_30_40_reaches, area_30_reaches, area_40_reaches, lever_reaches, peaks_from,
+};
+use crate::measures::CurveMeasures;
 use hydrostat::Afloat;
-use righting::Levers;
 use ship_profile::Profile;
 use strength::Loads;
 use units_core::Frac;
@@ -42,23 +44,23 @@ fn criterion_at(k: usize) -> Criterion
 fn holds(
     profile: &Profile,
     a: &Afloat,
-    levers: &Levers,
+    curve: &CurveMeasures,
     loads: &Loads,
     least: Option<Frac>,
     criterion: Criterion,
 ) -> bool
     requires length { a.now.lbp ≡ profile.now.ship.lbp }
     requires least { IsLeast least }
-    ensures { IsHeld result profile.now.ship a.now levers.now loads.now least criterion }
+    ensures { IsHeld result profile.now.ship a.now curve.now loads.now least criterion }
 {
     match criterion {
         Criterion::C0 => true,
         Criterion::C1 => is_stiff(a),
-        Criterion::C2 => area_reaches(levers, 0, 3, 3_151_268),
-        Criterion::C3 => area_reaches(levers, 0, 4, 5_156_621),
-        Criterion::C4 => area_reaches(levers, 6, 1, 1_718_874),
-        Criterion::C5 => lever_reaches(levers, 200),
-        Criterion::C6 => peaks_from(levers, 5),
+        Criterion::C2 => area_30_reaches(curve, 3_151_268),
+        Criterion::C3 => area_40_reaches(curve, 5_156_621),
+        Criterion::C4 => area_30_40_reaches(curve, 1_718_874),
+        Criterion::C5 => lever_reaches(curve, 200),
+        Criterion::C6 => peaks_from(curve, 5),
         Criterion::C7 => list_holds(a, i128::from(profile.list_max())),
         Criterion::C8 => {
             let most = i128::from(profile.draught_max().get());
@@ -74,17 +76,17 @@ fn holds(
 pub fn first_not_met(
     profile: &Profile,
     a: &Afloat,
-    levers: &Levers,
+    curve: &CurveMeasures,
     loads: &Loads,
     least: Option<Frac>,
 ) -> Option<Criterion>
     requires length { a.now.lbp ≡ profile.now.ship.lbp }
     requires least { IsLeast least }
-    ensures { IsFirstNotMet result profile.now.ship a.now levers.now loads.now least }
+    ensures { IsFirstNotMet result profile.now.ship a.now curve.now loads.now least }
 {
     for k in 0..12usize {
         let criterion = criterion_at(k);
-        if !holds(profile, a, levers, loads, least, criterion) {
+        if !holds(profile, a, curve, loads, least, criterion) {
             return Some(criterion);
         }
     }

@@ -1,29 +1,66 @@
-ghost use Rattle.std.specs.Prelude.{◌≡◌, ◌≤◌, ◌+◌, ◌*◌, ◌^◌, unsigned_abs};
-ghost use Rattle.criteria.specs.Ordinates.{DecidesArea, DecidesReach, DecidesAngle};
+ghost use Rattle.std.specs.Prelude.{◌≡◌, ℕ, ◌≤◌, ◌*◌, ◌^◌, unsigned_abs};
+ghost use Rattle.units_core.specs.Ratio.{Ratio, is_at_least};
+ghost use Rattle.righting.specs.Levers.{AreOrdinates, area_of, greatest_of, simpson};
+ghost use Rattle.criteria.specs.Criteria.{is_from, reaches_at};
+ghost use Rattle.criteria.specs.Measures.{AreMeasures};
 
 use crate::decisions::reaches;
+use crate::measures::CurveMeasures;
 use righting::{Levers, area_holds, area_over_pairs, best_from_30, greatest_number};
 
-/// Whether the area under the levers from an angle on is at least a limit.
-pub fn area_reaches(levers: &Levers, from: usize, pairs: usize, limit: i128) -> bool
-    requires inside { from + 2 * pairs ≤ 12 }
-    requires limit { unsigned_abs limit ≤ 10 ^ 7 }
-    ensures { DecidesArea result levers.now.num levers.now.den from pairs limit }
+/// The measures of a curve of levers.
+pub fn measures_of(levers: &Levers) -> CurveMeasures
+    ensures { (y : ℕ → Ratio) → AreOrdinates levers.now.num levers.now.den y → AreMeasures result y }
 {
-    area_holds(area_over_pairs(levers, from, pairs), limit)
+    CurveMeasures {
+        sum_30: area_over_pairs(levers, 0, 3),
+        sum_40: area_over_pairs(levers, 0, 4),
+        sum_30_40: area_over_pairs(levers, 6, 1),
+        best: best_from_30(levers),
+        greatest: greatest_number(levers),
+    }
 }
 
-/// Whether the greatest lever from 30 to 60 degrees is at least a limit.
-pub fn lever_reaches(levers: &Levers, limit: i128) -> bool
-    requires { unsigned_abs limit ≤ 10 ^ 5 }
-    ensures { DecidesReach result levers.now.num levers.now.den limit }
+/// Whether the area under the levers from 0 to 30 degrees is at least a limit, in millionths of a metre-degree.
+pub fn area_30_reaches(curve: &CurveMeasures, limit: i128) -> bool
+    requires { unsigned_abs limit ≤ 10 ^ 7 }
+    ensures { (y : ℕ → Ratio) → AreMeasures curve.now y
+        → result ≡ is_at_least (area_of (simpson y 0 3)) limit }
 {
-    reaches(best_from_30(levers), limit)
+    area_holds(curve.sum_30, limit)
+}
+
+/// The same from 0 to 40 degrees.
+pub fn area_40_reaches(curve: &CurveMeasures, limit: i128) -> bool
+    requires { unsigned_abs limit ≤ 10 ^ 7 }
+    ensures { (y : ℕ → Ratio) → AreMeasures curve.now y
+        → result ≡ is_at_least (area_of (simpson y 0 4)) limit }
+{
+    area_holds(curve.sum_40, limit)
+}
+
+/// The same from 30 to 40 degrees.
+pub fn area_30_40_reaches(curve: &CurveMeasures, limit: i128) -> bool
+    requires { unsigned_abs limit ≤ 10 ^ 7 }
+    ensures { (y : ℕ → Ratio) → AreMeasures curve.now y
+        → result ≡ is_at_least (area_of (simpson y 6 1)) limit }
+{
+    area_holds(curve.sum_30_40, limit)
+}
+
+/// Whether the greatest lever from 30 to 60 degrees is at least a limit, in mm.
+pub fn lever_reaches(curve: &CurveMeasures, limit: i128) -> bool
+    requires { unsigned_abs limit ≤ 10 ^ 5 }
+    ensures { (y : ℕ → Ratio) → AreMeasures curve.now y
+        → result ≡ reaches_at y limit (greatest_of y 6 7) }
+{
+    reaches(curve.best, limit)
 }
 
 /// Whether the least angle that carries the greatest lever is so many steps of 5 degrees, or more.
-pub fn peaks_from(levers: &Levers, least: usize) -> bool
-    ensures { DecidesAngle result levers.now.num levers.now.den least }
+pub fn peaks_from(curve: &CurveMeasures, least: usize) -> bool
+    ensures { (y : ℕ → Ratio) → AreMeasures curve.now y
+        → result ≡ is_from least (greatest_of y 0 13) }
 {
-    least <= greatest_number(levers)
+    least <= curve.greatest
 }

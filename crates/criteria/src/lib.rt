@@ -8,6 +8,8 @@ mod frames;
 mod holding;
 mod levers;
 mod limits;
+mod measures;
+mod quotients;
 mod rounding;
 mod verdicts;
 

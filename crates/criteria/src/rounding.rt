@@ -1,11 +1,13 @@
-ghost use Rattle.std.specs.Prelude.{◌≡◌, ◌+◌, ◌*◌, ◌^◌, ◌<◌, ◌≤◌, unsigned_abs};
+ghost use Rattle.std.specs.Prelude.{◌≡◌, pos, ◌+◌, ◌*◌, ◌^◌, ◌<◌, ◌≤◌, unsigned_abs};
 ghost use Rattle.units_core.specs.Ratio.{floor_of};
 ghost use Rattle.hydrostat.specs.Floating.{draught_at, gm, load, trim, water};
-ghost use Rattle.criteria.specs.Printed.{IsAngle, IsAreaDown, IsAreaFigure, IsFigure, IsLeverDown, list_down};
+ghost use Rattle.criteria.specs.Judgement.{list_down};
+ghost use Rattle.criteria.specs.Printed.{IsAngle, IsAreaFigure, IsFigure, IsLeverDown};
 
-use hydrostat::{Afloat, draught, gm_of, list_of, mean_of, trim_of};
-use righting::{Levers, area_over_pairs, best_from_30, greatest_number};
-use units_core::{Frac, floor};
+use crate::measures::CurveMeasures;
+use crate::quotients::{Reciprocal, floor_near};
+use hydrostat::{Afloat, DraughtLine, gm_of, list_of, mean_of, trim_of};
+use units_core::{Frac, Mm, floor};
 
 /// A figure, rounded down.
 fn figure(fraction: Frac) -> i128
@@ -14,16 +16,27 @@ fn figure(fraction: Frac) -> i128
     floor(fraction)
 }
 
-/// The area in mm degrees of a Simpson's sum, rounded down.
-fn area_figure(sum: Frac) -> i128
+/// The same of a fraction whose divisor has about this reciprocal.
+fn figure_near(fraction: Frac, near: Reciprocal) -> i128
+    ensures { IsFigure result fraction.num fraction.den }
+{
+    floor_near(fraction, near.guess(fraction.num))
+}
+
+/// The area in mm degrees of a Simpson's sum, rounded down. The sum's divisor has about this reciprocal.
+pub fn area_figure(sum: Frac, near: Reciprocal) -> i128
     requires num { unsigned_abs sum.num ≤ 10 ^ 32 }
     requires den { unsigned_abs sum.den ≤ 10 ^ 23 }
     ensures { IsAreaFigure result sum.num sum.den }
 {
-    floor(Frac {
-        num: 5 * sum.num,
-        den: 3 * sum.den,
-    })
+    let num = 5 * sum.num;
+    floor_near(
+        Frac {
+            num,
+            den: 3 * sum.den,
+        },
+        near.guess(num) / 3,
+    )
 }
 
 /// The metacentric height.
@@ -40,12 +53,21 @@ pub fn mean_down(a: &Afloat) -> i128
     figure(mean_of(a))
 }
 
-/// The draught at `x`.
-pub fn draught_down(a: &Afloat, x: i128) -> i128
-    requires { unsigned_abs x ≤ 10 ^ 6 }
-    ensures { result ≡ floor_of (draught_at (water a.now) (load a.now) a.now.lbp x) }
+/// The draught at the after perpendicular.
+pub fn aft_down(line: &DraughtLine) -> i128
+    ensures { result ≡ floor_of
+        (draught_at (water line.now.of) (load line.now.of) line.now.of.lbp (pos 0)) }
 {
-    figure(draught(a, x))
+    line.draught_down(Mm::new(0).unwrap())
+}
+
+/// The draught at the forward perpendicular, at the ship's length.
+pub fn fwd_down(line: &DraughtLine, length: Mm) -> i128
+    requires { line.now.of.lbp ≡ length }
+    ensures { result ≡ floor_of
+        (draught_at (water line.now.of) (load line.now.of) line.now.of.lbp line.now.of.lbp) }
+{
+    line.draught_down(length)
 }
 
 /// The trim.
@@ -65,24 +87,16 @@ pub fn list_down(a: &Afloat) -> Option<i128>
     }
 }
 
-/// An area under the levers.
-pub fn area_down(levers: &Levers, from: usize, pairs: usize) -> i128
-    requires { from + 2 * pairs ≤ 12 }
-    ensures { IsAreaDown result levers.now from pairs }
+/// The greatest lever from 30 to 60 degrees, whose divisor has about this reciprocal.
+pub fn lever_down(curve: &CurveMeasures, near: Reciprocal) -> i128
+    ensures { IsLeverDown result curve.now }
 {
-    area_figure(area_over_pairs(levers, from, pairs))
-}
-
-/// The greatest lever from 30 to 60 degrees.
-pub fn lever_down(levers: &Levers) -> i128
-    ensures { IsLeverDown result levers.now }
-{
-    figure(best_from_30(levers))
+    figure_near(curve.best, near)
 }
 
 /// The least angle that carries the greatest lever, in degrees.
-pub fn angle(levers: &Levers) -> usize
-    ensures { IsAngle result levers.now }
+pub fn angle(curve: &CurveMeasures) -> usize
+    ensures { IsAngle result curve.now }
 {
-    5 * greatest_number(levers)
+    5 * curve.greatest
 }

@@ -15,12 +15,13 @@ ghost use Rattle.criteria.specs.Judgement.{IsOutside, IsWhatever, judged, judgem
 use crate::criterion::Criterion;
 use crate::figures::{Figures, figures_of};
 use crate::holding::first_not_met;
+use crate::levers::measures_of;
 use crate::limits::least_gm;
-use hydrostat::{Afloat, Outside, on_waterline};
+use hydrostat::{Afloat, DraughtLine, Outside, on_waterline};
 use moment_sums::Totals;
 use righting::{Levers, levers_aboard};
 use ship_profile::Profile;
-use strength::{BonjeanRow, Hull, Strains, closes, strains_aboard};
+use strength::{BonjeanRow, Hull, Strains, closes, strains_along};
 
 /// How a condition is judged.
 #[derive(Clone, Copy)]
@@ -43,14 +44,14 @@ pub struct Nearby {
     least_gm: usize,
 }
 
-/// The verdict by the first criterion that isn't met, if there is one.
+/// The verdict by the first criterion that isn't met, if there is one. The figures are lent, since each move of them is a copy of 700 bytes.
 #[inline(always)]
-fn judged(criterion: Option<Criterion>, figures: Figures) -> Verdict
-    ensures { told result ≡ judged criterion (read figures) }
+fn judged(criterion: Option<Criterion>, figures: &Figures) -> Verdict
+    ensures { told result ≡ judged criterion (read figures.now) }
 {
     match criterion {
-        Some(criterion) => Verdict::Fails(criterion, figures),
-        None => Verdict::Passes(figures),
+        Some(criterion) => Verdict::Fails(criterion, *figures),
+        None => Verdict::Passes(*figures),
     }
 }
 
@@ -68,9 +69,11 @@ fn judge_loaded(
     totals: &Totals,
     a: &Afloat,
     levers: &Levers,
+    line: &DraughtLine,
     strains: &Strains,
     near: &mut Nearby,
 ) -> Verdict
+    requires line { line.now.of ≡ a.now }
     requires length { a.now.lbp ≡ profile.now.ship.lbp }
     ensures { IsWhatever (told result) levers.now.num levers.now.den
         (λ y. with_least profile.now.ship (water a.now) (load a.now) y strains.now.closing
@@ -78,10 +81,12 @@ fn judge_loaded(
         (least_at profile.now.tables.least_gm (values totals.now Weight))) }
 {
     match least_gm(profile, totals, &mut near.least_gm) {
-        Some(least) => judged(
-            first_not_met(profile, a, levers, &strains.loads, least),
-            figures_of(a, levers, strains),
-        ),
+        Some(least) => {
+            let curve = measures_of(levers);
+            let criterion = first_not_met(profile, a, &curve, &strains.loads, least);
+            let figures = figures_of(a, profile.lbp(), line, &curve, strains);
+            judged(criterion, &figures)
+        }
         None => outside(Outside::GmLimit),
     }
 }
@@ -93,9 +98,11 @@ fn judge_strained(
     totals: &Totals,
     a: &Afloat,
     levers: &Levers,
+    line: &DraughtLine,
     strains: &Strains,
     near: &mut Nearby,
 ) -> Verdict
+    requires line { line.now.of ≡ a.now }
     requires loaded { load a.now ≡ load_of (values totals.now) }
     requires length { a.now.lbp ≡ profile.now.ship.lbp }
     ensures { (areas : ℕ → ℤ)
@@ -106,7 +113,7 @@ fn judge_strained(
         profile.now.ship.closing_max)) }
 {
     if closes(strains.closing, profile.closing_max()) {
-        judge_loaded(profile, totals, a, levers, strains, near)
+        judge_loaded(profile, totals, a, levers, line, strains, near)
     } else {
         outside(Outside::Closing)
     }
@@ -132,9 +139,10 @@ fn judge_righted(
         (areas_of profile.now.tables.bonjean (draught_at (water a.now)
         (load_of (values totals.now)) profile.now.ship.lbp) profile.now.ship.stations)) }
 {
-    let strains = strains_aboard(profile, hull, totals, a, &mut near.bonjean);
+    let line = DraughtLine::new(a);
+    let strains = strains_along(profile, hull, totals, &line, &mut near.bonjean);
     match &strains {
-        Some(strains) => judge_strained(profile, totals, a, levers, strains, near),
+        Some(strains) => judge_strained(profile, totals, a, levers, &line, strains, near),
         None => outside(Outside::Bonjean),
     }
 }

@@ -1,6 +1,6 @@
 -- Adding up thirds, sixths and halves, and one rounding.
 use Rattle.std.proofs.Common.{◌≡◌, ◌∙◌, ℕ, zero, suc, ◌+◌, ℤ, pos, negsuc, neg_ℤ, ◌<ℤ◌, ◌≤◌, unsigned_abs, ◌+ℤ◌, ◌-ℤ◌, ◌*ℤ◌, ◌≤ℤ◌, FitsSigned, to_z, of_z, to_z-of_z, refl, arith, add-one}
-use Rattle.std.specs.Int.{w64, int_div_euclid}
+use Rattle.std.specs.Int.{w64}
 use Rattle.units_core.proofs.Signed.{signed_arith, one_part, commutes, distributes}
 use borrow.Author.Differences.{same_in}
 use Rattle.units_core.proofs.Order.{times_order}

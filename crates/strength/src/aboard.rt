@@ -14,31 +14,31 @@ use crate::loads::Strains;
 use crate::rows::BonjeanRow;
 use crate::stations::mm;
 use crate::strains::strains_by;
-use hydrostat::{Afloat, DraughtLine};
+use hydrostat::DraughtLine;
 use moment_sums::Totals;
 use ship_profile::Profile;
 
-/// The loads on the hull of a ship afloat with this aboard, in kg and kg mm, by one walk along her stations: what [`areas_aboard`] and then
-/// [`strains_of`] answer. `None` where the draught at some station, rounded down, lies outside of the Bonjean table. The draught is looked for
-/// first in the row where the last one was, which `near` keeps.
-pub fn strains_aboard(
+/// The loads on the hull of a ship with this aboard, in kg and kg mm, by one walk along her stations and the draughts there: what [`areas_aboard`]
+/// and then [`strains_of`] answer. `None` where the draught at some station, rounded down, lies outside of the Bonjean table.
+/// Each draught is looked for first in the row of the one before, and the first of all in the row that `near` keeps from the last condition.
+pub fn strains_along(
     profile: &Profile,
     hull: &Hull,
     totals: &Totals,
-    a: &Afloat,
+    line: &DraughtLine,
     near: &mut BonjeanRow,
 ) -> Option<Strains>
     requires of { IsHullOf hull.now profile.now.ship }
     requires bounded { IsBounded (values totals.now) }
     requires kg { unsigned_abs (values totals.now Weight) ≤ 10 ^ 9 }
     ensures { MatchOption result
-        (areas_along profile.now (water a.now) (load a.now) a.now.lbp ≡ None)
+        (areas_along profile.now (water line.now.of) (load line.now.of) line.now.of.lbp ≡ None)
         (λ r. AreStrainsBy r (values totals.now)
-        (areas_along profile.now (water a.now) (load a.now) a.now.lbp) profile.now.ship) }
+        (areas_along profile.now (water line.now.of) (load line.now.of) line.now.of.lbp)
+        profile.now.ship) }
 {
     let stations = profile.stations();
     let curves = profile.bonjean();
-    let line = DraughtLine::new(a);
     near.of(curves.arguments());
     // Twice the volumes of the first intervals, and six times their moments about the after perpendicular, by how many they are.
     let mut volumes = [0; 64];
@@ -46,12 +46,13 @@ pub fn strains_aboard(
     let mut volume = 0;
     let mut arm = 0;
     let mut place = mm(stations[0]);
-    let Some(mut area) = area_near(curves, &line, 0, stations[0], near) else {
+    let Some(mut area) = area_near(curves, line, 0, stations[0], near) else {
         return None;
     };
+    let first = *near;
     for k in 0..stations.len() - 1 {
         let x = mm(stations[k + 1]);
-        let Some(here) = area_near(curves, &line, k + 1, stations[k + 1], near) else {
+        let Some(here) = area_near(curves, line, k + 1, stations[k + 1], near) else {
             return None;
         };
         volume += force_between(place, x, area, here);
@@ -61,5 +62,7 @@ pub fn strains_aboard(
         place = x;
         area = here;
     }
+    // The next condition's walk begins at the first station too.
+    *near = first;
     Some(strains_by(profile, hull, totals, &volumes, &arms))
 }

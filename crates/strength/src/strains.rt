@@ -50,20 +50,24 @@ pub fn strains_by(
 {
     let intervals = profile.stations().len() - 1;
     let frames = profile.frames().as_slice();
-    let mut shear = [0; 16];
-    let mut bending = [0; 16];
+    // Built where it stays, since each move of it is a copy of 500 bytes.
+    let mut strains = Strains {
+        loads: Loads {
+            shear: [0; 16],
+            bending: [0; 16],
+        },
+        closing: 0,
+    };
     for i in 0..frames.len() {
         let n = hull.intervals_aft(i);
         let x = mm(frames[i].x);
         let volume = volumes[n];
         let arm = arms[n];
-        shear[i] = minus(totals.weight_aft(i), i128::from(buoyancy(volume)));
-        bending[i] = minus(totals.moment_aft(i), buoyancy_moment(x, volume, arm));
+        strains.loads.shear[i] = minus(totals.weight_aft(i), i128::from(buoyancy(volume)));
+        strains.loads.bending[i] = minus(totals.moment_aft(i), buoyancy_moment(x, volume, arm));
     }
-    Strains {
-        loads: Loads { shear, bending },
-        closing: minus(i128::from(buoyancy(volumes[intervals])), totals.kg()),
-    }
+    strains.closing = minus(i128::from(buoyancy(volumes[intervals])), totals.kg());
+    strains
 }
 
 /// The loads on the hull with this aboard, the areas of its sections as given.

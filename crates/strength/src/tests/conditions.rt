@@ -2,7 +2,8 @@
 //! interval of 25 m.
 use super::cargo::{Container, floating, loaded};
 use super::ships::{Check, on_box_ship};
-use crate::{BonjeanRow, Hull, areas_aboard, loads_of, strains_aboard, strains_of};
+use crate::{BonjeanRow, Hull, areas_aboard, loads_of, strains_along, strains_of};
+use hydrostat::DraughtLine;
 use ship_profile::Profile;
 use std::process::Abort;
 use std::test::Fail;
@@ -108,9 +109,8 @@ impl Check for Walked {
         let afloat = floating(profile, &sum)?;
         let hull = Hull::new(profile);
         let mut near = BonjeanRow::default();
-        let strains = strains_aboard(profile, &hull, &sum, &afloat.afloat, &mut near).ok_or(
-            "areas",
-        )?;
+        let line = DraughtLine::new(&afloat.afloat);
+        let strains = strains_along(profile, &hull, &sum, &line, &mut near).ok_or("areas")?;
         assert_eq!(rt; first_five(&strains.loads.shear), self.0.shear);
         assert_eq!(rt; first_five(&strains.loads.bending), self.0.bending);
         assert_eq!(rt; strains.closing, self.0.closing);

@@ -7,6 +7,6 @@ pub returns : goal.returns
 returns c =
     λ y are.
     let l = c.ranges.limit in
-    let best = c.best_from_30.result in
+    let best = c.args.curve.now.best in
     (simp (to_z-of_z l) at c.reaches.ensures)
-    ∙ ordinate_reaches best.num best.den y c.args.limit (greatest_of y 6 7) (c.best_from_30.ensures.value y are)
+    ∙ ordinate_reaches best.num best.den y c.args.limit (greatest_of y 6 7) are.best

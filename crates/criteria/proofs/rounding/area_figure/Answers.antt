@@ -17,9 +17,9 @@ area_is n d r p =
 
 pub returns : goal.returns
 returns c = λ r p.
-    let q : FitsSigned w128 c.floor.result = search rules in
+    let q : FitsSigned w128 c.floor_near.result = search rules in
     let n : FitsSigned w128 c.args.sum.num = fits_within _ _ c.requires.num (omega arith) in
     let d : FitsSigned w128 c.args.sum.den = fits_within _ _ c.requires.den (omega arith) in
     let n5 : FitsSigned w128 (pos 5 *ℤ c.args.sum.num) = fits_within _ _ (product_within (pos 5) c.args.sum.num 5 (10 ^ 32) (omega arith) c.requires.num) (omega arith) in
     let d3 : FitsSigned w128 (pos 3 *ℤ c.args.sum.den) = fits_within _ _ (product_within (pos 3) c.args.sum.den 3 (10 ^ 23) (omega arith) c.requires.den) (omega arith) in
-    simp (to_z-of_z q) ((simp (to_z-of_z n, to_z-of_z d, to_z-of_z n5, to_z-of_z d3) at c.floor.ensures.value) ∙ floor_same (pos 5 *ℤ c.args.sum.num) (pos 3 *ℤ c.args.sum.den) (mm_degrees r) (area_is c.args.sum.num c.args.sum.den r p))
+    simp (to_z-of_z q) ((simp (to_z-of_z n, to_z-of_z d, to_z-of_z n5, to_z-of_z d3) at c.floor_near.ensures) ∙ floor_same (pos 5 *ℤ c.args.sum.num) (pos 3 *ℤ c.args.sum.den) (mm_degrees r) (area_is c.args.sum.num c.args.sum.den r p))

@@ -6,6 +6,6 @@ use Rattle.criteria.proofs.rounding.lever_down.Goals as goal
 
 pub returns : goal.returns
 returns c =
-    let best = c.best_from_30.result in
-    let q : FitsSigned w128 c.figure.result = search rules in
-    λ y are. simp (to_z-of_z q) (ordinate_down c.figure.result best.num best.den y (greatest_of y 6 7) c.figure.ensures (c.best_from_30.ensures.value y are))
+    let best = c.args.curve.now.best in
+    let q : FitsSigned w128 c.figure_near.result = search rules in
+    λ y are. simp (to_z-of_z q) (ordinate_down c.figure_near.result best.num best.den y (greatest_of y 6 7) c.figure_near.ensures are.best)

@@ -11,11 +11,12 @@ returns-in-Some c =
     let l = c.args.strains.now.loads in
     let ship = c.args.profile.now.ship in
     let len = c.requires.length in
-    let f = c.figures_of.ensures.floating in
-    let s = c.figures_of.ensures.loads in
+    let f = c.figures_of-figures.ensures.floating in
+    let s = c.figures_of-figures.ensures.loads in
     λ y are.
-    let r = c.figures_of.ensures.righting y are in
-    let figures : read c.figures_of.result ≡ printed_of (water a) (load a) ship.lbp y c.args.strains.now.closing (λ i. at l.shear i) (λ i. at l.bending i) = λ j. record {
+    let measures = c.measures_of-curve.ensures y are in
+    let r = c.figures_of-figures.ensures.righting y measures in
+    let figures : read c.figures_of-figures.result ≡ printed_of (water a) (load a) ship.lbp y c.args.strains.now.closing (λ i. at l.shear i) (λ i. at l.bending i) = λ j. record {
       gm = f.gm j;
       mean = f.mean j;
       aft = (f.aft ∙ (λ i. floor_of (draught_at (water a) (load a) (len i) (pos 0)))) j;
@@ -31,7 +32,7 @@ returns-in-Some c =
       shear = λ i. s.shear i j;
       bending = λ i. s.bending i j;
     } in
-    (c.judged.ensures ∙ (λ j. judged (c.first_not_met.ensures y are j) (figures j)))
+    (c.judged.ensures ∙ (λ j. judged (c.first_not_met-criterion.ensures y measures j) (figures j)))
     ∙ ap (with_least ship (water a) (load a) y c.args.strains.now.closing (λ i. at l.shear i) (λ i. at l.bending i)) c.in-Some.ensures.value
 
 pub returns-in-None : goal.returns-in-None

@@ -1,7 +1,7 @@
 use Rattle.std.proofs.Common.{◌≡◌, ◌∙◌, ℕ, ℤ, Option, None, Some}
 use Rattle.ship_profile.specs.Record.{ProfileRecord}
 use Rattle.moment_sums.specs.Sum.{Sum}
-use Rattle.hydrostat.specs.Floating.{Hydrostatics, draught_at, water}
+use Rattle.hydrostat.specs.Floating.{Hydrostatics, draught_at, load, water}
 use Rattle.moment_sums.specs.Kept.{values}
 use Rattle.units_core.specs.Ratio.{Ratio}
 use Rattle.strength.specs.Immersed.{areas_of}
@@ -22,5 +22,7 @@ returns-in-Some c =
     let p = c.args.profile.now in
     let a = c.args.a.now in
     let s = values c.args.totals.now in
-    λ y are. by_areas _ p s (water a) y c.in-Some.strains _ (rw c.in-Some.is at c.strains_aboard-strains.ensures) (λ areas is. c.judge_strained.ensures areas is y are)
+    let of = c.new-line.ensures in
+    λ y are. by_areas _ p s (water a) y c.in-Some.strains _ (rw c.in-Some.is at c.strains_along-strains.ensures) (λ areas is. c.judge_strained.ensures areas is y are)
+    ∙ (λ j. with_areas p s (water a) y (areas_of p.tables.bonjean (draught_at (water (of j)) (load (of j)) (of j).lbp) p.ship.stations))
     ∙ (λ j. with_areas p s (water a) y (areas_of p.tables.bonjean (draught_at (water a) (c.requires.loaded j) (c.requires.length j)) p.ship.stations))

@@ -4,15 +4,14 @@ use Rattle.std.specs.Prelude.{is_some}
 use Rattle.std.proofs.lemmas.Int.{fits_signed_from_abs}
 use Rattle.std.proofs.lemmas.Option.{slice_get-get_or}
 use Rattle.units_core.specs.Interpolation.{at}
-use Rattle.units_core.specs.Ratio.{Ratio, floor_of}
+use Rattle.units_core.specs.Ratio.{Ratio}
 use Rattle.units_core.proofs.Signed.{fits_within, sum_within}
 use Rattle.units_core.proofs.Signed as signed
 use Rattle.ship_tables.specs.Record.{CurveTable}
-use Rattle.hydrostat.specs.declared.particulars.Afloat.{Afloat}
 use Rattle.hydrostat.specs.Floating.{draught_at, load, water}
 use Rattle.moment_sums.proofs.Bounds.{set_within}
 use Rattle.strength.specs.Buoyancy.{arm_top, force_top, tops}
-use Rattle.strength.specs.Immersed.{area_at, area_in, area_there, areas_of, or_none}
+use Rattle.strength.specs.Immersed.{area_at, area_there, areas_of, or_none}
 use Rattle.strength.specs.Running.{AreRunning, AreStrainsBy}
 use Rattle.strength.specs.declared.loads.Strains.{Strains}
 use Rattle.ship_profile.specs.Ship.{ShipRecord}
@@ -20,7 +19,7 @@ use Rattle.moment_sums.specs.Sum.{Sum}
 use Rattle.moment_sums.specs.Kept.{values}
 use Rattle.strength.proofs.Adding.{more, sum_back, sum_fits}
 use Rattle.strength.proofs.Placed.{areas_none, areas_there, inside_same, next_there, none_within, one_there, set_next}
-use Rattle.strength.proofs.aboard.strains_aboard.Goals as goal
+use Rattle.strength.proofs.aboard.strains_along.Goals as goal
 
 nothing : (g : ℕ → ℤ) (n : ℕ) → n ≤ 0 → at (replicate 64 (pos 0)) n ≡ tops g n
 nothing g zero low = refl
@@ -32,7 +31,7 @@ moved r sums ship dr xs ys t u e f h = subst (λ (ts : CurveTable). AreStrainsBy
 
 pub loop-k-init : goal.loop-k-init
 loop-k-init c =
-    let a = c.args.a.now in
+    let a = c.args.line.now.of in
     let t = c.bonjean-curves.result.now in
     let xs = c.stations-stations.result.now in
     let dr : ℤ → Ratio = draught_at (water a) (load a) a.lbp in
@@ -42,8 +41,7 @@ loop-k-init c =
     let h : FitsSigned w64 c.in-Some.area = search rules in
     let v : ℤ = to_z w64 (of_z w64 c.in-Some.area) in
     let here = slice_get-get_or xs 0 c.index-stations-0-2.result some ∙ ap (λ (z : ℤ). Some z) (sym c.index-stations-0-2.is) in
-    let line = ap (λ (b : Afloat). area_in t 0 (floor_of (draught_at (water b) (load b) b.lbp c.index-stations-0-2.result))) c.new-line.ensures in
-    let value : area_at t dr xs 0 ≡ Some v = ap (λ (o : Option ℤ). area_there t dr 0 o) here ∙ (sym (c.in-Some.ensures.value ∙ line) ∙ ap (λ (z : ℤ). Some z) (sym (to_z-of_z h))) in
+    let value : area_at t dr xs 0 ≡ Some v = ap (λ (o : Option ℤ). area_there t dr 0 o) here ∙ (sym c.in-Some.ensures.value ∙ ap (λ (z : ℤ). Some z) (sym (to_z-of_z h))) in
     record {
       row = c.area_near.ensures.row;
       volumes_size = refl;
@@ -66,14 +64,13 @@ loop-k-init c =
 pub returns-in_default-area_near : goal.returns-in_default-area_near
 returns-in_default-area_near c =
     let k = c.loop-k.k in
-    let a = c.args.a.now in
+    let a = c.args.line.now.of in
     let t = c.bonjean-curves.result.now in
     let xs = c.stations-stations.result.now in
     let dr : ℤ → Ratio = draught_at (water a) (load a) a.lbp in
     let less : k + 1 < length xs = omega (arith, c.loop-k-test.true) in
     let here = slice_get-get_or xs (k + 1) c.index-stations-k-in-loop-k.result less ∙ ap (λ (z : ℤ). Some z) (sym c.index-stations-k-in-loop-k.is) in
-    let line = ap (λ (b : Afloat). area_in t (k + 1) (floor_of (draught_at (water b) (load b) b.lbp c.index-stations-k-in-loop-k.result))) c.new-line.ensures in
-    let none = areas_none t dr xs (k + 1) less (ap (λ (o : Option ℤ). area_there t dr (k + 1) o) here ∙ sym (c.in_default-area_near.ensures.value ∙ line)) in
+    let none = areas_none t dr xs (k + 1) less (ap (λ (o : Option ℤ). area_there t dr (k + 1) o) here ∙ sym c.in_default-area_near.ensures.value) in
     sym (none ∙ (λ j. areas_of (c.bonjean-curves.ensures.value j) dr (c.stations-stations.ensures.value j)))
 
 pub overflow_add-volume : goal.overflow_add-volume
@@ -96,7 +93,7 @@ pub loop-k-preserved : goal.loop-k-preserved
 loop-k-preserved c =
     let inv = c.loop-k.invariant in
     let k = c.loop-k.k in
-    let a = c.args.a.now in
+    let a = c.args.line.now.of in
     let t = c.bonjean-curves.result.now in
     let xs = c.stations-stations.result.now in
     let dr : ℤ → Ratio = draught_at (water a) (load a) a.lbp in
@@ -108,8 +105,7 @@ loop-k-preserved c =
     let h : FitsSigned w64 c.in-Some-area_near.here = search rules in
     let v : ℤ = to_z w64 (of_z w64 c.in-Some-area_near.here) in
     let here = slice_get-get_or xs (k + 1) c.index-stations-k-in-loop-k.result less ∙ ap (λ (z : ℤ). Some z) (sym c.index-stations-k-in-loop-k.is) in
-    let line = ap (λ (b : Afloat). area_in t (k + 1) (floor_of (draught_at (water b) (load b) b.lbp c.index-stations-k-in-loop-k.result))) c.new-line.ensures in
-    let value : area_at t dr xs (k + 1) ≡ Some v = ap (λ (o : Option ℤ). area_there t dr (k + 1) o) here ∙ (sym (c.in-Some-area_near.ensures.value ∙ line) ∙ ap (λ (z : ℤ). Some z) (sym (to_z-of_z h))) in
+    let value : area_at t dr xs (k + 1) ≡ Some v = ap (λ (o : Option ℤ). area_there t dr (k + 1) o) here ∙ (sym c.in-Some-area_near.ensures.value ∙ ap (λ (z : ℤ). Some z) (sym (to_z-of_z h))) in
     let area : v ≡ areas (k + 1) = ap or_none (sym value) in
     let place = to_z-of_z m ∙ (c.mm-x.ensures.value ∙ (c.index-stations-k.is ∙ inside_same xs (k + 1) _ (pos 0) less)) in
     let f : FitsSigned w64 c.force_between-volume.result = search rules in
@@ -148,7 +144,7 @@ loop-k-preserved c =
 pub returns : goal.returns
 returns c =
     let inv = c.loop-k.invariant in
-    let a = c.args.a.now in
+    let a = c.args.line.now.of in
     let t = c.bonjean-curves.result.now in
     let xs = c.stations-stations.result.now in
     let dr : ℤ → Ratio = draught_at (water a) (load a) a.lbp in

@@ -5,11 +5,11 @@ use Rattle.hydrostat.specs.Floating.{draught_at, load, water}
 use Rattle.strength.specs.Buoyancy.{arm_top, force_top, tops}
 use Rattle.strength.specs.Immersed.{area_at, or_none}
 use Rattle.strength.specs.Rows.{IsRowOf}
-use Rattle.strength.proofs.aboard.strains_aboard.Given as goal
+use Rattle.strength.proofs.aboard.strains_along.Given as goal
 
 abbrev pub invariant-loop-k : goal.invariant-loop-k
 invariant-loop-k l =
-    let found = area_at l.curves (draught_at (water l.a) (load l.a) l.a.lbp) l.stations in
+    let found = area_at l.curves (draught_at (water l.line.of) (load l.line.of) l.line.of.lbp) l.stations in
     let areas : ℕ → ℤ = λ j. or_none (found j) in
     record {
       row : IsRowOf l.curves.arguments l.near.row l.near.lower l.near.upper;
