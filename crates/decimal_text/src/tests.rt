@@ -119,3 +119,14 @@ fn a_line_behind_another(rt: HostRuntime) {
     assert_eq!(&rt; text.as_str(), "é 7031/-42 PASS\n");
     assert_eq!(&rt; line.room(), ROOM - 14);
 }
+
+#[test]
+fn digits_before_an_end(rt: HostRuntime) {
+    let Ok(digits) = FourDigits::new(rt.alloc()) else {
+        panic!(&rt; "no memory")
+    };
+    let mut bytes = [b'-'; 26];
+    let start = digits.write(1_070_310, &mut bytes, 24);
+    assert_eq!(&rt; start, 17);
+    assert_eq!(&rt; &bytes[17..], b"1070310--".as_slice());
+}

@@ -117,7 +117,7 @@ fn arrive(alloc: Global, profile: Profile, items: Vec<Item>) -> Result<(Profile,
 }
 
 /// The ship of the inputs with what is aboard of her on arrival, or the first refusal of her profile, the bay plan and the arrival: by what was read
-/// of the first two, each by itself.
+/// of the first two, each by itself. The contract alone speaks of `inputs`.
 fn arrived_by(
     alloc: Global,
     inputs: &Inputs<'_>,
@@ -142,7 +142,8 @@ fn arrived_by(
     }
 }
 
-/// The case that the inputs tell of, or the first refusal: by what came of the first three inputs, and what was read of the others.
+/// The case that the inputs tell of, or the first refusal: by what came of the first three inputs, and what was read of the others. The contract alone
+/// speaks of `inputs`.
 fn case_by(
     alloc: Global,
     inputs: &Inputs<'_>,
