@@ -7,8 +7,6 @@ mod entries;
 mod events;
 mod laws;
 mod outcomes;
-#[cfg(test)]
-mod tests;
 mod workers;
 mod world;
 

@@ -9,4 +9,3 @@ pub mod Shared
 pub mod Board
 pub mod Law
 pub mod Runs
-pub mod ThreeChunks

@@ -24,9 +24,6 @@ pub use board::Board;
 pub use jobs::Job;
 pub use laws::every_state_is_right;
 pub use runs::{run, run_least};
-pub use scouts::{Gate, Open, Scout};
+pub use scouts::{FindsNothing, Gate, Open, Scout};
 pub use shared_board::Hand;
 pub use workers::Workers;
-
-#[cfg(test)]
-mod tests;

@@ -2,7 +2,7 @@ ghost use Rattle.std.specs.Prelude.{◌≡◌};
 ghost use Rattle.criteria.specs.Printed.{AreFigures};
 
 use crate::measures::CurveMeasures;
-use crate::quotients::Reciprocal;
+use crate::reciprocals::Reciprocal;
 use crate::rounding::{
     aft_down, angle, area_figure, fwd_down, gm_down, lever_down, list_down, mean_down, trim_down,
 };

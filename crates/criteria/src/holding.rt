@@ -6,11 +6,10 @@ ghost use Rattle.criteria.specs.Met.{IsFirstNotMet, IsHeld};
 use crate::criterion::Criterion;
 use crate::decisions::{draughts_hold, is_stiff, least_holds, list_holds};
 use crate::frames::{bending_holds, shear_holds};
-use crate::levers::{
-    area_30_40_reaches, area_30_reaches, area_40_reaches, lever_reaches, peaks_from,
-};
+use crate::levers::{lever_reaches, peaks_from};
 use crate::measures::CurveMeasures;
 use hydrostat::Afloat;
+use righting::area_holds;
 use ship_profile::Profile;
 use strength::Loads;
 use units_core::Frac;
@@ -56,9 +55,9 @@ fn holds(
     match criterion {
         Criterion::C0 => true,
         Criterion::C1 => is_stiff(a),
-        Criterion::C2 => area_30_reaches(curve, 3_151_268),
-        Criterion::C3 => area_40_reaches(curve, 5_156_621),
-        Criterion::C4 => area_30_40_reaches(curve, 1_718_874),
+        Criterion::C2 => area_holds(curve.sum_30, 3_151_268),
+        Criterion::C3 => area_holds(curve.sum_40, 5_156_621),
+        Criterion::C4 => area_holds(curve.sum_30_40, 1_718_874),
         Criterion::C5 => lever_reaches(curve, 200),
         Criterion::C6 => peaks_from(curve, 5),
         Criterion::C7 => list_holds(a, i128::from(profile.list_max())),

@@ -1,12 +1,12 @@
 ghost use Rattle.std.specs.Prelude.{◌≡◌, ℕ, ◌≤◌, ◌*◌, ◌^◌, unsigned_abs};
-ghost use Rattle.units_core.specs.Ratio.{Ratio, is_at_least};
-ghost use Rattle.righting.specs.Levers.{AreOrdinates, area_of, greatest_of, simpson};
+ghost use Rattle.units_core.specs.Ratio.{Ratio};
+ghost use Rattle.righting.specs.Levers.{AreOrdinates, greatest_of};
 ghost use Rattle.criteria.specs.Criteria.{is_from, reaches_at};
 ghost use Rattle.criteria.specs.Measures.{AreMeasures};
 
 use crate::decisions::reaches;
 use crate::measures::CurveMeasures;
-use righting::{Levers, area_holds, area_over_pairs, best_from_30, greatest_number};
+use righting::{Levers, area_over_pairs, best_from_30, greatest_number};
 
 /// The measures of a curve of levers.
 pub fn measures_of(levers: &Levers) -> CurveMeasures
@@ -19,33 +19,6 @@ pub fn measures_of(levers: &Levers) -> CurveMeasures
         best: best_from_30(levers),
         greatest: greatest_number(levers),
     }
-}
-
-/// Whether the area under the levers from 0 to 30 degrees is at least a limit, in millionths of a metre-degree.
-pub fn area_30_reaches(curve: &CurveMeasures, limit: i128) -> bool
-    requires { unsigned_abs limit ≤ 10 ^ 7 }
-    ensures { (y : ℕ → Ratio) → AreMeasures curve.now y
-        → result ≡ is_at_least (area_of (simpson y 0 3)) limit }
-{
-    area_holds(curve.sum_30, limit)
-}
-
-/// The same from 0 to 40 degrees.
-pub fn area_40_reaches(curve: &CurveMeasures, limit: i128) -> bool
-    requires { unsigned_abs limit ≤ 10 ^ 7 }
-    ensures { (y : ℕ → Ratio) → AreMeasures curve.now y
-        → result ≡ is_at_least (area_of (simpson y 0 4)) limit }
-{
-    area_holds(curve.sum_40, limit)
-}
-
-/// The same from 30 to 40 degrees.
-pub fn area_30_40_reaches(curve: &CurveMeasures, limit: i128) -> bool
-    requires { unsigned_abs limit ≤ 10 ^ 7 }
-    ensures { (y : ℕ → Ratio) → AreMeasures curve.now y
-        → result ≡ is_at_least (area_of (simpson y 6 1)) limit }
-{
-    area_holds(curve.sum_30_40, limit)
 }
 
 /// Whether the greatest lever from 30 to 60 degrees is at least a limit, in mm.

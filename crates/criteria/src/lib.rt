@@ -9,13 +9,10 @@ mod holding;
 mod levers;
 mod limits;
 mod measures;
-mod quotients;
+mod reciprocals;
 mod rounding;
 mod verdicts;
 
 pub use criterion::Criterion;
 pub use figures::Figures;
 pub use verdicts::{Nearby, Verdict, judge, judge_near};
-
-#[cfg(test)]
-mod tests;

@@ -5,9 +5,9 @@ ghost use Rattle.criteria.specs.Judgement.{list_down};
 ghost use Rattle.criteria.specs.Printed.{IsAngle, IsAreaFigure, IsFigure, IsLeverDown};
 
 use crate::measures::CurveMeasures;
-use crate::quotients::{Reciprocal, floor_near};
+use crate::reciprocals::Reciprocal;
 use hydrostat::{Afloat, DraughtLine, gm_of, list_of, mean_of, trim_of};
-use units_core::{Frac, Mm, floor};
+use units_core::{Frac, Mm, floor, floor_near};
 
 /// A figure, rounded down.
 fn figure(fraction: Frac) -> i128

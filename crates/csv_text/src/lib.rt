@@ -12,8 +12,6 @@
 
 mod numbers;
 mod records;
-#[cfg(test)]
-mod tests;
 
 pub use numbers::number;
 pub use records::{next_record, open_records, text_at};

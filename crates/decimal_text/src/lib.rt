@@ -6,8 +6,6 @@
 
 mod backward_text;
 mod four_digits;
-#[cfg(test)]
-mod tests;
 
 pub use backward_text::{BackwardText, ROOM};
 pub use four_digits::FourDigits;

@@ -30,6 +30,3 @@ pub use laws::one_reading;
 pub use message::{Message, Segment, Segments};
 pub use raw::Raw;
 pub use tag::Tag;
-
-#[cfg(test)]
-mod tests;

@@ -12,8 +12,6 @@
 mod files;
 mod forms;
 mod laws;
-#[cfg(test)]
-mod tests;
 mod words;
 
 pub use files::{EditsFault, edits};

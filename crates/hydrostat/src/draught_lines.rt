@@ -7,7 +7,7 @@ ghost use Rattle.hydrostat.specs.Leading.{IsInUnits, IsLedBy, IsSure, line_step}
 use crate::draughts::{draught, draught_by};
 use crate::numerators::trim_top;
 use crate::particulars::Afloat;
-use units_core::{Mm, floor};
+use units_core::{Mm, floor, is_rest, upper_half};
 
 /// What units leave away of a numerator, of a million times the step and of a million times the divisor is less than so many units.
 const SLACK: i64 = 2_000_002;
@@ -34,17 +34,6 @@ pub struct DraughtLine {
     pub of: Afloat,
     leading: Option<Leading>,
     ghost leads: { ForSome leading (λ l. IsLedBy l.unit l.base l.step l.divisor of) },
-}
-
-/// Whether a number is what a quotient by `unit` leaves.
-fn is_rest(rest: i128, unit: i128) -> bool
-    ensures low { result ≡ true → pos 0 ≤ℤ rest }
-    ensures high { result ≡ true → rest <ℤ unit }
-{
-    if rest < 0 {
-        return false;
-    }
-    rest < unit
 }
 
 /// A number in whole units, rounded down; `None` where 64 bits don't hold it. `shift` tells how: where the unit isn't 2^`shift`, there is none.
@@ -143,12 +132,6 @@ fn rest_of(top: i64, quotient: i64, divisor: i64) -> i64
     top - quotient * divisor
 }
 
-/// About the quotient of a number and the divisor whose reciprocal is given.
-#[inline(always)]
-fn guess(top: i64, reciprocal: u64) -> u64 {
-    ((u128::from(top.unsigned_abs()) * u128::from(reciprocal)) >> 64) as u64
-}
-
 /// A number up to a million.
 #[inline(always)]
 fn signed(n: u64) -> i64
@@ -181,7 +164,7 @@ impl Leading {
             (λ q. IsSure q (self.now.base -ℤ (self.now.step *ℤ x)) self.now.divisor) }
     {
         let top = top_at(self.base, self.step, x);
-        let quotient = guess(top, self.reciprocal);
+        let quotient = upper_half(top.unsigned_abs(), self.reciprocal);
         if quotient > 1_000_000 {
             return None;
         }

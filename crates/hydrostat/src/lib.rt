@@ -17,6 +17,3 @@ pub use outside::Outside;
 pub use particulars::Afloat;
 pub use ratios::{gm_of, list_of, mean_of, trim_of};
 pub use waterlines::{on_waterline, upright};
-
-#[cfg(test)]
-mod tests;

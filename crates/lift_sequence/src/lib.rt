@@ -21,8 +21,6 @@ mod operations;
 mod sequences;
 mod steps;
 mod stowage;
-#[cfg(test)]
-mod tests;
 
 pub use arrivals::Arrival;
 pub use faults::{SeqCode, SeqFault};

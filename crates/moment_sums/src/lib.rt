@@ -12,6 +12,3 @@ mod totals;
 pub use laws::{aboard_is_bounded, sequences_are_bounded};
 pub use shares::{moment_aft, weight_aft};
 pub use totals::Totals;
-
-#[cfg(test)]
-mod tests;

@@ -25,6 +25,3 @@ pub use monoids::{MAX_PARTS, Monoid};
 pub use prefixes::Prefixes;
 pub use running_joins::Running;
 pub use totals_tree::TotalsTree;
-
-#[cfg(test)]
-mod tests;

@@ -13,6 +13,3 @@ pub use areas::{
 };
 pub use cross_curves::{levers_aboard, levers_of};
 pub use ordinates::Levers;
-
-#[cfg(test)]
-mod tests;

@@ -35,6 +35,3 @@ pub use plans::{CutPlan, Options, cuts_of};
 pub use runs::{report, report_from};
 pub use sink::{Sink, SinkFailed, Through, put_all};
 pub use weights::{items_are_light, ops_are_light};
-
-#[cfg(test)]
-mod tests;

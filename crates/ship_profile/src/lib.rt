@@ -14,8 +14,6 @@ mod laws;
 mod profiles;
 mod ships;
 mod stations;
-#[cfg(test)]
-mod tests;
 
 pub use faults::{Key, ProfileFault};
 pub use fills::TankFill;

@@ -7,23 +7,17 @@
 mod cell_lists;
 mod curves;
 mod extents;
-#[cfg(test)]
-mod fault_tests;
 mod faults;
 mod forms;
 mod hydrostatics;
 mod laws;
 mod layouts;
-#[cfg(test)]
-mod limit_tests;
 mod places;
 mod reading;
 mod readings;
 mod rows;
 mod table_set;
 mod tanks;
-#[cfg(test)]
-mod tests;
 mod texts;
 
 pub use curves::Curves;

@@ -9,8 +9,6 @@ mod edits;
 mod faults;
 mod laws;
 mod lists;
-#[cfg(test)]
-mod tests;
 
 pub use edits::Edit;
 pub use faults::EditFault;

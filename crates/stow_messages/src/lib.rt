@@ -25,8 +25,3 @@ pub use plans::baplie;
 pub use step_faults::{StepsCode, StepsFault};
 pub use step_files::steps;
 pub use step_rows::StepRow;
-
-#[cfg(test)]
-mod step_tests;
-#[cfg(test)]
-mod tests;

@@ -1,7 +1,6 @@
 -- Numbers written place by place; areas at all stations.
-use Rattle.std.proofs.Common.{◌≡◌, ◌∙◌, ℕ, zero, suc, true, ◌+◌, ◌*◌, ◌/◌, ◌<◌, ◌≤◌, ◌⊎◌, inl, inr, List, [], ◌∷◌, length, get_or, set, get_or-set_same, get_or-set_other, below_more, ◌≢◌, replicate, Option, None, Some, unsigned_abs, FitsSigned, to_z, of_z, to_z-of_z, ℤ, pos, ◌+ℤ◌, ◌-ℤ◌, ◌*ℤ◌, ◌≤ℤ◌, refl, sym, ap, arith}
+use Rattle.std.proofs.Common.{◌≡◌, ◌∙◌, ℕ, zero, suc, true, ◌+◌, ◌*◌, ◌/◌, ◌<◌, ◌≤◌, ◌⊎◌, inl, inr, List, [], ◌∷◌, length, get_or, set, replicate, Option, None, Some, unsigned_abs, FitsSigned, to_z, of_z, to_z-of_z, ℤ, pos, ◌+ℤ◌, ◌-ℤ◌, ◌*ℤ◌, ◌≤ℤ◌, refl, sym, ap, arith}
 use Rattle.std.specs.Prelude.{is_some}
-use Rattle.std.proofs.lemmas.Option.{slice_get_past}
 use Rattle.std.specs.Int.{w128}
 use Rattle.units_core.proofs.Signed.{signed_arith, one_part}
 use Rattle.moment_sums.proofs.Bounds.{set_done}
@@ -9,7 +8,7 @@ use Rattle.units_core.specs.Interpolation.{at, IsWithin}
 use Rattle.units_core.specs.Ratio.{Ratio, ◌over◌, floor_of}
 use Rattle.ship_tables.specs.Record.{CurveTable}
 use Rattle.units_core.proofs.Ranges.{range_all, range_not_all}
-use Rattle.strength.specs.Immersed.{area_at, area_there, areas_of, or_none}
+use Rattle.strength.specs.Immersed.{area_at, areas_of, or_none}
 
 below_cases : (k n : ℕ) → (k < n) ⊎ (n ≤ k)
 below_cases zero zero = inr (omega arith)
@@ -27,27 +26,12 @@ all_places ns g n done rest none j = elim (below_cases j n) [
   | inr past ↦ rest j past ∙ sym (none j past)
 ]
 
-pub at_past : (xs : List ℤ) (k : ℕ) → length xs ≤ k → at xs k ≡ pos 0
-at_past [] zero h = refl
-at_past [] (suc k) h = refl
-at_past (x ∷ xs) zero h = absurd (omega arith)
-at_past (x ∷ xs) (suc k) h = at_past xs k (omega arith)
-
-pub set_areas : (ns : List ℤ) (g : ℕ → Option ℤ) (k : ℕ) (v : ℤ) → k < length ns → ((j : ℕ) → j < k → g j ≡ Some (at ns j)) → g k ≡ Some v → (j : ℕ) → j < k + 1 → g j ≡ Some (at (set ns k v) j)
-set_areas ns g k v inside done e = below_more _ _ (λ j less. let ne : j ≢ k = omega arith in rw get_or-set_other (done j less)) (rw get_or-set_same e)
-
--- no areas where one is missing; else all of them
+-- no areas where one is missing
 pub areas_none : (t : CurveTable) (dr : ℤ → Ratio) (xs : List ℤ) (k : ℕ) → k < length xs → area_at t dr xs k ≡ None → None ≡ areas_of t dr xs
 areas_none t dr xs k less h =
     let here : 0 + k ≡ k = omega arith in
     let none = range_not_all (λ j. is_some (area_at t dr xs j)) 0 (length xs) k less (ap (λ m. is_some (area_at t dr xs m)) here ∙ ap (λ (o : Option ℤ). is_some o) h) in
     rw none refl
-
-pub areas_some : (t : CurveTable) (dr : ℤ → Ratio) (xs ns : List ℤ) (n : ℕ) → length xs ≤ n → ((j : ℕ) → j < n → area_at t dr xs j ≡ Some (at ns j)) → ((j : ℕ) → n ≤ j → at ns j ≡ pos 0) → Some (at ns) ≡ areas_of t dr xs
-areas_some t dr xs ns n all done rest =
-    let every = range_all (λ j. is_some (area_at t dr xs j)) 0 (length xs) (λ i low high. let less : i < n = omega arith in ap (λ (o : Option ℤ). is_some o) (done i less)) in
-    let each = all_places ns (λ k. or_none (area_at t dr xs k)) n (λ j less. ap or_none (sym (done j less))) rest (λ j past. let out : length xs ≤ j = omega arith in ap (λ (o : Option ℤ). or_none (area_there t dr j o)) (slice_get_past xs j out)) in
-    rw every (λ i. Some (λ k. each k i))
 
 pub no_places : (n i : ℕ) → get_or (replicate n (pos 0)) i (pos 0) ≡ pos 0
 no_places zero zero = refl

@@ -1,17 +1,14 @@
 -- Bookkeeping: what the loads take of a ship's profile alone.
-use Rattle.std.specs.Prelude.{◌≡◌, ℕ, ◌^◌, ◌<◌, ◌≤◌, ℤ, List, length, get_or, slice_get, IfSome}
-use Rattle.units_core.specs.Interpolation.{at, IsWithin}
+use Rattle.std.specs.Prelude.{◌≡◌, ℕ, ◌<◌, ◌≤◌, ℤ, List, length, get_or, slice_get, IfSome}
 use Rattle.ship_profile.specs.Ship.{ShipRecord}
 use Rattle.ship_profile.specs.declared.frames.Frame.{Frame}
 use Rattle.strength.specs.Buoyancy.{intervals_aft}
 
--- where the stations stand, and how many intervals between them lie aft of each frame
+-- how many intervals between stations lie aft of each frame
 pub record HullRecord : Type 0 where
-  pub places : List ℤ
   pub aft : List ℕ
 
-pub record IsHull (places : List ℤ) (aft : List ℕ) : Type 0 where
-  pub within : IsWithin (10 ^ 6) places
+pub record IsHull (aft : List ℕ) : Type 0 where
   pub few : (i : ℕ) → get_or aft i 0 ≤ 63
 
 -- how many intervals lie aft of each frame
@@ -20,6 +17,5 @@ AreAft aft stations frames = (i : ℕ) → IfSome (slice_get frames i) (λ frame
 
 -- it is that of a ship
 pub record IsHullOf (h : HullRecord) (ship : ShipRecord) : Type 0 where
-  pub places : (k : ℕ) → at h.places k ≡ at ship.stations k
   pub aft : AreAft h.aft ship.stations ship.frames
   pub inside : (i : ℕ) → get_or h.aft i 0 < length ship.stations

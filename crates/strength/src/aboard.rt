@@ -18,8 +18,8 @@ use hydrostat::DraughtLine;
 use moment_sums::Totals;
 use ship_profile::Profile;
 
-/// The loads on the hull of a ship with this aboard, in kg and kg mm, by one walk along her stations and the draughts there: what [`areas_aboard`]
-/// and then [`strains_of`] answer. `None` where the draught at some station, rounded down, lies outside of the Bonjean table.
+/// The loads on the hull of a ship with this aboard, in kg and kg mm, by one walk along her stations and the draughts there. `None` where the
+/// draught at some station, rounded down, lies outside of the Bonjean table.
 /// Each draught is looked for first in the row of the one before, and the first of all in the row that `near` keeps from the last condition.
 pub fn strains_along(
     profile: &Profile,

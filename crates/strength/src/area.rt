@@ -5,20 +5,7 @@ ghost use Rattle.units_core.specs.Interpolation.{at, reading, Encloses, IsRising
 ghost use Rattle.units_core.specs.Ratio.{◌over◌, floor_of};
 ghost use Rattle.strength.specs.Immersed.{area_in};
 
-use crate::quotients::{Divisor, divided, guessed};
-use ship_tables::Curves;
-use units_core::enclosing_near;
-
-/// A number of the table that isn't negative, or a difference of two, in 64 bits.
-#[inline(always)]
-fn natural(number: i128) -> u64
-    requires low { pos 0 ≤ℤ number }
-    requires within { unsigned_abs number ≤ 10 ^ 8 }
-    ensures value { pos result ≡ number }
-    ensures within { result ≤ 10 ^ 8 }
-{
-    number as u64
-}
+use crate::quotients::{divided, guessed};
 
 /// Two values, each times the distance from the other.
 #[inline(always)]
@@ -42,80 +29,6 @@ fn signed(area: u64) -> i64
     area as i64
 }
 
-/// The weighted values over the whole distance, rounded down.
-#[inline(always)]
-fn rounded_down(lower: u64, above: u64, upper: u64, below: u64, divisor: &mut Divisor) -> u64
-    requires lower { lower ≤ 10 ^ 8 }
-    requires above { above ≤ 10 ^ 8 }
-    requires upper { upper ≤ 10 ^ 8 }
-    requires below { below ≤ 10 ^ 8 }
-    requires apart { 0 < above + below }
-    ensures value { result ≡ (lower * above + upper * below) / (above + below) }
-    ensures within { result ≤ 10 ^ 8 }
-{
-    divisor.change(above + below);
-    divisor.quotient(weighted(lower, above, upper, below))
-}
-
-/// The value at `x` on the straight line through `(x0, y0)` and `(x1, y1)`, rounded down.
-#[inline(always)]
-fn on_line(x0: i128, y0: i128, x1: i128, y1: i128, x: i128, divisor: &mut Divisor) -> i64
-    requires rises { x0 <ℤ x1 }
-    requires from { x0 ≤ℤ x }
-    requires to { x ≤ℤ x1 }
-    requires x0_within { unsigned_abs x0 ≤ 10 ^ 5 }
-    requires x1_within { unsigned_abs x1 ≤ 10 ^ 5 }
-    requires y0_low { pos 0 ≤ℤ y0 }
-    requires y1_low { pos 0 ≤ℤ y1 }
-    requires y0_within { unsigned_abs y0 ≤ 10 ^ 8 }
-    requires y1_within { unsigned_abs y1 ≤ 10 ^ 8 }
-    ensures value { result
-        ≡ floor_of (((y0 *ℤ (x1 -ℤ x)) +ℤ (y1 *ℤ (x -ℤ x0))) over (x1 -ℤ x0)) }
-    ensures within { unsigned_abs result ≤ 10 ^ 8 }
-{
-    let above = natural(x1 - x);
-    let below = natural(x - x0);
-    signed(rounded_down(natural(y0), above, natural(y1), below, divisor))
-}
-
-/// A reading of a curve of numbers from 0 to 10^8, rounded down.
-fn read_down(xs: &[i128], ys: &[i128], i: usize, x: i128, divisor: &mut Divisor) -> i64
-    requires rows { length ys.now ≡ length xs.now }
-    requires inside { Encloses xs.now i x }
-    requires rises { IsRising xs.now }
-    requires xs_within { IsWithin (10 ^ 5) xs.now }
-    requires least { (k : ℕ) → k < length ys.now → pos 0 ≤ℤ at ys.now k }
-    requires ys_within { IsWithin (10 ^ 8) ys.now }
-    ensures value { result ≡ floor_of (reading xs.now ys.now i x) }
-    ensures within { unsigned_abs result ≤ 10 ^ 8 }
-{
-    on_line(xs[i], ys[i], xs[i + 1], ys[i + 1], x, divisor)
-}
-
-/// The area of a Bonjean curve at a draught, rounded down; `None` outside of the table. The draught is looked for first in the interval `near`;
-/// `divisor` is what the last area was divided by.
-pub fn area_at(
-    curves: &Curves,
-    number: usize,
-    draught: i128,
-    near: &mut usize,
-    divisor: &mut Divisor,
-) -> Option<i64>
-    requires table { IsBonjeanTable curves.now }
-    requires there { number < length curves.now.columns }
-    ensures value { result ≡ area_in curves.now number draught }
-    ensures within { IfSome result (λ a. unsigned_abs a ≤ 10 ^ 8) }
-{
-    let i = enclosing_near(curves.arguments(), draught, near)?;
-    Some(read_down(
-        curves.arguments(),
-        curves.values(number),
-        i,
-        draught,
-        divisor,
-    ))
-}
-
 /// A number that isn't negative.
 #[inline(always)]
 fn unsigned(number: i64) -> u64
@@ -129,7 +42,7 @@ fn unsigned(number: i64) -> u64
 
 /// The weighted values over the whole distance, rounded down, guessed by about the reciprocal of that distance.
 #[inline(always)]
-fn rounded_near(lower: u64, above: u64, upper: u64, below: u64, reciprocal: &mut u64) -> u64
+fn rounded_down(lower: u64, above: u64, upper: u64, below: u64, reciprocal: &mut u64) -> u64
     requires lower { lower ≤ 10 ^ 8 }
     requires above { above ≤ 10 ^ 8 }
     requires upper { upper ≤ 10 ^ 8 }
@@ -147,7 +60,7 @@ fn rounded_near(lower: u64, above: u64, upper: u64, below: u64, reciprocal: &mut
 
 /// The value at `x` on the straight line through `(x0, y0)` and `(x1, y1)`, rounded down.
 #[inline(always)]
-pub fn on_line_near(x0: i64, y0: i64, x1: i64, y1: i64, x: i64, reciprocal: &mut u64) -> i64
+pub fn on_line(x0: i64, y0: i64, x1: i64, y1: i64, x: i64, reciprocal: &mut u64) -> i64
     requires rises { x0 <ℤ x1 }
     requires from { x0 ≤ℤ x }
     requires to { x ≤ℤ x1 }
@@ -163,5 +76,5 @@ pub fn on_line_near(x0: i64, y0: i64, x1: i64, y1: i64, x: i64, reciprocal: &mut
 {
     let above = unsigned(x1 - x);
     let below = unsigned(x - x0);
-    signed(rounded_near(unsigned(y0), above, unsigned(y1), below, reciprocal))
+    signed(rounded_down(unsigned(y0), above, unsigned(y1), below, reciprocal))
 }

@@ -3,6 +3,8 @@ ghost use Rattle.std.specs.Int.{int_div_euclid};
 ghost use Rattle.units_core.specs.Interpolation.{at, IsWithin};
 ghost use Rattle.strength.specs.Buoyancy.{IsBuoyancy, IsMoment, arm_top, force_top, tops};
 
+use units_core::is_rest;
+
 /// Twice the volume between two stations, by their places and their areas.
 #[inline(always)]
 pub fn force_between(aft: i64, fore: i64, first: i64, second: i64) -> i64
@@ -14,17 +16,6 @@ pub fn force_between(aft: i64, fore: i64, first: i64, second: i64) -> i64
     ensures size { unsigned_abs result ≤ 4 * 10 ^ 14 }
 {
     (fore - aft) * (first + second)
-}
-
-/// Twice the volume between the stations `k` and `k + 1`.
-fn force_term(xs: &[i64; 64], areas: &[i64; 64], k: usize) -> i64
-    requires inside { k < 63 }
-    requires xs_near { IsWithin (10 ^ 6) xs.now }
-    requires small { IsWithin (10 ^ 8) areas.now }
-    ensures value { result ≡ force_top (at xs.now) (at areas.now) k }
-    ensures size { unsigned_abs result ≤ 4 * 10 ^ 14 }
-{
-    force_between(xs[k], xs[k + 1], areas[k], areas[k + 1])
 }
 
 /// Three times the place a third of the way from `near` to `far`.
@@ -85,53 +76,6 @@ pub fn arm_between(aft: i64, fore: i64, first: i64, second: i64) -> i128
     product(distance(aft, fore), weighted(first, near, second, far))
 }
 
-/// Six times the moment about the after perpendicular of the volume between the stations `k` and `k + 1`.
-fn arm_term(xs: &[i64; 64], areas: &[i64; 64], k: usize) -> i128
-    requires inside { k < 63 }
-    requires xs_near { IsWithin (10 ^ 6) xs.now }
-    requires small { IsWithin (10 ^ 8) areas.now }
-    ensures value { result ≡ arm_top (at xs.now) (at areas.now) k }
-    ensures size { unsigned_abs result ≤ 12 * 10 ^ 20 }
-{
-    arm_between(xs[k], xs[k + 1], areas[k], areas[k + 1])
-}
-
-/// Twice the volumes of the first intervals between stations, by how many they are, up to `intervals`.
-pub fn running_volumes(xs: &[i64; 64], areas: &[i64; 64], intervals: usize) -> [i64; 64]
-    requires few { intervals ≤ 63 }
-    requires xs_near { IsWithin (10 ^ 6) xs.now }
-    requires small { IsWithin (10 ^ 8) areas.now }
-    ensures value { (n : ℕ) → n ≤ intervals
-        → at result n ≡ tops (force_top (at xs.now) (at areas.now)) n }
-    ensures within { IsWithin (3 * 10 ^ 16) result }
-{
-    let mut sums = [0; 64];
-    let mut sum = 0;
-    for k in 0..intervals {
-        sum += force_term(xs, areas, k);
-        sums[k + 1] = sum;
-    }
-    sums
-}
-
-/// Six times the moments about the after perpendicular of the first intervals between stations, by how many they are, up to `intervals`.
-pub fn running_arms(xs: &[i64; 64], areas: &[i64; 64], intervals: usize) -> [i128; 64]
-    requires few { intervals ≤ 63 }
-    requires xs_near { IsWithin (10 ^ 6) xs.now }
-    requires small { IsWithin (10 ^ 8) areas.now }
-    ensures value { (n : ℕ) → n ≤ intervals
-        → at result n ≡ tops (arm_top (at xs.now) (at areas.now)) n }
-    ensures within { IsWithin (10 ^ 23) result }
-{
-    let mut sums = [0; 64];
-    let mut sum = 0;
-    for k in 0..intervals {
-        sum += arm_term(xs, areas, k);
-        sums[k + 1] = sum;
-    }
-    sums
-}
-
 /// The buoyancy in kg of twice a volume, rounded down.
 pub fn buoyancy(volume: i64) -> i64
     requires within { unsigned_abs volume ≤ 3 * 10 ^ 16 }
@@ -168,18 +112,6 @@ fn guess(top: i128) -> i64 {
     }
 }
 
-/// Whether a number is what a quotient by 2,400,000 leaves.
-#[inline(always)]
-fn is_rest(rest: i128) -> bool
-    ensures low { result ≡ true → pos 0 ≤ℤ rest }
-    ensures high { result ≡ true → rest <ℤ pos 2400000 }
-{
-    if rest < 0 {
-        return false;
-    }
-    rest < PARTS
-}
-
 /// What a number leaves over a quotient by 2,400,000.
 #[inline(always)]
 fn rest_of(top: i128, quotient: i64) -> i128
@@ -195,11 +127,11 @@ fn divided(top: i128) -> i128
     ensures { result ≡ int_div_euclid top (pos 2400000) }
 {
     let quotient = guess(top);
-    if is_rest(rest_of(top, quotient)) {
+    if is_rest(rest_of(top, quotient), PARTS) {
         return i128::from(quotient);
     }
     if let Some(next) = quotient.checked_add(1) {
-        if is_rest(rest_of(top, next)) {
+        if is_rest(rest_of(top, next), PARTS) {
             return i128::from(next);
         }
     }

@@ -3,15 +3,13 @@ ghost use Rattle.units_core.specs.Interpolation.{IsWithin};
 ghost use Rattle.strength.specs.Buoyancy.{intervals_aft};
 ghost use Rattle.strength.specs.Hull.{AreAft, IsHullOf};
 
-use crate::stations::{intervals_aft, station_places};
+use crate::stations::intervals_aft;
 use ship_profile::Profile;
 use std::marker::Model;
 
 /// What the loads take of a ship's profile alone, worked out once for all that she has aboard one after another.
 #[derive(Clone, Copy, Drop)]
 pub struct Hull {
-    /// Where the stations stand, in mm forward of the after perpendicular; 0 at the places behind them.
-    places: [i64; 64],
     /// How many intervals between stations lie wholly aft of each frame; 0 at the places behind them.
     aft: [usize; 16],
 }
@@ -21,11 +19,11 @@ impl Model for Hull {
 
     ghost Value = { HullRecord };
 
-    ghost view = { λ h. record { places = h.places; aft = h.aft } };
+    ghost view = { λ h. record { aft = h.aft } };
 
-    ghost invariant = { λ h. IsHull h.places h.aft };
+    ghost invariant = { λ h. IsHull h.aft };
 
-    ghost inverse = { λ v. record { places = v.places; aft = v.aft } };
+    ghost inverse = { λ v. record { aft = v.aft } };
 }
 
 /// How many intervals between stations lie wholly aft of each frame, and 0 at the places behind the last frame.
@@ -49,17 +47,8 @@ impl Hull {
         ensures { IsHullOf result profile.now.ship }
     {
         Hull {
-            places: station_places(profile),
             aft: frames_aft(profile),
         }
-    }
-
-    /// Where the stations stand, in mm forward of the after perpendicular; 0 at the places behind them.
-    pub fn places(&self) -> &[i64; 64]
-        ensures value { result.now ≡ self.now.places }
-        ensures within { IsWithin (10 ^ 6) result.now }
-    {
-        &self.places
     }
 
     /// How many intervals between stations lie wholly aft of a frame.

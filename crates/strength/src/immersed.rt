@@ -1,40 +1,42 @@
-ghost use Rattle.std.specs.Prelude.{◌≡◌, ◌^◌, ◌<◌, ◌≤◌, IfSome, length, option_map, unsigned_abs};
-ghost use Rattle.units_core.specs.Interpolation.{at};
+ghost use Rattle.std.specs.Prelude.{◌≡◌, ℕ, ◌^◌, ◌<◌, ◌≤◌, pos, ◌≤ℤ◌, IfSome, length, unsigned_abs};
+ghost use Rattle.units_core.specs.Interpolation.{at, reading, Encloses, IsRising, IsWithin};
 ghost use Rattle.units_core.specs.Ratio.{floor_of};
 ghost use Rattle.ship_tables.specs.Record.{IsBonjeanTable};
 ghost use Rattle.hydrostat.specs.Floating.{draught_at, load, water};
-ghost use Rattle.strength.specs.Immersed.{area_in, areas_along};
+ghost use Rattle.strength.specs.Immersed.{area_in};
 ghost use Rattle.strength.specs.Rows.{IsRowOf};
 
-use crate::area::area_at;
-use crate::loads::Areas;
-use crate::quotients::Divisor;
-use crate::rows::BonjeanRow;
-use hydrostat::{Afloat, DraughtLine};
-use ship_profile::Profile;
+use crate::area::on_line;
+use crate::rows::{BonjeanRow, place, short};
+use hydrostat::DraughtLine;
 use ship_tables::Curves;
-use units_core::Mm;
+use units_core::{Mm, enclosing};
 
-/// The immersed area at a station, rounded down; `None` where the draught there lies outside of the table.
-#[inline(always)]
-fn area_there(
-    curves: &Curves,
-    line: &DraughtLine,
-    number: usize,
-    x: Mm,
-    near: &mut usize,
-    divisor: &mut Divisor,
-) -> Option<i64>
-    requires table { IsBonjeanTable curves.now }
-    requires there { number < length curves.now.columns }
-    ensures value { result ≡ area_in curves.now number
-        (floor_of (draught_at (water line.now.of) (load line.now.of) line.now.of.lbp x)) }
-    ensures within { IfSome result (λ a. unsigned_abs a ≤ 10 ^ 8) }
+/// A reading of a curve of numbers from 0 to 10^8, rounded down.
+fn read_down(xs: &[i128], ys: &[i128], i: usize, x: i128) -> i64
+    requires rows { length ys.now ≡ length xs.now }
+    requires inside { Encloses xs.now i x }
+    requires rises { IsRising xs.now }
+    requires xs_within { IsWithin (10 ^ 5) xs.now }
+    requires least { (k : ℕ) → k < length ys.now → pos 0 ≤ℤ at ys.now k }
+    requires ys_within { IsWithin (10 ^ 8) ys.now }
+    ensures value { result ≡ floor_of (reading xs.now ys.now i x) }
+    ensures within { unsigned_abs result ≤ 10 ^ 8 }
 {
-    area_at(curves, number, line.draught_down(x), near, divisor)
+    let lower = short(ys[i]);
+    let upper = short(ys[i + 1]);
+    // No quotient is guessed right by 0, so it is divided.
+    on_line(
+        place(xs[i]),
+        lower,
+        place(xs[i + 1]),
+        upper,
+        place(x),
+        &mut 0,
+    )
 }
 
-/// The same where 64 bits don't decide the draught, which is rare.
+/// The immersed area at a station where 64 bits don't decide the draught, which is rare.
 #[cold]
 #[inline(never)]
 fn area_exactly(curves: &Curves, line: &DraughtLine, number: usize, x: Mm) -> Option<i64>
@@ -44,7 +46,9 @@ fn area_exactly(curves: &Curves, line: &DraughtLine, number: usize, x: Mm) -> Op
         (floor_of (draught_at (water line.now.of) (load line.now.of) line.now.of.lbp x)) }
     ensures within { IfSome result (λ a. unsigned_abs a ≤ 10 ^ 8) }
 {
-    area_there(curves, line, number, x, &mut 0, &mut Divisor::new(1))
+    let draught = line.draught_down(x);
+    let i = enclosing(curves.arguments(), draught)?;
+    Some(read_down(curves.arguments(), curves.values(number), i, draught))
 }
 
 /// The immersed area at a station, rounded down; `None` where the draught there lies outside of the table.
@@ -68,23 +72,4 @@ pub fn area_near(
         Some(draught) => near.area(curves, number, draught),
         None => area_exactly(curves, line, number, x),
     }
-}
-
-/// The immersed areas at all stations; `None` where the draught at one of them lies outside of the table.
-pub fn areas_aboard(profile: &Profile, a: &Afloat, near: &mut usize) -> Option<Areas>
-    ensures { option_map (λ r. at r.area) result
-        ≡ areas_along profile.now (water a.now) (load a.now) a.now.lbp }
-{
-    let stations = profile.stations();
-    let curves = profile.bonjean();
-    let line = DraughtLine::new(a);
-    let mut divisor = Divisor::new(1);
-    let mut area = [0; 64];
-    for k in 0..stations.len() {
-        let Some(here) = area_there(curves, &line, k, stations[k], near, &mut divisor) else {
-            return None;
-        };
-        area[k] = here;
-    }
-    Some(Areas { area })
 }

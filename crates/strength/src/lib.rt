@@ -1,6 +1,5 @@
 //! The loads on a ship's hull: the shear forces and bending moments at her frames, and the closing error. [`loads_of`] works them out for one
-//! condition; for one condition after another a [`Hull`] is made once, and [`areas_aboard`] and [`strains_of`] called for each,
-//! or [`strains_along`], which does both in one walk along the stations.
+//! condition; for one condition after another a [`Hull`] is made once, and [`strains_along`] called for each.
 #![tactic(auto)]
 
 mod aboard;
@@ -18,10 +17,6 @@ mod strains;
 pub use aboard::strains_along;
 pub use closing::{closes, is_between};
 pub use hulls::Hull;
-pub use immersed::areas_aboard;
-pub use loads::{Areas, Loads, Strains};
+pub use loads::{Loads, Strains};
 pub use rows::BonjeanRow;
-pub use strains::{loads_of, strains_of};
-
-#[cfg(test)]
-mod tests;
+pub use strains::loads_of;

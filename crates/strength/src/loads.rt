@@ -1,14 +1,3 @@
-ghost use Rattle.std.specs.Prelude.{◌^◌};
-ghost use Rattle.units_core.specs.Interpolation.{IsWithin};
-
-/// The immersed areas at the stations.
-#[derive(Clone, Copy)]
-pub struct Areas {
-    /// The area in cm2 at each station, 0 at the places behind the last.
-    pub area: [i64; 64],
-    pub ghost within: { IsWithin (10 ^ 8) area },
-}
-
 /// The loads at the frames, and the closing error.
 #[derive(Clone, Copy)]
 pub struct Strains {

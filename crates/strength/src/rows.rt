@@ -5,7 +5,7 @@ ghost use Rattle.ship_tables.specs.Record.{IsBonjeanTable};
 ghost use Rattle.strength.specs.Immersed.{area_in};
 ghost use Rattle.strength.specs.Rows.{IsRowOf};
 
-use crate::area::on_line_near;
+use crate::area::on_line;
 use ship_tables::Curves;
 use units_core::enclosing_near;
 
@@ -195,7 +195,7 @@ impl BonjeanRow {
     {
         let lower = short(ys[self.row]);
         let upper = short(ys[self.row + 1]);
-        on_line_near(
+        on_line(
             self.lower,
             lower,
             self.upper,

@@ -8,15 +8,15 @@ ghost use Rattle.strength.specs.Hull.{IsHullOf};
 ghost use Rattle.strength.specs.Immersed.{areas_along};
 ghost use Rattle.strength.specs.Loads.{AreLoadsBy, AreLoadsOf, IsFloatingWith};
 ghost use Rattle.strength.specs.Running.{AreRunning, AreStrains};
-ghost use Rattle.strength.specs.Strains.{bending_at, closing_of, shear_at};
 
+use crate::aboard::strains_along;
 use crate::closing::closes;
-use crate::forces::{buoyancy, buoyancy_moment, running_arms, running_volumes};
+use crate::forces::{buoyancy, buoyancy_moment};
 use crate::hulls::Hull;
-use crate::immersed::areas_aboard;
-use crate::loads::{Areas, Loads, Strains};
+use crate::loads::{Loads, Strains};
+use crate::rows::BonjeanRow;
 use crate::stations::mm;
-use hydrostat::{Afloat, Floating, Outside};
+use hydrostat::{Afloat, DraughtLine, Floating, Outside};
 use moment_sums::Totals;
 use ship_profile::Profile;
 
@@ -70,24 +70,6 @@ pub fn strains_by(
     strains
 }
 
-/// The loads on the hull with this aboard, the areas of its sections as given.
-pub fn strains_of(profile: &Profile, hull: &Hull, totals: &Totals, areas: &Areas) -> Strains
-    requires of { IsHullOf hull.now profile.now.ship }
-    requires bounded { IsBounded (values totals.now) }
-    requires kg { unsigned_abs (values totals.now Weight) ≤ 10 ^ 9 }
-    ensures shear { (i : ℕ) → at result.loads.shear i ≡ shear_at (values totals.now)
-        (at areas.now.area) profile.now.ship.stations profile.now.ship.frames i }
-    ensures bending { (i : ℕ) → at result.loads.bending i ≡ bending_at (values totals.now)
-        (at areas.now.area) profile.now.ship.stations profile.now.ship.frames i }
-    ensures closing { result.closing
-        ≡ closing_of (values totals.now) (at areas.now.area) profile.now.ship.stations }
-{
-    let intervals = profile.stations().len() - 1;
-    let volumes = running_volumes(hull.places(), &areas.area, intervals);
-    let arms = running_arms(hull.places(), &areas.area, intervals);
-    strains_by(profile, hull, totals, &volumes, &arms)
-}
-
 /// The loads on the hull of a ship afloat.
 fn loads_afloat(profile: &Profile, totals: &Totals, afloat: &Afloat) -> Result<Loads, Outside>
     requires bounded { IsBounded (values totals.now) }
@@ -95,10 +77,11 @@ fn loads_afloat(profile: &Profile, totals: &Totals, afloat: &Afloat) -> Result<L
     ensures { AreLoadsBy result (values totals.now) (areas_along profile.now (water afloat.now)
         (load afloat.now) afloat.now.lbp) profile.now.ship }
 {
-    let Some(areas) = areas_aboard(profile, afloat, &mut 0) else {
+    let line = DraughtLine::new(afloat);
+    let mut near = BonjeanRow::default();
+    let Some(strains) = strains_along(profile, &Hull::new(profile), totals, &line, &mut near) else {
         return Err(Outside::Bonjean);
     };
-    let strains = strains_of(profile, &Hull::new(profile), totals, &areas);
     if closes(strains.closing, profile.closing_max()) {
         Ok(strains.loads)
     } else {

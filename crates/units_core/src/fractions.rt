@@ -3,6 +3,8 @@ ghost use Rattle.std.specs.Int.{w128};
 ghost use Rattle.units_core.specs.Ratio.{◌over◌, floor_of, IsFloor, IsAtLeast, IsAtMost};
 ghost use Rattle.units_core.specs.Interpolation.{IsOnLine};
 
+use crate::quotients::{guess, tested};
+
 /// A fraction of two whole numbers, its divisor at least 1.
 #[derive(Clone, Copy, Debug)]
 pub struct Frac {
@@ -11,66 +13,16 @@ pub struct Frac {
     pub ghost positive: { pos 1 ≤ℤ den },
 }
 
-/// About the quotient of two numbers, by their leading 63 bits. It is right for nearly all; any number would do, since it is tested.
-#[inline(always)]
-fn guess(num: i128, den: i128) -> i64 {
-    let shift = 65u32.saturating_sub(num.unsigned_abs().leading_zeros());
-    let Ok(top) = i64::try_from(num >> shift) else {
-        return 0;
-    };
-    let Ok(bottom) = i64::try_from(den >> shift) else {
-        return 0;
-    };
-    match top.checked_div_euclid(bottom) {
-        Some(quotient) => quotient,
-        None => 0,
-    }
-}
-
-/// What a fraction leaves over a guessed quotient; `None` where the numbers are so great that it might not fit.
-#[inline(always)]
-fn rest_over(fraction: Frac, quotient: i64) -> Option<i128>
-    ensures { IfSome result (λ rest. rest ≡ fraction.num -ℤ (quotient *ℤ fraction.den)) }
-{
-    if fraction.den > MOST_GUESSED {
-        return None;
-    }
-    if quotient.unsigned_abs() > 1 << 23 {
-        return None;
-    }
-    fraction
-        .num
-        .checked_sub(i128::from(quotient) * fraction.den)
-}
-
-/// Whether a number is what a quotient leaves.
-#[inline(always)]
-fn is_rest(rest: i128, den: i128) -> bool
-    ensures low { result ≡ true → pos 0 ≤ℤ rest }
-    ensures high { result ≡ true → rest <ℤ den }
-{
-    if rest < 0 {
-        return false;
-    }
-    rest < den
-}
-
-/// The greatest divisor under which a quotient is guessed.
-const MOST_GUESSED: i128 = 1 << 103;
-
 /// The greatest whole number that is not above the fraction: a figure is printed so, rounded toward
 /// minus infinity. It is guessed and then tested, since a division of 128 bits takes many times as long.
 pub fn floor(fraction: Frac) -> i128
     ensures value { result ≡ floor_of (fraction.num over fraction.den) }
     ensures greatest { IsFloor result (fraction.num over fraction.den) }
 {
-    let quotient = guess(fraction.num, fraction.den);
-    if let Some(rest) = rest_over(fraction, quotient) {
-        if is_rest(rest, fraction.den) {
-            return i128::from(quotient);
-        }
+    match tested(fraction, guess(fraction.num, fraction.den)) {
+        Some(quotient) => quotient,
+        None => fraction.num.div_euclid(fraction.den),
     }
-    fraction.num.div_euclid(fraction.den)
 }
 
 /// Whether the fraction is at least `limit`, decided by the cross product and not by a rounded figure.

@@ -8,6 +8,7 @@ mod cells;
 mod equality;
 mod fractions;
 mod measures;
+mod quotients;
 mod tables;
 
 pub use angles::{Angle, cosine, sine};
@@ -16,7 +17,5 @@ pub use cells::{Cell, conflicts, span};
 pub use equality::{Exact, same_items, same_rows};
 pub use fractions::{Frac, at_least, at_most, floor, interp, interp_floor};
 pub use measures::{Kg, Mm};
+pub use quotients::{floor_near, is_rest, upper_half};
 pub use tables::{enclosing, enclosing_near, gap, read};
-
-#[cfg(test)]
-mod tests;

@@ -20,6 +20,3 @@ pub use desks::Desk;
 pub use sessions::Session;
 pub use step_edits::{Edit, EditFault};
 pub use tickets::Ticket;
-
-#[cfg(test)]
-mod tests;

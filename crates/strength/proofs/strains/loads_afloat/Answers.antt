@@ -1,20 +1,46 @@
-use Rattle.std.proofs.Common.{rules, ◌≡◌, ◌∙◌, ℕ, ℤ, Bool, true, Ok, Option, sym, subst, FitsSigned, to_z-of_z}
+use Rattle.std.proofs.Common.{rules, ◌≡◌, ◌∙◌, ℕ, ℤ, Bool, true, false, Result, Ok, Err, Option, None, Some, refl, sym, subst, FitsSigned, to_z-of_z}
 use Rattle.std.specs.Int.{w64, w128}
-use Rattle.units_core.specs.Interpolation.{at}
+use Rattle.ship_profile.specs.Ship.{ShipRecord}
 use Rattle.moment_sums.specs.Kept.{values}
+use Rattle.moment_sums.specs.Sum.{Sum}
+use Rattle.hydrostat.specs.Floating.{load, water}
+use Rattle.hydrostat.specs.declared.outside.Outside.{Outside}
+use Rattle.hydrostat.specs.declared.outside.Outside.TheVariants.{Closing}
+use Rattle.hydrostat.specs.declared.particulars.Afloat.{Afloat}
+use Rattle.strength.specs.Immersed.{areas_along}
 use Rattle.strength.specs.Loads.{AreClosedLoads, AreLoadsBy}
-use Rattle.strength.specs.Strains.{closes, closing_of}
+use Rattle.strength.specs.Running.{AreStrains, AreStrainsBy}
+use Rattle.strength.specs.Strains.{closes}
+use Rattle.strength.specs.declared.loads.Loads.{Loads}
+use Rattle.strength.specs.declared.loads.Strains.{Strains}
 use Rattle.strength.proofs.strains.loads_afloat.Goals as goal
+
+-- what is answered of the areas that there are, by whether the closing error is within its limit
+by_areas : (answer : Result Loads Outside) (r : Strains) (s : Sum) (ship : ShipRecord) (o : Option (ℕ → ℤ)) (b : Bool) → AreStrainsBy r s o ship → closes r.closing ship.closing_max ≡ b
+    → ((areas : ℕ → ℤ) → AreStrains r s areas ship → AreClosedLoads answer s areas ship b) → AreLoadsBy answer s o ship
+by_areas answer r s ship None b is e h = absurd is
+by_areas answer r s ship (Some areas) b is e h =
+    subst (λ (d : Bool). AreClosedLoads answer s areas ship d) (sym ((λ i. closes ((sym is.is_closing) i) ship.closing_max) ∙ e)) (h areas is)
 
 pub returns-then-closes : goal.returns-then-closes
 returns-then-closes c =
+    let p = c.args.profile.now in
     let s = values c.args.totals.now in
-    let ship = c.args.profile.now.ship in
-    let areas : ℕ → ℤ = at c.in-Some.areas.area in
-    let strains = c.strains_of-strains.ensures in
-    let e : FitsSigned w128 c.strains_of-strains.result.closing = search rules in
+    let r = c.in-Some.strains in
+    let e : FitsSigned w128 r.closing = search rules in
     let m : FitsSigned w64 c.closing_max.result = search rules in
-    let closed : closes (closing_of s areas ship.stations) ship.closing_max ≡ true = sym (λ j. closes ((to_z-of_z e ∙ strains.closing) j) ((to_z-of_z m ∙ c.closing_max.ensures.value) j)) ∙ (sym c.closes.ensures ∙ c.if-closes.true) in
-    subst (λ (o : Option (ℕ → ℤ)). AreLoadsBy (Ok c.strains_of-strains.result.loads) s o ship) c.in-Some.ensures
-    (subst (λ (b : Bool). AreClosedLoads (Ok c.strains_of-strains.result.loads) s areas ship b) (sym closed)
-    record { are_shear = strains.shear; are_bending = strains.bending })
+    let closed : closes r.closing p.ship.closing_max ≡ true = sym (λ j. closes (to_z-of_z e j) ((to_z-of_z m ∙ c.closing_max.ensures.value) j)) ∙ (sym c.closes.ensures ∙ c.if-closes.true) in
+    subst (λ (b : Afloat). AreLoadsBy (Ok r.loads) s (areas_along p (water b) (load b) b.lbp) p.ship) c.new-line.ensures
+    (by_areas (Ok r.loads) r s p.ship _ true (rw c.in-Some.is at c.strains_along.ensures) closed
+    (λ areas is. record { are_shear = is.are_shear; are_bending = is.are_bending }))
+
+pub returns-else-closes : goal.returns-else-closes
+returns-else-closes c =
+    let p = c.args.profile.now in
+    let s = values c.args.totals.now in
+    let r = c.in-Some.strains in
+    let e : FitsSigned w128 r.closing = search rules in
+    let m : FitsSigned w64 c.closing_max.result = search rules in
+    let closed : closes r.closing p.ship.closing_max ≡ false = sym (λ j. closes (to_z-of_z e j) ((to_z-of_z m ∙ c.closing_max.ensures.value) j)) ∙ (sym c.closes.ensures ∙ c.if-closes.false) in
+    subst (λ (b : Afloat). AreLoadsBy (Err Closing) s (areas_along p (water b) (load b) b.lbp) p.ship) c.new-line.ensures
+    (by_areas (Err Closing) r s p.ship _ false (rw c.in-Some.is at c.strains_along.ensures) closed (λ areas is. refl))

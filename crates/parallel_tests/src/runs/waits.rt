@@ -1,0 +1,65 @@
+// Waits with a limit, gates that hold a worker until another has come to a place, and a job of squares.
+use claim_run::{Gate, Job};
+use std::alloc::{AllocError, Global};
+use std::sync::atomic::AtomicBool;
+use std::sync::atomic::Ordering::SeqCst;
+
+/// How many turns a wait has; a turn is one load of a flag.
+const TURNS: u32 = 50_000_000;
+
+/// Waits for the flag, and notes where it gives up.
+pub fn wait_for(flag: &AtomicBool, gave_up: &AtomicBool) {
+    for _ in 0..TURNS {
+        if flag.load(SeqCst) {
+            return;
+        }
+    }
+    gave_up.store(true, SeqCst);
+}
+
+/// Holds one chunk until another has passed.
+#[derive(Drop)]
+pub struct HoldsUntil {
+    held: u32,
+    awaited: u32,
+    passed: AtomicBool,
+    pub gave_up: AtomicBool,
+}
+
+impl Gate for HoldsUntil {
+    fn pass(&self, _worker: u8, chunk: u32) {
+        if chunk == self.awaited {
+            self.passed.store(true, SeqCst);
+        }
+        if chunk == self.held {
+            wait_for(&self.passed, &self.gave_up);
+        }
+    }
+}
+
+pub fn holds_until(held: u32, awaited: u32) -> HoldsUntil {
+    HoldsUntil {
+        held,
+        awaited,
+        passed: AtomicBool::new(false),
+        gave_up: AtomicBool::new(false),
+    }
+}
+
+/// The square of each number.
+#[derive(Drop)]
+pub struct Squares;
+
+impl Job for Squares {
+    type Out = u64;
+
+    ghost use Rattle.std.specs.Prelude.{◌*◌, ◌^◌};
+
+    ghost value = { λ _ k. k * k };
+
+    ghost pieces = { λ _. 2 ^ 32 };
+
+    fn piece(&self, _alloc: Global, k: u32) -> Result<u64, AllocError> {
+        Ok(u64::from(k) * u64::from(k))
+    }
+}

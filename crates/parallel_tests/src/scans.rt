@@ -1,0 +1,141 @@
+ghost use Rattle.std.specs.Prelude.{◌≡◌};
+
+use prefix_scan::{CutFault, Cuts, Last, MAX_PARTS, Monoid, Running, fold, offsets};
+use std::alloc::Global;
+use std::test::Fail;
+
+mod trees;
+
+/// Three values of one part each. Joined in their order they are 3; joined in the reverse order they would be 1.
+static VALUES: [Last; 3] = [
+    Last {
+        value: Some(1),
+        parts: 1,
+    },
+    Last {
+        value: None,
+        parts: 1,
+    },
+    Last {
+        value: Some(3),
+        parts: 1,
+    },
+];
+
+/// The value that so many parts are joined to.
+fn joined(value: Option<u32>, parts: u32) -> Last
+    ensures { result.parts ≡ parts }
+{
+    Last { value, parts }
+}
+
+#[test]
+fn folds(rt: HostRuntime) {
+    assert_eq!(rt; fold(&VALUES), joined(Some(3), 3));
+    assert_eq!(rt; fold::<Last>(&[]), Last::unit());
+    assert_eq!(rt; VALUES[0].size(), 1);
+    assert_eq!(rt; MAX_PARTS, 1 << 19);
+}
+
+// Each offset is the fold of the values before it, without its own.
+#[test]
+fn scan_and_cuts(rt: HostRuntime) -> Result<(), Fail> {
+    let before = offsets(rt.alloc(), &VALUES)?;
+    let expected = [joined(None, 0), joined(Some(1), 1), joined(Some(1), 2)];
+    assert_eq!(rt; before.as_slice(), expected.as_slice());
+    Ok(())
+}
+
+/// An offset, and the values behind it.
+const SEVEN: Last = Last {
+    value: Some(7),
+    parts: 1,
+};
+
+static LATER: [Last; 2] = [
+    Last {
+        value: None,
+        parts: 1,
+    },
+    Last {
+        value: Some(3),
+        parts: 1,
+    },
+];
+
+#[test]
+fn running_joins(rt: HostRuntime) {
+    let mut running = Running::new(SEVEN, &LATER);
+    assert_eq!(rt; running.next(), Some(joined(Some(7), 2)));
+    assert_eq!(rt; running.next(), Some(joined(Some(3), 3)));
+    assert_eq!(rt; running.next(), None);
+}
+
+/// Ends, the length that they cut, and the first fault.
+static FAULTS: [(&[u32], u32, CutFault); 8] = [
+    (&[], 3, CutFault::Empty),
+    (&[2, 2], 0, CutFault::Empty),
+    (&[2, 2], 2, CutFault::NotRising),
+    (&[2, 1], 3, CutFault::NotRising),
+    (&[0, 3], 3, CutFault::NotRising),
+    (&[1, 2], 3, CutFault::WrongEnd),
+    (&[1, 4], 3, CutFault::WrongEnd),
+    (&[3, 4, 4], 3, CutFault::NotRising),
+];
+
+/// The fault of ends, if they have one.
+fn fault_of(alloc: Global, ends: &[u32], len: u32) -> Option<CutFault> {
+    match Cuts::at(alloc, ends, len) {
+        Ok(_) => None,
+        Err(fault) => Some(fault),
+    }
+}
+
+#[test]
+fn faults_of_cuts(rt: HostRuntime) {
+    for (ends, len, fault) in &FAULTS {
+        assert_eq!(rt; fault_of(rt.alloc(), ends, *len), Some(*fault));
+    }
+    assert_eq!(rt; fault_of(rt.alloc(), &[1, 3], 3), None);
+}
+
+/// The chunks of so many numbers each: their count, and where the last one begins and ends.
+static EVERY: [(u32, u32, usize, u32, u32); 5] = [
+    (2, 3, 2, 2, 3),
+    (2, 4, 2, 2, 4),
+    (1, 3, 3, 2, 3),
+    (5, 3, 1, 0, 3),
+    (3, 3, 1, 0, 3),
+];
+
+#[test]
+fn chunks_of_one_length(rt: HostRuntime) -> Result<(), Fail> {
+    for (n, len, chunks, start, end) in &EVERY {
+        let cuts = Cuts::every(rt.alloc(), *n, *len)?;
+        assert_eq!(rt; cuts.chunks(), *chunks);
+        let last = cuts.range(cuts.chunks() - 1);
+        assert_eq!(rt; (last.start, last.end), (*start, *end));
+    }
+    Ok(())
+}
+
+#[test]
+fn no_chunks(rt: HostRuntime) {
+    for (n, len) in [(0, 3), (2, 0), (0, 0)] {
+        assert!(rt; matches!(Cuts::every(rt.alloc(), n, len), Err(CutFault::Empty)));
+    }
+}
+
+#[test]
+fn codes_in_print(rt: HostRuntime) -> Result<(), Fail> {
+    for (fault, text) in [
+        (CutFault::Empty, "K1"),
+        (CutFault::NotRising, "K2"),
+        (CutFault::WrongEnd, "K3"),
+        (CutFault::NoMemory, "K4"),
+    ] {
+        let shown = format!(in rt.alloc(); "{fault}")?;
+        assert_eq!(rt; shown.as_str(), text);
+    }
+    Ok(())
+}

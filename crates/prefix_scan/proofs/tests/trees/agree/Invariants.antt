@@ -1,5 +1,0 @@
-use Rattle.std.proofs.Common.{◌≡◌}
-use Rattle.prefix_scan.proofs.tests.trees.agree.Given as goal
-
-abbrev pub invariant-loop-i : goal.invariant-loop-i
-invariant-loop-i g l = (g.A.Prefixes.values l.left ≡ g.A.Prefixes.values l.fn.left) × (g.B.Prefixes.values l.right ≡ g.B.Prefixes.values l.fn.right)

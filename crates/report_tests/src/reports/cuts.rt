@@ -1,0 +1,126 @@
+use super::refusals::EMPTY_CELL_OUT;
+use super::{IDLE, Run, check_refusal_by, options, written_by};
+use claim_run::Gate;
+use seq_report::{CutPlan, Summary, Through, report};
+use std::sync::atomic::Ordering::SeqCst;
+use std::sync::atomic::{AtomicBool, AtomicU64};
+use std::test::Fail;
+
+/// The container of 20,500 kg to starboard, and then one of 20,500 kg on deck amidships.
+const TWO_LOADS: &[u8] =
+    b"UNB+UNOA:2+PLAN+SHIP+250101:1200+8'UNH+1+MOVINS:D:95B:UN'HAN+LOA'LOC+147+0030782::5'MEA+WT++KGM:20500'EQD+CN+ABCU1234560'HAN+LOA'LOC+147+0050082::5'MEA+WT++KGM:20500'EQD+CN+ABCU7654321'UNT+10+1'UNZ+1+8'";
+
+/// Two steps, and so three lines.
+const TWICE: Run<'static> = Run {
+    movins: TWO_LOADS,
+    ..IDLE
+};
+
+// 8,200,000 and twice 20,500 kg are 8,241,000 kg; the draught rises by 2,000 mm over 4,100,000 kg.
+const LINES: &[u8] =
+    b"STEP LIFT KG GM MEAN AFT FWD TRIM LIST A30 A40 A3040 GZ ANGLE CLOSE FRAMES VERDICT\n0 - 8200000 4333 4000 4000 4000 0 0 31509 50888 19379 1958 35 0 0/0;0/0;0/0;0/0;0/0 PASS\n1 L0030782 8220500 4314 4010 4010 4010 0 46 30861 50020 19158 1936 35 0 0/0;-5125/-64062500;0/-240726375;5125/-64062500;0/0 PASS\n2 L0050082 8241000 4295 4020 4035 4004 30 46 30786 49888 19102 1930 35 -769 0/0;-5637/-191611791;2819/-234320125;4869/-34166666;769/27760417 PASS\nALL PASS\n";
+
+static PLANS: [CutPlan<'static>; 5] = [
+    CutPlan::Every(1),
+    CutPlan::Every(2),
+    CutPlan::Every(3),
+    CutPlan::Every(200_000),
+    CutPlan::At(&[1, 3]),
+];
+
+#[test]
+fn two_loads(rt: HostRuntime) {
+    for plan in &PLANS {
+        for workers in [1, 2, 16] {
+            let (outcome, text) = written_by(&rt, &TWICE, &options(workers, *plan));
+            assert_eq!(rt; text.as_slice(), LINES);
+            assert_eq!(rt;
+                outcome,
+                Ok(Summary {
+                    lines: 3,
+                    first: None
+                })
+            );
+        }
+    }
+}
+
+/// How long a worker is held at most.
+const TURNS: u32 = 50_000_000;
+
+/// A gate that holds each run's chunk 0 until its chunk 1 has passed, and notes where it gave up waiting. A report on one thread, or under
+/// one lock from a draw to the chunk's end, would never let it through.
+#[derive(Drop)]
+struct SecondFirst {
+    zeros: AtomicU64,
+    ones: AtomicU64,
+    gave_up: AtomicBool,
+}
+
+impl Gate for SecondFirst {
+    fn pass(&self, _worker: u8, chunk: u32) {
+        if chunk == 1 {
+            self.ones.fetch_add(1, SeqCst);
+        }
+        if chunk == 0 {
+            let runs = self.zeros.fetch_add(1, SeqCst);
+            for _ in 0..TURNS {
+                if self.ones.load(SeqCst) > runs {
+                    return;
+                }
+            }
+            self.gave_up.store(true, SeqCst);
+        }
+    }
+}
+
+#[test]
+fn gated_workers(rt: HostRuntime) {
+    let gate = SecondFirst {
+        zeros: AtomicU64::new(0),
+        ones: AtomicU64::new(0),
+        gave_up: AtomicBool::new(false),
+    };
+    let mut taken = Vec::new(rt.alloc());
+    let outcome = report(
+        &rt,
+        rt.alloc(),
+        &gate,
+        &TWICE.inputs(),
+        &options(2, CutPlan::Every(1)),
+        &mut Through::new(&mut taken),
+    );
+    assert_eq!(rt; taken.as_slice(), LINES);
+    assert!(rt; outcome.is_ok());
+    assert!(rt; !gate.gave_up.load(SeqCst));
+}
+
+/// Plans that don't fit three lines, and what is told of each.
+static UNFIT: [(CutPlan<'static>, &str); 8] = [
+    (CutPlan::Every(0), "F6 K1"),
+    (CutPlan::At(&[]), "F6 K1"),
+    (CutPlan::At(&[0, 3]), "F6 K2"),
+    (CutPlan::At(&[2, 2]), "F6 K2"),
+    (CutPlan::At(&[2, 1, 3]), "F6 K2"),
+    (CutPlan::At(&[4, 3]), "F6 K2"),
+    (CutPlan::At(&[1, 2]), "F6 K3"),
+    (CutPlan::At(&[1, 4]), "F6 K3"),
+];
+
+#[test]
+fn plans_that_do_not_fit(rt: HostRuntime) -> Result<(), Fail> {
+    for (plan, refusal) in &UNFIT {
+        check_refusal_by(&rt, &TWICE, *plan, refusal)?;
+    }
+    Ok(())
+}
+
+// A sequence that can't be is told before a plan that doesn't fit.
+#[test]
+fn sequence_before_plan(rt: HostRuntime) -> Result<(), Fail> {
+    let run = Run {
+        movins: EMPTY_CELL_OUT,
+        ..TWICE
+    };
+    check_refusal_by(&rt, &run, CutPlan::Every(0), "F5 S4 step 1")
+}

@@ -1,0 +1,38 @@
+//! When two bases are equal.
+use super::{TWO_LOADS, session};
+use box_ship::{LOAD_TO_STARBOARD, NO_MOVES, files};
+use seq_report::{Inputs, RunFault};
+use std::alloc::Global;
+use std::test::Fail;
+use what_if::Session;
+
+/// A container of 20,500 kg amidships on arrival.
+const ONE_ABOARD: &[u8] =
+    b"UNB+UNOA:2+SHIP+PLAN+250101:1200+7'UNH+1+BAPLIE:D:95B:UN'LOC+147+0030082'MEA+WT++KGM:20500'UNT+4+1'UNZ+1+7'";
+
+/// A session on the box ship with this container.
+fn loaded(alloc: Global) -> Result<Session, RunFault> {
+    let inputs = Inputs {
+        profile: files(),
+        baplie: ONE_ABOARD,
+        movins: NO_MOVES,
+        steps: None,
+    };
+    Session::read(alloc, &inputs)
+}
+
+// Bases are equal whatever is ordered from there, and where they were read from the same files twice.
+#[test]
+fn same_bases(rt: HostRuntime) -> Result<(), Fail> {
+    let alloc = rt.alloc();
+    let one = session(alloc, TWO_LOADS, None)?;
+    let other = session(alloc, LOAD_TO_STARBOARD, None)?;
+    let third = loaded(alloc)?;
+    assert!(rt; one.base().same(other.base()));
+    assert!(rt; !one.base().same(third.base()));
+    assert!(rt; third.base().same(loaded(alloc)?.base()));
+    assert!(rt; third.base().profile().same(one.base().profile()));
+    assert_eq!(rt; one.base().arrival().items().len(), 0);
+    assert_eq!(rt; third.base().arrival().items().len(), 1);
+    Ok(())
+}

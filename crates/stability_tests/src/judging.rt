@@ -1,0 +1,91 @@
+ghost use Rattle.strength.specs.Hull.{IsHullOf};
+
+use super::masses::{BLOCK, Mass, sum_of};
+use box_ship::box_ship;
+use criteria::{Criterion, Nearby, Verdict, judge, judge_near};
+use hydrostat::Outside;
+use ship_profile::Profile;
+use std::process::Abort;
+use std::test::Fail;
+use strength::Hull;
+
+/// What a verdict says: the table outside of which the condition lies, or the metacentric height, the greatest lever from 30 to 60 degrees,
+/// the shear force at the middle frame and the first criterion that doesn't hold.
+#[derive(Clone, Copy, Debug, PartialEq, Eq)]
+enum Said {
+    Lies(Outside),
+    Figures([i128; 3], Option<Criterion>),
+}
+
+/// What a verdict says.
+fn told(verdict: &Verdict) -> Said {
+    match verdict {
+        Verdict::Outside(outside) => Said::Lies(*outside),
+        Verdict::Fails(criterion, figures) => Said::Figures(
+            [figures.gm, figures.lever, figures.shear[2]],
+            Some(*criterion),
+        ),
+        Verdict::Passes(figures) => {
+            Said::Figures([figures.gm, figures.lever, figures.shear[2]], None)
+        }
+    }
+}
+
+/// Masses aboard, and what is told of them.
+struct Row {
+    masses: &'static [Mass],
+    told: Said,
+}
+
+/// The verdict on a row alone, and on it behind the rows before it.
+fn judged(
+    profile: &Profile,
+    hull: &Hull,
+    row: &Row,
+    near: &mut Nearby,
+) -> Result<(Said, Said), Fail>
+    requires { IsHullOf hull.now profile.now.ship }
+{
+    let sum = sum_of(profile, row.masses)?;
+    let alone = told(&judge(profile, &sum));
+    Ok((alone, told(&judge_near(profile, hull, &sum, near))))
+}
+
+/// Compares the rows with the ship. This alone owns a profile, since each way of letting one go is long to prove.
+fn on_box_ship(rt: &(impl Abort + AllocGlobal), rows: &[Row]) -> Result<(), Fail> {
+    let profile = box_ship(rt.alloc())?;
+    let hull = Hull::new(&profile);
+    let mut near = Nearby::default();
+    for row in rows {
+        let both = judged(&profile, &hull, row, &mut near)?;
+        assert_eq!(rt; both, (row.told, row.told));
+    }
+    Ok(())
+}
+
+// The box floats at 4,000 mm, GM = 10,333 - 6,000 mm, and the greatest lever is that at 35 degrees: 5,400 - 6,000 * 0.573576 = 1,958.5 mm.
+// With its centre 4,184 mm higher GM is 149 mm; the levers fail too, and C1 comes first. The hydrostatic
+// table ends at 12,300,000 kg.
+static CONDITIONS: [Row; 4] = [
+    Row {
+        masses: &[BLOCK],
+        told: Said::Figures([4_333, 1_958, 0], None),
+    },
+    Row {
+        masses: &[(8_200_000, [50_000, 0, 10_184, 50_000])],
+        told: Said::Figures([149, -192, 0], Some(Criterion::C1)),
+    },
+    Row {
+        masses: &[(12_300_001, [50_000, 0, 6_000, 50_000])],
+        told: Said::Lies(Outside::Hydro),
+    },
+    Row {
+        masses: &[(12_300_000, [50_000, 0, 6_000, 50_000])],
+        told: Said::Figures([2_556, 1_958, 0], None),
+    },
+];
+
+#[test]
+fn conditions(rt: HostRuntime) -> Result<(), Fail> {
+    on_box_ship(&rt, &CONDITIONS)
+}

@@ -1,0 +1,14 @@
+//! Tests of `hydrostat`, `righting`, `strength` and `criteria`, which go by their public calls alone. They stand apart since the tests of a
+//! crate are proved together with all of it once more.
+#![tactic(auto)]
+
+#[cfg(test)]
+mod floating;
+#[cfg(test)]
+mod judging;
+#[cfg(test)]
+mod levers;
+#[cfg(test)]
+mod loads;
+#[cfg(test)]
+mod masses;

@@ -1,0 +1,16 @@
+//! Tests of `units_core`, `decimal_text`, `csv_text`, `edifact_text` and `stow_messages`, which go by their public calls alone. They stand
+//! apart since the tests of a crate are proved together with all of it once more.
+#![tactic(auto)]
+
+#[cfg(test)]
+mod interchanges;
+#[cfg(test)]
+mod messages;
+#[cfg(test)]
+mod numbers;
+#[cfg(test)]
+mod records;
+#[cfg(test)]
+mod steps_files;
+#[cfg(test)]
+mod units;

@@ -1,0 +1,85 @@
+ghost use Rattle.std.specs.Prelude.{◌≡◌, ◌*◌, ◌/◌, ◌^◌, ◌<◌, pos, ◌-ℤ◌, ◌*ℤ◌, ◌≤ℤ◌, ◌<ℤ◌, true, IfSome};
+ghost use Rattle.units_core.specs.Ratio.{◌over◌, floor_of};
+
+use crate::fractions::{Frac, floor};
+
+/// The greatest divisor under which a guess is tested, and the greatest guess: so their product fits.
+const MOST_DIVISOR: i128 = 1 << 103;
+
+const MOST_GUESS: u64 = 1 << 23;
+
+/// The upper half of the product of two numbers. Where one of them is about 2^64 over a divisor, this is about the quotient of the other.
+#[inline(always)]
+pub fn upper_half(a: u64, b: u64) -> u64
+    ensures { result ≡ a * b / 2 ^ 64 }
+{
+    ((u128::from(a) * u128::from(b)) >> 64) as u64
+}
+
+/// Whether a number is what a quotient leaves: at least 0, and less than the divisor.
+#[inline(always)]
+pub fn is_rest(rest: i128, divisor: i128) -> bool
+    ensures low { result ≡ true → pos 0 ≤ℤ rest }
+    ensures high { result ≡ true → rest <ℤ divisor }
+    ensures told { pos 0 ≤ℤ rest → rest <ℤ divisor → result ≡ true }
+{
+    if rest < 0 {
+        return false;
+    }
+    rest < divisor
+}
+
+/// About the quotient of two numbers, by their leading 63 bits. It is right for nearly all; any number would do, since it is tested.
+#[inline(always)]
+pub fn guess(num: i128, den: i128) -> i64 {
+    let shift = 65u32.saturating_sub(num.unsigned_abs().leading_zeros());
+    let Ok(top) = i64::try_from(num >> shift) else {
+        return 0;
+    };
+    let Ok(bottom) = i64::try_from(den >> shift) else {
+        return 0;
+    };
+    match top.checked_div_euclid(bottom) {
+        Some(quotient) => quotient,
+        None => 0,
+    }
+}
+
+/// What a fraction leaves over a guess; `None` where the numbers are so great that it might not fit.
+#[inline(always)]
+fn rest_over(fraction: Frac, guess: i64) -> Option<i128>
+    ensures { IfSome result (λ rest. rest ≡ fraction.num -ℤ (guess *ℤ fraction.den)) }
+{
+    if fraction.den > MOST_DIVISOR {
+        return None;
+    }
+    if guess.unsigned_abs() > MOST_GUESS {
+        return None;
+    }
+    fraction.num.checked_sub(i128::from(guess) * fraction.den)
+}
+
+/// The guess, where it is the fraction rounded down.
+#[inline(always)]
+pub fn tested(fraction: Frac, guess: i64) -> Option<i128>
+    ensures { IfSome result (λ q. q ≡ floor_of (fraction.num over fraction.den)) }
+{
+    let Some(rest) = rest_over(fraction, guess) else {
+        return None;
+    };
+    if is_rest(rest, fraction.den) {
+        return Some(i128::from(guess));
+    }
+    None
+}
+
+/// The fraction rounded down, as [`floor`] gives it, by a guess of the caller's: where it is right, no number is divided.
+#[inline(always)]
+pub fn floor_near(fraction: Frac, guess: i64) -> i128
+    ensures { result ≡ floor_of (fraction.num over fraction.den) }
+{
+    match tested(fraction, guess) {
+        Some(quotient) => quotient,
+        None => floor(fraction),
+    }
+}
