@@ -17,8 +17,8 @@
 //! GM = 10,333 - 6,000 = 4,333 mm. Buoyancy and mass agree in every section, so there is neither shear nor bending.
 #![tactic(auto)]
 
-use ship_profile::{Profile, ProfileBytes, ProfileFault};
-use std::alloc::Global;
+use ship_profile::{Profile, ProfileBytes};
+use std::test::Fail;
 
 /// `ship.toml` before its blocks, for ships of other blocks: her length and limits, five stations 25 m apart, and a frame at each. [`SHIP`]
 /// says it again, since a constant isn't put together of two.
@@ -157,7 +157,23 @@ pub fn files() -> ProfileBytes<'static> {
     }
 }
 
-/// Her profile.
-pub fn box_ship(alloc: Global) -> Result<Profile, ProfileFault> {
-    Profile::read(alloc, &files())
+/// What a test looks at, in a runtime `R`.
+pub trait Check<R> {
+    /// Looks at it on a ship.
+    fn check(&self, rt: &R, profile: &Profile) -> Result<(), Fail>;
+}
+
+/// Looks at something on the ship of these files. This alone owns a profile, since each way of letting one go is long to prove.
+pub fn on_ship<R: AllocGlobal, C: Check<R>>(
+    rt: &R,
+    files: &ProfileBytes<'_>,
+    check: &C,
+) -> Result<(), Fail> {
+    let profile = Profile::read(rt.alloc(), files)?;
+    check.check(rt, &profile)
+}
+
+/// Looks at something on the box ship.
+pub fn on_box_ship<R: AllocGlobal, C: Check<R>>(rt: &R, check: &C) -> Result<(), Fail> {
+    on_ship(rt, &files(), check)
 }

@@ -26,7 +26,8 @@ struct Run<'a> {
     steps: Option<&'a [u8]>,
     kn: &'a str,
     bonjean: &'a str,
-    tanks: &'a [u8],
+    /// `tanks.csv`, where it isn't that of the box ship.
+    tanks: Option<&'a [u8]>,
     gm: Option<&'a str>,
 }
 
@@ -38,7 +39,7 @@ const IDLE: Run<'static> = Run {
     steps: None,
     kn: KN,
     bonjean: BONJEAN,
-    tanks: TANKS.as_bytes(),
+    tanks: None,
     gm: None,
 };
 
@@ -51,7 +52,7 @@ impl<'a> Run<'a> {
                 hydro: HYDRO.as_bytes(),
                 kn: self.kn.as_bytes(),
                 bonjean: self.bonjean.as_bytes(),
-                tanks: self.tanks,
+                tanks: self.tanks.unwrap_or(TANKS.as_bytes()),
                 gm: match self.gm {
                     Some(text) => Some(text.as_bytes()),
                     None => None,

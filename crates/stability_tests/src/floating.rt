@@ -1,5 +1,5 @@
 use super::masses::{BLOCK, Mass, length, sum_of};
-use box_ship::box_ship;
+use box_ship::{Check, on_box_ship};
 use hydrostat::{DraughtLine, Outside, floating_of};
 use ship_profile::Profile;
 use std::process::Abort;
@@ -62,14 +62,18 @@ struct Row {
     condition: Condition,
 }
 
-/// Compares the rows with the ship. This alone owns a profile, since each way of letting one go is long to prove.
-fn on_box_ship(rt: &(impl Abort + AllocGlobal), rows: &[Row]) -> Result<(), Fail> {
-    let profile = box_ship(rt.alloc())?;
-    for row in rows {
-        let floats = condition(&profile, row.masses)?;
-        assert_eq!(rt; floats, row.condition);
+/// Compares rows with the box ship.
+#[derive(Clone, Copy)]
+struct Rows(&'static [Row]);
+
+impl<R: Abort + AllocGlobal> Check<R> for Rows {
+    fn check(&self, rt: &R, profile: &Profile) -> Result<(), Fail> {
+        for row in self.0 {
+            let floats = condition(profile, row.masses)?;
+            assert_eq!(rt; floats, row.condition);
+        }
+        Ok(())
     }
-    Ok(())
 }
 
 // The block alone: draught 4,000 mm, and GM = 10,333 - 6,000 = 4,333 mm.
@@ -105,5 +109,5 @@ static CONDITIONS: [Row; 4] = [
 
 #[test]
 fn conditions(rt: HostRuntime) -> Result<(), Fail> {
-    on_box_ship(&rt, &CONDITIONS)
+    on_box_ship(&rt, &Rows(&CONDITIONS))
 }

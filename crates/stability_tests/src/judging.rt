@@ -1,8 +1,8 @@
 ghost use Rattle.strength.specs.Hull.{IsHullOf};
 
 use super::masses::{BLOCK, Mass, sum_of};
-use box_ship::box_ship;
-use criteria::{Criterion, Nearby, Verdict, judge, judge_near};
+use box_ship::{Check, on_box_ship};
+use criteria::{Criterion, Figures, Nearby, Verdict, judge, judge_near};
 use hydrostat::Outside;
 use ship_profile::Profile;
 use std::process::Abort;
@@ -17,17 +17,17 @@ enum Said {
     Figures([i128; 3], Option<Criterion>),
 }
 
+/// Of a ship's figures, those three.
+fn three(figures: &Figures) -> [i128; 3] {
+    [figures.gm, figures.lever, figures.shear[2]]
+}
+
 /// What a verdict says.
 fn told(verdict: &Verdict) -> Said {
     match verdict {
         Verdict::Outside(outside) => Said::Lies(*outside),
-        Verdict::Fails(criterion, figures) => Said::Figures(
-            [figures.gm, figures.lever, figures.shear[2]],
-            Some(*criterion),
-        ),
-        Verdict::Passes(figures) => {
-            Said::Figures([figures.gm, figures.lever, figures.shear[2]], None)
-        }
+        Verdict::Fails(criterion, figures) => Said::Figures(three(figures), Some(*criterion)),
+        Verdict::Passes(figures) => Said::Figures(three(figures), None),
     }
 }
 
@@ -51,16 +51,20 @@ fn judged(
     Ok((alone, told(&judge_near(profile, hull, &sum, near))))
 }
 
-/// Compares the rows with the ship. This alone owns a profile, since each way of letting one go is long to prove.
-fn on_box_ship(rt: &(impl Abort + AllocGlobal), rows: &[Row]) -> Result<(), Fail> {
-    let profile = box_ship(rt.alloc())?;
-    let hull = Hull::new(&profile);
-    let mut near = Nearby::default();
-    for row in rows {
-        let both = judged(&profile, &hull, row, &mut near)?;
-        assert_eq!(rt; both, (row.told, row.told));
+/// Compares rows with the box ship.
+#[derive(Clone, Copy)]
+struct Rows(&'static [Row]);
+
+impl<R: Abort + AllocGlobal> Check<R> for Rows {
+    fn check(&self, rt: &R, profile: &Profile) -> Result<(), Fail> {
+        let hull = Hull::new(profile);
+        let mut near = Nearby::default();
+        for row in self.0 {
+            let both = judged(profile, &hull, row, &mut near)?;
+            assert_eq!(rt; both, (row.told, row.told));
+        }
+        Ok(())
     }
-    Ok(())
 }
 
 // The box floats at 4,000 mm, GM = 10,333 - 6,000 mm, and the greatest lever is that at 35 degrees: 5,400 - 6,000 * 0.573576 = 1,958.5 mm.
@@ -87,5 +91,5 @@ static CONDITIONS: [Row; 4] = [
 
 #[test]
 fn conditions(rt: HostRuntime) -> Result<(), Fail> {
-    on_box_ship(&rt, &CONDITIONS)
+    on_box_ship(&rt, &Rows(&CONDITIONS))
 }

@@ -1,13 +1,13 @@
 //! The righting levers of the box ship, and of one whose greatest lever stands at two angles.
 use super::masses::sum_of;
-use box_ship::{KN, files};
+use box_ship::{Check, files, on_box_ship, on_ship};
 use hydrostat::Outside;
 use righting::{
     Levers, area_holds, area_over_pairs, area_sum, best_from_30, best_number_from_30, greatest,
     greatest_number, levers_of,
 };
-use ship_profile::{Profile, ProfileFault};
-use std::alloc::Global;
+use ship_profile::{Profile, ProfileBytes};
+use std::process::Abort;
 use std::test::Fail;
 use units_core::{Angle, Frac, floor};
 
@@ -16,13 +16,6 @@ static TIED: &str = "kg,0,5,10,15,20,25,30,35,40,45,50,55,60
 4100000,0,900,1790,2650,4230,4230,4000,3800,3600,3400,3200,3000,2800
 12300000,0,900,1790,2650,4230,4230,4000,3800,3600,3400,3200,3000,2800
 ";
-
-/// The box ship with these cross curves.
-fn box_ship(alloc: Global, kn: &'static str) -> Result<Profile, ProfileFault> {
-    let mut files = files();
-    files.kn = kn.as_bytes();
-    Profile::read(alloc, &files)
-}
 
 /// The levers with one body amidships of so many kg, at so many mm from the middle line and above the keel; none where its mass lies outside
 /// of the cross curves.
@@ -36,9 +29,8 @@ fn told(profile: &Profile, kg: u32, y: i32, z: i32) -> Result<Option<Levers>, Fa
 }
 
 /// The levers with 8,200,000 kg aboard.
-fn levers_with(alloc: Global, kn: &'static str, y: i32, z: i32) -> Result<Levers, Fail> {
-    let profile = box_ship(alloc, kn)?;
-    Ok(told(&profile, 8_200_000, y, z)?.ok_or("outside")?)
+fn levers_with(profile: &Profile, y: i32, z: i32) -> Result<Levers, Fail> {
+    Ok(told(profile, 8_200_000, y, z)?.ok_or("outside")?)
 }
 
 /// The levers at all angles, in mm, rounded down.
@@ -58,11 +50,28 @@ static UPRIGHT: [i128; 13] = [
     0, 377, 748, 1_097, 1_417, 1_694, 1_900, 1_958, 1_893, 1_737, 1_513, 1_235, 913,
 ];
 
+/// The centre of gravity at so many mm from the middle line and 6,000 mm above the keel, and the levers so.
+#[derive(Clone, Copy)]
+struct Listing {
+    y: i32,
+    levers: [i128; 13],
+}
+
+impl<R: Abort + AllocGlobal> Check<R> for Listing {
+    fn check(&self, rt: &R, profile: &Profile) -> Result<(), Fail> {
+        let levers = levers_with(profile, self.y, 6_000)?;
+        assert_eq!(rt; figures(&levers), self.levers, "{}", self.y);
+        Ok(())
+    }
+}
+
 #[test]
 fn levers_of_the_box_ship(rt: HostRuntime) -> Result<(), Fail> {
-    let levers = levers_with(rt.alloc(), KN, 0, 6_000)?;
-    assert_eq!(rt; figures(&levers), UPRIGHT);
-    Ok(())
+    let upright = Listing {
+        y: 0,
+        levers: UPRIGHT,
+    };
+    on_box_ship(&rt, &upright)
 }
 
 /// The same 500 mm from the middle line: less 500 cos h, as 1,958.544 - 500 * 0.819152 = 1,548.968 at 35 degrees.
@@ -72,9 +81,9 @@ static LISTING: [i128; 13] = [
 
 #[test]
 fn list_to_either_side(rt: HostRuntime) -> Result<(), Fail> {
-    for side in [-500, 500] {
-        let levers = levers_with(rt.alloc(), KN, side, 6_000)?;
-        assert_eq!(rt; figures(&levers), LISTING, "{side}");
+    for y in [-500, 500] {
+        let listing = Listing { y, levers: LISTING };
+        on_box_ship(&rt, &listing)?;
     }
     Ok(())
 }
@@ -87,14 +96,23 @@ static DISPLACEMENTS: [(u32, bool); 4] = [
     (12_300_001, false),
 ];
 
+/// Compares the displacements with the cross curves.
+#[derive(Clone, Copy)]
+struct Displacements;
+
+impl<R: Abort + AllocGlobal> Check<R> for Displacements {
+    fn check(&self, rt: &R, profile: &Profile) -> Result<(), Fail> {
+        for (kg, inside) in &DISPLACEMENTS {
+            let levers = told(profile, *kg, 0, 6_000)?;
+            assert_eq!(rt; levers.is_some(), *inside, "{kg}");
+        }
+        Ok(())
+    }
+}
+
 #[test]
 fn outside_of_the_cross_curves(rt: HostRuntime) -> Result<(), Fail> {
-    let profile = box_ship(rt.alloc(), KN)?;
-    for (kg, inside) in &DISPLACEMENTS {
-        let levers = told(&profile, *kg, 0, 6_000)?;
-        assert_eq!(rt; levers.is_some(), *inside, "{kg}");
-    }
-    Ok(())
+    on_box_ship(&rt, &Displacements)
 }
 
 /// The angle of so many degrees.
@@ -126,21 +144,25 @@ fn area(levers: &Levers, from: u8, to: u8) -> Result<i128, Fail> {
     Ok(floor(area_sum(levers, from, to)))
 }
 
-#[test]
-fn area_between_angles(rt: HostRuntime) -> Result<(), Fail> {
-    let levers = levers_with(rt.alloc(), KN, 0, 6_000)?;
-    for (from, to, sum) in &AREAS {
-        assert_eq!(rt; area(&levers, *from, *to)?, *sum, "{from} to {to}");
+/// Compares the areas under the levers of `UPRIGHT`.
+#[derive(Clone, Copy)]
+struct Areas;
+
+impl<R: Abort + AllocGlobal> Check<R> for Areas {
+    fn check(&self, rt: &R, profile: &Profile) -> Result<(), Fail> {
+        let levers = levers_with(profile, 0, 6_000)?;
+        for (from, to, sum) in &AREAS {
+            assert_eq!(rt; area(&levers, *from, *to)?, *sum, "{from} to {to}");
+        }
+        // from 10 to 30 degrees: 748.112 + 4 * (1,097.086 + 1,694.292) + 2 * 1,417.880 + 1,900 = 16,649.384
+        assert_eq!(rt; floor(area_over_pairs(&levers, 2, 2)), 16_649);
+        Ok(())
     }
-    Ok(())
 }
 
 #[test]
-fn area_over_two_pairs(rt: HostRuntime) -> Result<(), Fail> {
-    let levers = levers_with(rt.alloc(), KN, 0, 6_000)?;
-    // from 10 to 30 degrees: 748.112 + 4 * (1,097.086 + 1,694.292) + 2 * 1,417.880 + 1,900 = 16,649.384
-    assert_eq!(rt; floor(area_over_pairs(&levers, 2, 2)), 16_649);
-    Ok(())
+fn area_between_angles(rt: HostRuntime) -> Result<(), Fail> {
+    on_box_ship(&rt, &Areas)
 }
 
 #[test]
@@ -158,19 +180,27 @@ fn area_at_its_limit(rt: HostRuntime) {
     assert_eq!(rt; area_holds(missed, 3_151_268), false);
 }
 
-#[test]
-fn greatest_of_tied_levers(rt: HostRuntime) -> Result<(), Fail> {
-    // on the keel and the middle line the levers are those of the curves: 4,230 mm at 20 and at 25 degrees, 4,000 mm at 30
-    let levers = levers_with(rt.alloc(), TIED, 0, 0)?;
-    assert_eq!(rt; greatest(&levers).degrees(), 20);
-    assert_eq!(rt; greatest_number(&levers), 4);
-    Ok(())
+/// Looks for the greatest lever on the keel and the middle line, where the levers are those of the curves: 4,230 mm at 20 and at 25 degrees,
+/// 4,000 mm at 30.
+#[derive(Clone, Copy)]
+struct Greatest;
+
+impl<R: Abort + AllocGlobal> Check<R> for Greatest {
+    fn check(&self, rt: &R, profile: &Profile) -> Result<(), Fail> {
+        let levers = levers_with(profile, 0, 0)?;
+        assert_eq!(rt; greatest(&levers).degrees(), 20);
+        assert_eq!(rt; greatest_number(&levers), 4);
+        assert_eq!(rt; floor(best_from_30(&levers)), 4_000);
+        assert_eq!(rt; best_number_from_30(&levers), 6);
+        Ok(())
+    }
 }
 
 #[test]
-fn best_of_tied_levers(rt: HostRuntime) -> Result<(), Fail> {
-    let levers = levers_with(rt.alloc(), TIED, 0, 0)?;
-    assert_eq!(rt; floor(best_from_30(&levers)), 4_000);
-    assert_eq!(rt; best_number_from_30(&levers), 6);
-    Ok(())
+fn tied_greatest_lever(rt: HostRuntime) -> Result<(), Fail> {
+    let files = ProfileBytes {
+        kn: TIED.as_bytes(),
+        ..files()
+    };
+    on_ship(&rt, &files, &Greatest)
 }

@@ -1,4 +1,3 @@
 mod cargo;
 mod conditions;
 mod limits;
-mod ships;

@@ -1,6 +1,7 @@
 //! What is aboard on arrival, and the first item or fill that can't be.
 use super::orders::{CONTAINER_KG, items};
-use super::ships::{ASHORE, Check, FORE, LONG, MIDDLE, on_box_ship};
+use super::ships::{ASHORE, FORE, LONG, MIDDLE};
+use box_ship::{Check, on_box_ship};
 use lift_sequence::{Arrival, SeqCode, SeqFault};
 use ship_profile::{Profile, TankFill};
 use std::alloc::{AllocError, Global};
@@ -103,8 +104,8 @@ static CASES: [Case; 6] = [
 #[derive(Clone, Copy)]
 struct Cases(&'static [Case]);
 
-impl Check for Cases {
-    fn check(&self, rt: &(impl Abort + AllocGlobal), profile: &Profile) -> Result<(), Fail> {
+impl<R: Abort + AllocGlobal> Check<R> for Cases {
+    fn check(&self, rt: &R, profile: &Profile) -> Result<(), Fail> {
         check_cases(rt, profile, self.0)
     }
 }
@@ -134,8 +135,8 @@ static FULL: [u32; 3] = [8_200_000, 500_000, CONTAINER_KG];
 #[derive(Clone, Copy)]
 struct Full;
 
-impl Check for Full {
-    fn check(&self, rt: &(impl Abort + AllocGlobal), profile: &Profile) -> Result<(), Fail> {
+impl<R: Abort + AllocGlobal> Check<R> for Full {
+    fn check(&self, rt: &R, profile: &Profile) -> Result<(), Fail> {
         check_full(rt, profile)
     }
 }

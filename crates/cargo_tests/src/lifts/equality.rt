@@ -1,7 +1,7 @@
 //! Which conditions on arrival are equal.
 use super::orders::{ABCU, NO_MEMORY, XYZU, short};
-use super::ships::{AFT, BESIDE, Check, FORE, MIDDLE, on_box_ship};
-use box_ship::{LIMITS, files};
+use super::ships::{AFT, BESIDE, FORE, MIDDLE};
+use box_ship::{Check, LIMITS, files, on_box_ship};
 use lift_sequence::{Arrival, SeqFault};
 use ship_profile::{Profile, ProfileBytes, TankFill};
 use std::alloc::{AllocError, Global};
@@ -152,8 +152,8 @@ fn are_same(
 #[derive(Clone, Copy)]
 struct OnOneShip;
 
-impl Check for OnOneShip {
-    fn check(&self, rt: &(impl Abort + AllocGlobal), profile: &Profile) -> Result<(), Fail> {
+impl<R: Abort + AllocGlobal> Check<R> for OnOneShip {
+    fn check(&self, rt: &R, profile: &Profile) -> Result<(), Fail> {
         check_conditions(rt, profile)
     }
 }
@@ -192,8 +192,8 @@ fn is_same_with_block(alloc: Global, profile: &Profile, kg: u32) -> Result<bool,
 #[derive(Clone, Copy)]
 struct OnTwoShips;
 
-impl Check for OnTwoShips {
-    fn check(&self, rt: &(impl Abort + AllocGlobal), profile: &Profile) -> Result<(), Fail> {
+impl<R: Abort + AllocGlobal> Check<R> for OnTwoShips {
+    fn check(&self, rt: &R, profile: &Profile) -> Result<(), Fail> {
         check_blocks(rt, profile)
     }
 }

@@ -3,7 +3,8 @@ ghost use Rattle.lift_sequence.specs.Sequence.{IsOf};
 
 use super::orders::{ABCU, NO_MEMORY, Order, items, op, ops};
 use super::reweighing::step;
-use super::ships::{AFT, BESIDE, Check, FORE, LONG, MIDDLE, on_box_ship};
+use super::ships::{AFT, BESIDE, FORE, LONG, MIDDLE};
+use box_ship::{Check, on_box_ship};
 use lift_sequence::{Arrival, SeqFault, Sequence};
 use ship_profile::Profile;
 use std::alloc::Global;
@@ -101,8 +102,8 @@ fn check_case(
     }
 }
 
-impl Check for Cases {
-    fn check(&self, rt: &(impl Abort + AllocGlobal), profile: &Profile) -> Result<(), Fail> {
+impl<R: Abort + AllocGlobal> Check<R> for Cases {
+    fn check(&self, rt: &R, profile: &Profile) -> Result<(), Fail> {
         for case in self.0 {
             assert_eq!(rt; check_case(rt, profile, case), Ok(()));
         }
@@ -295,8 +296,8 @@ static SHIFTED: [Order; 4] = [
 #[derive(Clone, Copy)]
 struct Shifts;
 
-impl Check for Shifts {
-    fn check(&self, rt: &(impl Abort + AllocGlobal), profile: &Profile) -> Result<(), Fail> {
+impl<R: Abort + AllocGlobal> Check<R> for Shifts {
+    fn check(&self, rt: &R, profile: &Profile) -> Result<(), Fail> {
         // `?` is longer to prove
         match Arrival::new(rt.alloc(), profile, Vec::new(rt.alloc()), &[]) {
             Ok(arrival) => {

@@ -2,7 +2,8 @@
 ghost use Rattle.lift_sequence.specs.Sequence.{IsOf};
 
 use super::orders::{ABCU, Order, mass, op, ops};
-use super::ships::{AFT, BESIDE, Check, FORE, MIDDLE, on_box_ship};
+use super::ships::{AFT, BESIDE, FORE, MIDDLE};
+use box_ship::{Check, on_box_ship};
 use lift_sequence::{Arrival, Sequence, Step};
 use ship_profile::Profile;
 use std::process::Abort;
@@ -142,8 +143,8 @@ fn check_from(
 #[derive(Clone, Copy)]
 struct Followed;
 
-impl Check for Followed {
-    fn check(&self, rt: &(impl Abort + AllocGlobal), profile: &Profile) -> Result<(), Fail> {
+impl<R: Abort + AllocGlobal> Check<R> for Followed {
+    fn check(&self, rt: &R, profile: &Profile) -> Result<(), Fail> {
         // `?` is longer to prove
         match Arrival::new(rt.alloc(), profile, Vec::new(rt.alloc()), &[]) {
             Ok(arrival) => check_from(rt, profile, &arrival),

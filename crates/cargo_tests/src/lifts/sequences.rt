@@ -2,7 +2,8 @@
 ghost use Rattle.lift_sequence.specs.Sequence.{IsOf};
 
 use super::orders::{ABCU, NO_MEMORY, Order, XYZU, items, op, ops};
-use super::ships::{AFT, ASHORE, BESIDE, Check, FORE, LONG, MIDDLE, on_box_ship};
+use super::ships::{AFT, ASHORE, BESIDE, FORE, LONG, MIDDLE};
+use box_ship::{Check, on_box_ship};
 use lift_sequence::{Arrival, Op, SeqCode, SeqFault, Sequence, Step};
 use ship_profile::Profile;
 use std::alloc::{AllocError, Global};
@@ -58,8 +59,8 @@ struct Case {
 #[derive(Clone, Copy)]
 struct Cases(&'static [Case]);
 
-impl Check for Cases {
-    fn check(&self, rt: &(impl Abort + AllocGlobal), profile: &Profile) -> Result<(), Fail> {
+impl<R: Abort + AllocGlobal> Check<R> for Cases {
+    fn check(&self, rt: &R, profile: &Profile) -> Result<(), Fail> {
         check_cases(rt, profile, self.0);
         Ok(())
     }
@@ -360,8 +361,8 @@ struct LastStep {
     put: &'static [i64; 6],
 }
 
-impl Check for LastStep {
-    fn check(&self, rt: &(impl Abort + AllocGlobal), profile: &Profile) -> Result<(), Fail> {
+impl<R: Abort + AllocGlobal> Check<R> for LastStep {
+    fn check(&self, rt: &R, profile: &Profile) -> Result<(), Fail> {
         check_last(rt, profile, self.orders, self.out, self.put)
     }
 }
@@ -431,8 +432,8 @@ fn check_turns(
 #[derive(Clone, Copy)]
 struct Longest;
 
-impl Check for Longest {
-    fn check(&self, rt: &(impl Abort + AllocGlobal), profile: &Profile) -> Result<(), Fail> {
+impl<R: Abort + AllocGlobal> Check<R> for Longest {
+    fn check(&self, rt: &R, profile: &Profile) -> Result<(), Fail> {
         check_longest(rt, profile)
     }
 }

@@ -1,8 +1,4 @@
-//! The cells of the box ship, and what the tests look at on her.
-use box_ship::box_ship;
-use ship_profile::Profile;
-use std::process::Abort;
-use std::test::Fail;
+//! The cells of the box ship.
 use units_core::Cell;
 
 /// The cell 0010082, of 20 feet.
@@ -46,15 +42,3 @@ pub const ASHORE: Cell = Cell {
     row: 0,
     tier: 82,
 };
-
-/// What a test looks at.
-pub trait Check {
-    /// Looks at it with the box ship's profile.
-    fn check(&self, rt: &(impl Abort + AllocGlobal), profile: &Profile) -> Result<(), Fail>;
-}
-
-/// Looks at something with the box ship's profile. This alone owns a profile, since each way of letting one go is long to prove.
-pub fn on_box_ship<C: Check>(rt: &(impl Abort + AllocGlobal), check: &C) -> Result<(), Fail> {
-    let profile = box_ship(rt.alloc())?;
-    check.check(rt, &profile)
-}

@@ -1,9 +1,10 @@
 //! The values of bodies, alone, joined, and with the other sign.
-use super::ships::{Check, on_box_ship};
+use super::ships::on_two_frames;
 use super::tables::{BOX, CONTAINER, Row};
+use box_ship::Check;
 use moment_sums::Totals;
 use prefix_scan::Monoid;
-use ship_profile::Frames;
+use ship_profile::{Frames, Profile};
 use std::process::Abort;
 use std::test::Fail;
 
@@ -95,8 +96,9 @@ struct One {
     values: &'static Values,
 }
 
-impl Check for One {
-    fn check(&self, rt: &(impl Abort + AllocGlobal), frames: &Frames) -> Result<(), Fail> {
+impl<R: Abort + AllocGlobal> Check<R> for One {
+    fn check(&self, rt: &R, profile: &Profile) -> Result<(), Fail> {
+        let frames = profile.frames();
         let sum = Totals::of(&self.row.body()?, frames);
         assert_eq!(rt; values(&sum).as_slice(), self.values.as_slice());
         assert_eq!(rt; sum.weight_aft(15), 0);
@@ -109,7 +111,7 @@ impl Check for One {
 
 #[test]
 fn values_of_container(rt: HostRuntime) -> Result<(), Fail> {
-    on_box_ship(
+    on_two_frames(
         &rt,
         &One {
             row: CONTAINER,
@@ -120,7 +122,7 @@ fn values_of_container(rt: HostRuntime) -> Result<(), Fail> {
 
 #[test]
 fn values_of_box(rt: HostRuntime) -> Result<(), Fail> {
-    on_box_ship(
+    on_two_frames(
         &rt,
         &One {
             row: BOX,
@@ -133,8 +135,9 @@ fn values_of_box(rt: HostRuntime) -> Result<(), Fail> {
 #[derive(Clone, Copy)]
 struct Both;
 
-impl Check for Both {
-    fn check(&self, rt: &(impl Abort + AllocGlobal), frames: &Frames) -> Result<(), Fail> {
+impl<R: Abort + AllocGlobal> Check<R> for Both {
+    fn check(&self, rt: &R, profile: &Profile) -> Result<(), Fail> {
+        let frames = profile.frames();
         let container = Totals::of(&CONTAINER.body()?, frames);
         let other = Totals::of(&BOX.body()?, frames);
         let both = joined(&container, &other)?;
@@ -153,7 +156,7 @@ impl Check for Both {
 
 #[test]
 fn join_and_minus(rt: HostRuntime) -> Result<(), Fail> {
-    on_box_ship(&rt, &Both)
+    on_two_frames(&rt, &Both)
 }
 
 #[test]

@@ -1,10 +1,11 @@
 //! The limits of what the bodies of a ship can add up to. Bodies are 2 mm long here.
 use super::bodies::joined;
-use super::ships::{Check, on_box_ship};
+use super::ships::on_two_frames;
 use super::tables::Row;
+use box_ship::Check;
 use moment_sums::Totals;
 use prefix_scan::Monoid;
-use ship_profile::Frames;
+use ship_profile::{Frames, Profile};
 use std::process::Abort;
 use std::test::Fail;
 use units_core::Body;
@@ -222,8 +223,9 @@ static MOMENTS: [Case; 4] = [
 #[derive(Clone, Copy)]
 struct Cases(&'static [Case]);
 
-impl Check for Cases {
-    fn check(&self, rt: &(impl Abort + AllocGlobal), frames: &Frames) -> Result<(), Fail> {
+impl<R: Abort + AllocGlobal> Check<R> for Cases {
+    fn check(&self, rt: &R, profile: &Profile) -> Result<(), Fail> {
+        let frames = profile.frames();
         for (parts, bounded) in self.0 {
             let sum = sum_of(parts, frames)?;
             assert_eq!(rt; sum.is_bounded(), *bounded);
@@ -234,35 +236,36 @@ impl Check for Cases {
 
 #[test]
 fn bounds_of_mass(rt: HostRuntime) -> Result<(), Fail> {
-    on_box_ship(&rt, &Cases(&MASSES))
+    on_two_frames(&rt, &Cases(&MASSES))
 }
 
 #[test]
 fn bounds_of_centres(rt: HostRuntime) -> Result<(), Fail> {
-    on_box_ship(&rt, &Cases(&CENTRES))
+    on_two_frames(&rt, &Cases(&CENTRES))
 }
 
 #[test]
 fn bounds_of_surface(rt: HostRuntime) -> Result<(), Fail> {
-    on_box_ship(&rt, &Cases(&SURFACES))
+    on_two_frames(&rt, &Cases(&SURFACES))
 }
 
 #[test]
 fn bounds_of_weights(rt: HostRuntime) -> Result<(), Fail> {
-    on_box_ship(&rt, &Cases(&WEIGHTS))
+    on_two_frames(&rt, &Cases(&WEIGHTS))
 }
 
 #[test]
 fn bounds_of_moments(rt: HostRuntime) -> Result<(), Fail> {
-    on_box_ship(&rt, &Cases(&MOMENTS))
+    on_two_frames(&rt, &Cases(&MOMENTS))
 }
 
 /// The greatest free surface moments.
 #[derive(Clone, Copy)]
 struct Surfaces;
 
-impl Check for Surfaces {
-    fn check(&self, rt: &(impl Abort + AllocGlobal), frames: &Frames) -> Result<(), Fail> {
+impl<R: Abort + AllocGlobal> Check<R> for Surfaces {
+    fn check(&self, rt: &R, profile: &Profile) -> Result<(), Fail> {
+        let frames = profile.frames();
         // 200 * 10^12 = 2 * 10^14
         let mut sum = Totals::unit();
         for _ in 0..200 {
@@ -277,5 +280,5 @@ impl Check for Surfaces {
 
 #[test]
 fn greatest_surface(rt: HostRuntime) -> Result<(), Fail> {
-    on_box_ship(&rt, &Surfaces)
+    on_two_frames(&rt, &Surfaces)
 }

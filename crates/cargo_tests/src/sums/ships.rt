@@ -1,8 +1,6 @@
 //! The box ship with two of her frames, at 25,000 and 50,000.
-use box_ship::files;
-use ship_profile::{Frames, Profile, ProfileFault};
-use std::alloc::Global;
-use std::process::Abort;
+use box_ship::{Check, files, on_ship};
+use ship_profile::ProfileBytes;
 use std::test::Fail;
 
 static SHIP: &str = "lbp_mm = 100000
@@ -25,21 +23,11 @@ hog_max_kgmm = 1000000000
 sag_max_kgmm = 1000000000
 ";
 
-/// What a test looks at.
-pub trait Check {
-    /// Looks at it with these frames.
-    fn check(&self, rt: &(impl Abort + AllocGlobal), frames: &Frames) -> Result<(), Fail>;
-}
-
-/// Looks at something with the ship's frames. This alone owns a profile, since each way of letting one go is long to prove.
-pub fn on_box_ship<C: Check>(rt: &(impl Abort + AllocGlobal), check: &C) -> Result<(), Fail> {
-    let profile = with_two_frames(rt.alloc())?;
-    check.check(rt, profile.frames())
-}
-
-/// The box ship with these two frames.
-fn with_two_frames(alloc: Global) -> Result<Profile, ProfileFault> {
-    let mut files = files();
-    files.ship = SHIP.as_bytes();
-    Profile::read(alloc, &files)
+/// Looks at something on her.
+pub fn on_two_frames<R: AllocGlobal, C: Check<R>>(rt: &R, check: &C) -> Result<(), Fail> {
+    let files = ProfileBytes {
+        ship: SHIP.as_bytes(),
+        ..files()
+    };
+    on_ship(rt, &files, check)
 }

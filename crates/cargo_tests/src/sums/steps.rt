@@ -1,11 +1,12 @@
 //! What steps change of a sum.
 use super::bodies::{OF_BOTH, OF_CONTAINER, Values, joined, values};
-use super::ships::{Check, on_box_ship};
+use super::ships::on_two_frames;
 use super::tables::{BOX, CONTAINER};
+use box_ship::Check;
 use lift_sequence::Step;
 use moment_sums::Totals;
 use prefix_scan::Monoid;
-use ship_profile::Frames;
+use ship_profile::{Frames, Profile};
 use std::process::Abort;
 use std::test::Fail;
 
@@ -44,8 +45,9 @@ static EXCHANGED: Values = [
 #[derive(Clone, Copy)]
 struct Steps;
 
-impl Check for Steps {
-    fn check(&self, rt: &(impl Abort + AllocGlobal), frames: &Frames) -> Result<(), Fail> {
+impl<R: Abort + AllocGlobal> Check<R> for Steps {
+    fn check(&self, rt: &R, profile: &Profile) -> Result<(), Fail> {
+        let frames = profile.frames();
         let container = Some(CONTAINER.body()?);
         let put = Some(BOX.body()?);
         let load = Totals::of_step(
@@ -83,15 +85,16 @@ impl Check for Steps {
 
 #[test]
 fn changes_of_steps(rt: HostRuntime) -> Result<(), Fail> {
-    on_box_ship(&rt, &Steps)
+    on_two_frames(&rt, &Steps)
 }
 
 /// A step that does nothing.
 #[derive(Clone, Copy)]
 struct Idle;
 
-impl Check for Idle {
-    fn check(&self, rt: &(impl Abort + AllocGlobal), frames: &Frames) -> Result<(), Fail> {
+impl<R: Abort + AllocGlobal> Check<R> for Idle {
+    fn check(&self, rt: &R, profile: &Profile) -> Result<(), Fail> {
+        let frames = profile.frames();
         let idle = Totals::of_step(
             &Step {
                 out: None,
@@ -107,7 +110,7 @@ impl Check for Idle {
 
 #[test]
 fn idle_step(rt: HostRuntime) -> Result<(), Fail> {
-    on_box_ship(&rt, &Idle)
+    on_two_frames(&rt, &Idle)
 }
 
 /// Two containers: 2 * 20,501, 2 * 1,025,050,000, 2 * 24,601,200, 2 * 213,210,400 and 2 * 7,000,003; aft of the frame at 50,000 twice the
@@ -140,8 +143,9 @@ fn stepped(sum: &Totals, step: &Step, frames: &Frames) -> Result<Totals, Fail> {
 #[derive(Clone, Copy)]
 struct Running;
 
-impl Check for Running {
-    fn check(&self, rt: &(impl Abort + AllocGlobal), frames: &Frames) -> Result<(), Fail> {
+impl<R: Abort + AllocGlobal> Check<R> for Running {
+    fn check(&self, rt: &R, profile: &Profile) -> Result<(), Fail> {
+        let frames = profile.frames();
         let container = Some(CONTAINER.body()?);
         let first = BOX.body()?;
         let mut sum = Totals::unit();
@@ -166,15 +170,16 @@ impl Check for Running {
 
 #[test]
 fn running_sum(rt: HostRuntime) -> Result<(), Fail> {
-    on_box_ship(&rt, &Running)
+    on_two_frames(&rt, &Running)
 }
 
 /// The container put in where there is the box.
 #[derive(Clone, Copy)]
 struct Added;
 
-impl Check for Added {
-    fn check(&self, rt: &(impl Abort + AllocGlobal), frames: &Frames) -> Result<(), Fail> {
+impl<R: Abort + AllocGlobal> Check<R> for Added {
+    fn check(&self, rt: &R, profile: &Profile) -> Result<(), Fail> {
+        let frames = profile.frames();
         let mut sum = Totals::of(&BOX.body()?, frames);
         sum.add(&CONTAINER.body()?, frames);
         assert_eq!(rt; values(&sum).as_slice(), OF_BOTH.as_slice());
@@ -185,5 +190,5 @@ impl Check for Added {
 
 #[test]
 fn one_body_more(rt: HostRuntime) -> Result<(), Fail> {
-    on_box_ship(&rt, &Added)
+    on_two_frames(&rt, &Added)
 }

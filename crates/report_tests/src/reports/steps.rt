@@ -270,7 +270,7 @@ fn names_of_tanks(rt: HostRuntime) -> Result<(), Fail> {
         )?;
         let steps = joined(rt.alloc(), &[b"kind,a,b,c\ntank,", name, b",500000,\n"])?;
         let run = Run {
-            tanks: tanks.as_slice(),
+            tanks: Some(tanks.as_slice()),
             steps: Some(steps.as_slice()),
             ..IDLE
         };

@@ -1,7 +1,7 @@
 //! The loads of the box ship, empty and with a container of 20,500 kg. One millimetre of draught is 200 cm2 of each section, and 512.5 kg of an
 //! interval of 25 m.
 use super::cargo::{Container, floating, loaded};
-use super::ships::{Check, on_box_ship};
+use box_ship::{Check, on_box_ship};
 use hydrostat::DraughtLine;
 use ship_profile::Profile;
 use std::process::Abort;
@@ -54,25 +54,16 @@ static AFT: Condition = Condition {
     closing: -769,
 };
 
-/// The first five of these numbers.
-fn first_five<T: Copy + Default>(numbers: &[T]) -> [T; 5] {
-    let mut five = [T::default(); 5];
-    for (place, number) in five.iter_mut().zip(numbers) {
-        *place = *number;
-    }
-    five
-}
-
-impl Check for Condition {
-    fn check(&self, rt: &(impl Abort + AllocGlobal), profile: &Profile) -> Result<(), Fail> {
+impl<R: Abort + AllocGlobal> Check<R> for Condition {
+    fn check(&self, rt: &R, profile: &Profile) -> Result<(), Fail> {
         let sum = loaded(profile, self.container)?;
         let afloat = floating(profile, &sum)?;
         let hull = Hull::new(profile);
         let line = DraughtLine::new(&afloat.afloat);
         let mut near = BonjeanRow::default();
         let strains = strains_along(profile, &hull, &sum, &line, &mut near).ok_or("areas")?;
-        assert_eq!(rt; first_five(&strains.loads.shear), self.shear);
-        assert_eq!(rt; first_five(&strains.loads.bending), self.bending);
+        assert_eq!(rt; &strains.loads.shear[..5], self.shear.as_slice());
+        assert_eq!(rt; &strains.loads.bending[..5], self.bending.as_slice());
         assert_eq!(rt; strains.closing, self.closing);
         let loads = loads_of(profile, &sum, &afloat).ok().ok_or("loads")?;
         assert_eq!(rt; loads.shear.as_slice(), strains.loads.shear.as_slice());
@@ -100,8 +91,8 @@ fn loads_of_container_aft(rt: HostRuntime) -> Result<(), Fail> {
 #[derive(Clone, Copy)]
 struct OfHull;
 
-impl Check for OfHull {
-    fn check(&self, rt: &(impl Abort + AllocGlobal), profile: &Profile) -> Result<(), Fail> {
+impl<R: Abort + AllocGlobal> Check<R> for OfHull {
+    fn check(&self, rt: &R, profile: &Profile) -> Result<(), Fail> {
         let hull = Hull::new(profile);
         for frame in 0..5usize {
             assert_eq!(rt; hull.intervals_aft(frame), frame);
