@@ -111,3 +111,22 @@ static CONDITIONS: [Row; 4] = [
 fn conditions(rt: HostRuntime) -> Result<(), Fail> {
     on_box_ship(&rt, &Rows(&CONDITIONS))
 }
+
+/// Looks at a draught that is decided in 64 bits: with the two containers of the second row it is 4,027.54 mm at 25,000.
+#[derive(Clone, Copy)]
+struct Decided;
+
+impl<R: Abort + AllocGlobal> Check<R> for Decided {
+    fn check(&self, rt: &R, profile: &Profile) -> Result<(), Fail> {
+        let sum = sum_of(profile, CONDITIONS[1].masses)?;
+        let floats = floating_of(profile, &sum).ok().ok_or("afloat")?;
+        let line = DraughtLine::new(&floats.afloat);
+        assert_eq!(rt; line.decided(length(25_000)?), Some(4_027));
+        Ok(())
+    }
+}
+
+#[test]
+fn draught_in_64_bits(rt: HostRuntime) -> Result<(), Fail> {
+    on_box_ship(&rt, &Decided)
+}

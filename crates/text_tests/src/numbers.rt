@@ -118,6 +118,13 @@ fn a_line_behind_another(rt: HostRuntime) {
     };
     assert_eq!(&rt; text.as_str(), "é 7031/-42 PASS\n");
     assert_eq!(&rt; line.room(), ROOM - 14);
+    line.clear();
+    assert_eq!(&rt; line.room(), ROOM);
+    line.put_natural(5);
+    let Ok(()) = line.append_to(&mut text) else {
+        panic!(&rt; "no memory")
+    };
+    assert_eq!(&rt; text.as_str(), "é 7031/-42 PASS\n5");
 }
 
 #[test]

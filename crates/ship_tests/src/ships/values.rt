@@ -104,6 +104,8 @@ enum Asked {
     LeastGm,
     /// Where the container of a cell stands.
     Cell(Cell),
+    /// The number of a cell.
+    CellNumber(Cell),
     /// The number of a tank by its name.
     Tank(&'static str),
     /// A tank that holds so many kg.
@@ -160,6 +162,7 @@ fn shown(alloc: Global, profile: &Profile, asked: Asked) -> Result<String, Fail>
         Asked::Bonjean => curves_text(alloc, profile.bonjean()),
         Asked::LeastGm => least_gm_text(alloc, profile),
         Asked::Cell(cell) => debug_text(alloc, profile.cell(cell)),
+        Asked::CellNumber(cell) => debug_text(alloc, profile.cell_number(cell)),
         Asked::Tank(name) => debug_text(alloc, profile.tank(name.as_bytes())),
         Asked::Filling(tank, kg) => debug_text(alloc, profile.tank_item(tank, kg)),
     }
@@ -184,7 +187,7 @@ fn check_answer(
 }
 
 /// Each number as its file has it; a filling on the straight line between two rows, each figure rounded down.
-static UNLIKE: [(Asked, &str); 21] = [
+static UNLIKE: [(Asked, &str); 23] = [
     (
         Asked::Limits,
         "(41, [Mm { mm: 90001 }, Mm { mm: 7003 }, Mm { mm: 604 }], [505, 4006])",
@@ -242,6 +245,22 @@ Some([1100, 1150]) Some([1200, 1250]) Some([1300, 1350]) None",
     ),
     (
         Asked::Cell(Cell {
+            bay: 1,
+            row: 2,
+            tier: 84,
+        }),
+        "None",
+    ),
+    (
+        Asked::CellNumber(Cell {
+            bay: 5,
+            row: 2,
+            tier: 84,
+        }),
+        "Some(1)",
+    ),
+    (
+        Asked::CellNumber(Cell {
             bay: 1,
             row: 2,
             tier: 84,
