@@ -77,6 +77,7 @@ static UNLIKE_GM: &[u8] = b"kg,gm
 2000078,379
 ";
 
+/// Her files.
 pub fn unlike_ship() -> ProfileBytes<'static> {
     ProfileBytes {
         ship: UNLIKE_SHIP,
