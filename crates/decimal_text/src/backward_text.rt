@@ -1,5 +1,6 @@
 ghost use Rattle.std.specs.Prelude.{◌≡◌, ◌+◌, ◌-◌, ◌<◌, ◌≤◌, ◌∷◌, ◌++◌, [], length, replicate, IsAscii, is_ok, string_bytes, if◌then◌else◌};
 ghost use Rattle.std.specs.Fmt.{decimal, signed_decimal};
+ghost use Rattle.decimal_text.specs.Quads.{sign_of};
 
 use crate::four_digits::FourDigits;
 use itoa::Buffer;
@@ -113,22 +114,36 @@ impl<'a> BackwardText<'a> {
         self.put_zeros(digits.saturating_sub(written));
     }
 
-    /// Puts a whole number before the text: a minus sign if it is negative, and its decimal digits.
+    /// Puts a whole number before the text, a minus sign if it is negative and its decimal digits, and before it a byte that parts it from what
+    /// will stand there.
     #[inline]
-    pub fn put_number(&mut self, n: i128)
-        requires room { length self.old + 40 ≤ ROOM }
-        ensures text { self.new ≡ signed_decimal n ++ self.old }
-        ensures short { length self.new ≤ length self.old + 40 }
+    pub fn put_parted(&mut self, byte: u8, n: i128)
+        requires ascii { byte < 128 }
+        requires room { length self.old + 41 ≤ ROOM }
+        ensures text { self.new ≡ (byte ∷ signed_decimal n) ++ self.old }
+        ensures short { length self.new ≤ length self.old + 41 }
     {
         let magnitude = n.unsigned_abs();
         if magnitude > u64::MAX as u128 {
             self.put_wide(n);
+            self.put_byte(byte);
             return;
         }
-        self.put_natural(magnitude as u64);
-        if n < 0 {
-            self.put_byte(b'-');
-        }
+        self.put_signed(byte, n < 0, magnitude as u64);
+    }
+
+    /// Puts a number of 64 bits with its sign before the text, and before it a byte.
+    #[inline]
+    fn put_signed(&mut self, byte: u8, is_negative: bool, n: u64)
+        requires ascii { byte < 128 }
+        requires room { length self.old + 22 ≤ ROOM }
+        ensures text { self.new ≡ (byte ∷ (sign_of is_negative ++ decimal n)) ++ self.old }
+        ensures short { length self.new ≤ length self.old + 22 }
+    {
+        // Where the text begins is kept in a register meanwhile, since each byte written might be part of it otherwise.
+        self.start = self
+            .digits
+            .write_parted(byte, is_negative, n, &mut self.bytes, self.start);
     }
 
     /// Puts a whole number of any size before the text.

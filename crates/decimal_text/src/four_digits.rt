@@ -1,6 +1,6 @@
-ghost use Rattle.std.specs.Prelude.{◌≡◌, ◌+◌, ◌*◌, ◌≤◌, ◌<◌, ◌++◌, length, drop};
+ghost use Rattle.std.specs.Prelude.{◌≡◌, ◌+◌, ◌*◌, ◌≤◌, ◌<◌, ◌∷◌, ◌++◌, length, drop};
 ghost use Rattle.std.specs.Fmt.{decimal};
-ghost use Rattle.decimal_text.specs.Quads.{AreQuads, quad};
+ghost use Rattle.decimal_text.specs.Quads.{AreQuads, quad, sign_of};
 
 use std::alloc::{AllocError, Global};
 
@@ -45,6 +45,33 @@ fn zeros_before(n: u64) -> usize
     if n >= 10 { 2 } else { 3 }
 }
 
+/// Writes a byte that ends at `end`, and answers where it stands.
+#[inline(always)]
+fn write_byte(bytes: &mut [u8], end: usize, byte: u8) -> usize
+    requires room { 1 ≤ end }
+    requires end { end ≤ length bytes.old }
+    ensures near { result + 1 ≡ end }
+    ensures written { drop result bytes.new ≡ byte ∷ drop end bytes.old }
+{
+    bytes[end - 1] = byte;
+    end - 1
+}
+
+/// Writes a minus sign that ends at `end`, where one is asked for, and answers where the text then begins. A byte in front is lost.
+#[inline(always)]
+fn write_sign(bytes: &mut [u8], end: usize, is_negative: bool) -> usize
+    requires room { 1 ≤ end }
+    requires end { end ≤ length bytes.old }
+    ensures near { end ≤ result + 1 }
+    ensures inside { result ≤ end }
+    ensures size { length bytes.new ≡ length bytes.old }
+    ensures written { drop result bytes.new ≡ sign_of is_negative ++ drop end bytes.old }
+{
+    // It is written in any case, so that there is no branch.
+    bytes[end - 1] = b'-';
+    if is_negative { end - 1 } else { end }
+}
+
 impl FourDigits {
     /// Makes the table, of 40,000 bytes.
     pub fn new(alloc: Global) -> Result<FourDigits, AllocError> {
@@ -62,12 +89,7 @@ impl FourDigits {
         requires room { at + 4 ≤ length bytes.old }
         ensures { drop at bytes.new ≡ quad n ++ drop (at + 4) bytes.old }
     {
-        let four = self.table[n as usize];
-        // From the last to the first, so that each is put before what stands already.
-        bytes[at + 3] = four[3];
-        bytes[at + 2] = four[2];
-        bytes[at + 1] = four[1];
-        bytes[at] = four[0];
+        bytes[at..at + 4].copy_from_slice(&self.table[n as usize]);
     }
 
     /// Writes the digits of a number below 10,000 so that they end at `end`, and answers where they begin.
@@ -99,5 +121,28 @@ impl FourDigits {
             at -= 4;
         }
         self.write_short(left, bytes, at)
+    }
+
+    /// Writes a sign, where one is asked for, and the digits of a number so that they end at `end`, and a byte that parts them from what will stand
+    /// before, and answers where it stands.
+    #[inline]
+    pub(crate) fn write_parted(
+        &self,
+        byte: u8,
+        is_negative: bool,
+        n: u64,
+        bytes: &mut [u8],
+        end: usize,
+    ) -> usize
+        requires room { 22 ≤ end }
+        requires end { end ≤ length bytes.old }
+        ensures near { end ≤ result + 22 }
+        ensures inside { result ≤ end }
+        ensures written { drop result bytes.new
+            ≡ byte ∷ (sign_of is_negative ++ decimal n) ++ drop end bytes.old }
+    {
+        let digits = self.write(n, bytes, end);
+        let start = write_sign(bytes, digits, is_negative);
+        write_byte(bytes, start, byte)
     }
 }

@@ -1,6 +1,6 @@
 ghost use Rattle.std.specs.Prelude.{◌≡◌, ◌++◌, ◌∷◌, ◌-◌, ◌+◌, ◌*◌, ◌<◌, ◌≤◌, OnOk, Some, length, slice_get, string_bytes};
 ghost use Rattle.criteria.specs.Judgement.{read};
-ghost use Rattle.seq_report.specs.Columns.{columns, figure_of, figures_text, frame_text, frames_text, frames_up_to, heading_of, headings_text, next_frame_text, number_text, numbers_text};
+ghost use Rattle.seq_report.specs.Columns.{columns, figure_of, figures_text, frame_text, frames_text, heading_of, headings_text, number_text, numbers_text};
 
 use criteria::Figures;
 use decimal_text::BackwardText;
@@ -112,26 +112,19 @@ pub fn write_headings(text: &mut String) -> Result<(), AllocError>
     Ok(())
 }
 
-/// Puts a number before the line, or a dash where there is none.
-fn put_number(line: &mut BackwardText<'_>, number: Option<i128>)
-    requires room { length line.old + 40 ≤ 2048 }
-    ensures text { line.new ≡ number_text number ++ line.old }
-    ensures short { length line.new ≤ length line.old + 40 }
-{
-    match number {
-        Some(number) => line.put_number(number),
-        None => line.put_byte(b'-'),
-    }
-}
-
-/// Puts the figure of a column, behind a space, before the line.
+/// Puts the figure of a column, or a dash where there is none, behind a space, before the line.
 fn put_figure(line: &mut BackwardText<'_>, figures: &Figures, column: Column)
     requires room { length line.old + 41 ≤ 2048 }
     ensures text { line.new ≡ (32 ∷ number_text (figure_of (read figures.now) column)) ++ line.old }
     ensures short { length line.new ≤ length line.old + 41 }
 {
-    put_number(line, column.figure(figures));
-    line.put_byte(b' ');
+    match column.figure(figures) {
+        Some(number) => line.put_parted(b' ', number),
+        None => {
+            line.put_byte(b'-');
+            line.put_byte(b' ');
+        }
+    }
 }
 
 /// Puts the figures of the columns, each behind a space, before the line.
@@ -147,42 +140,16 @@ fn put_numbers(line: &mut BackwardText<'_>, figures: &Figures)
     }
 }
 
-/// Puts the shear force and the bending moment at a frame before the line.
-fn put_frame(line: &mut BackwardText<'_>, figures: &Figures, i: usize)
+/// Puts the shear force and the bending moment at a frame before the line, and before them a byte.
+fn put_frame(line: &mut BackwardText<'_>, figures: &Figures, i: usize, byte: u8)
     requires frame { i < 16 }
-    requires room { length line.old + 81 ≤ 2048 }
-    ensures text { line.new ≡ frame_text (read figures.now) i ++ line.old }
-    ensures short { length line.new ≤ length line.old + 81 }
-{
-    line.put_number(figures.bending[i]);
-    line.put_byte(b'/');
-    line.put_number(figures.shear[i]);
-}
-
-/// Puts the same of a frame behind another before the line.
-fn put_next_frame(line: &mut BackwardText<'_>, figures: &Figures, i: usize)
-    requires frame { i < 16 }
+    requires ascii { byte < 128 }
     requires room { length line.old + 82 ≤ 2048 }
-    ensures text { line.new ≡ next_frame_text (read figures.now) i ++ line.old }
+    ensures text { line.new ≡ (byte ∷ frame_text (read figures.now) i) ++ line.old }
     ensures short { length line.new ≤ length line.old + 82 }
 {
-    put_frame(line, figures, i);
-    line.put_byte(b';');
-}
-
-/// Puts the shear forces and bending moments up to the frame of this number, the first being 0, before the line.
-fn put_frames_up_to(line: &mut BackwardText<'_>, figures: &Figures, last: usize)
-    requires frame { last < 16 }
-    requires room { length line.old + (82 * last + 81) ≤ 2048 }
-    ensures text { line.new ≡ frames_up_to (read figures.now) last ++ line.old }
-    ensures short { length line.new ≤ length line.old + (82 * last + 81) }
-{
-    let mut left = last;
-    while left > 0 {
-        put_next_frame(line, figures, left);
-        left -= 1;
-    }
-    put_frame(line, figures, 0);
+    line.put_parted(b'/', figures.bending[i]);
+    line.put_parted(byte, figures.shear[i]);
 }
 
 /// Puts the shear forces and bending moments at so many frames, behind a space, before the line.
@@ -193,8 +160,12 @@ fn put_frames(line: &mut BackwardText<'_>, figures: &Figures, frames: usize)
     ensures text { line.new ≡ frames_text (read figures.now) frames ++ line.old }
     ensures short { length line.new ≤ length line.old + 1312 }
 {
-    put_frames_up_to(line, figures, frames - 1);
-    line.put_byte(b' ');
+    let mut left = frames - 1;
+    while left > 0 {
+        put_frame(line, figures, left, b';');
+        left -= 1;
+    }
+    put_frame(line, figures, 0, b' ');
 }
 
 /// Puts all figures of a line, each behind a space, before what follows them.

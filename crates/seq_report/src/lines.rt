@@ -124,8 +124,7 @@ fn put_judged(end: &mut BackwardText<'_>, line: &StepLine)
 {
     end.put_byte(b'\n');
     put_verdict(end, line);
-    end.put_number(line.kg);
-    end.put_byte(b' ');
+    end.put_parted(b' ', line.kg);
 }
 
 /// Writes the line of a step, with the lift that leads to it. The line is put together in `end`, whatever that held before.

@@ -49,7 +49,7 @@ pub fn strains_along(
     let Some(mut area) = area_near(curves, line, 0, stations[0], near) else {
         return None;
     };
-    let first = *near;
+    let first = near.number();
     for k in 0..stations.len() - 1 {
         let x = mm(stations[k + 1]);
         let Some(here) = area_near(curves, line, k + 1, stations[k + 1], near) else {
@@ -63,6 +63,6 @@ pub fn strains_along(
         area = here;
     }
     // The next condition's walk begins at the first station too.
-    *near = first;
+    near.begin_at(first);
     Some(strains_by(profile, hull, totals, &volumes, &arms))
 }

@@ -82,14 +82,17 @@ fn other_row(arguments: &[i128], x: i64, near: &mut usize) -> Option<usize>
     enclosing_near(arguments, i128::from(x), near)
 }
 
-/// The row of the Bonjean table in which the last draught was found, its ends, and about 2^64 over its length, by which quotients are guessed. Answers
-/// don't depend on them.
+/// How many reciprocals are kept. Rows whose numbers differ by a multiple of it share one.
+const RECIPROCALS: usize = 32;
+
+/// The row of the Bonjean table in which the last draught was found, and its ends; and about 2^64 over the length of each row in which one was found,
+/// by which quotients are guessed. Answers don't depend on them.
 #[derive(Clone, Copy, Default)]
 pub struct BonjeanRow {
     row: usize,
     lower: i64,
     upper: i64,
-    reciprocal: u64,
+    reciprocals: [u64; RECIPROCALS],
 }
 
 impl BonjeanRow {
@@ -107,6 +110,20 @@ impl BonjeanRow {
         self.row = row;
         self.lower = place(arguments[row]);
         self.upper = place(arguments[row + 1]);
+    }
+
+    /// The number of the row.
+    pub fn number(&self) -> usize
+        ensures { result ≡ self.now.row }
+    {
+        self.row
+    }
+
+    /// Has the next condition's draughts looked for first in the row of this number.
+    pub fn begin_at(&mut self, row: usize)
+        ensures { self.new.row ≡ row }
+    {
+        self.row = row;
     }
 
     /// Whether `x` lies in this row, and above its lower end.
@@ -195,14 +212,8 @@ impl BonjeanRow {
     {
         let lower = short(ys[self.row]);
         let upper = short(ys[self.row + 1]);
-        on_line(
-            self.lower,
-            lower,
-            self.upper,
-            upper,
-            x,
-            &mut self.reciprocal,
-        )
+        let reciprocal = &mut self.reciprocals[self.row % RECIPROCALS];
+        on_line(self.lower, lower, self.upper, upper, x, reciprocal)
     }
 
     /// The area of a Bonjean curve at a draught, rounded down; `None` outside of the table.

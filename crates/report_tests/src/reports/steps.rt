@@ -269,9 +269,11 @@ fn names_of_tanks(rt: HostRuntime) -> Result<(), Fail> {
             ],
         )?;
         let steps = joined(rt.alloc(), &[b"kind,a,b,c\ntank,", name, b",500000,\n"])?;
+        // In one place, so that both are lent as long.
+        let texts = [tanks, steps];
         let run = Run {
-            tanks: Some(tanks.as_slice()),
-            steps: Some(steps.as_slice()),
+            tanks: Some(texts[0].as_slice()),
+            steps: Some(texts[1].as_slice()),
             ..IDLE
         };
         let (_, text) = written(&rt, &run);

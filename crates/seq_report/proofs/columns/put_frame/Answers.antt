@@ -10,8 +10,8 @@ returns-clause-text c =
     let i = c.args.i in
     let shear-fits : FitsSigned w128 (f.shear i) = search rules in
     let bending-fits : FitsSigned w128 (f.bending i) = search rules in
-    let shear = signed_decimal (f.shear i) in
+    let shear = c.args.byte ∷ signed_decimal (f.shear i) in
     let bending = signed_decimal (f.bending i) in
-    c.put_number-2.ensures.text ∙ ap (λ z. signed_decimal z ++ c.put_byte.new.self) (to_z-of_z shear-fits)
-    ∙ ap (λ (t : List ℕ). shear ++ t) (c.put_byte.ensures ∙ ap (λ (t : List ℕ). 47 ∷ t) (c.put_number.ensures.text ∙ ap (λ z. signed_decimal z ++ c.args.line.now) (to_z-of_z bending-fits)))
+    c.put_parted-2.ensures.text ∙ ap (λ z. (c.args.byte ∷ signed_decimal z) ++ c.put_parted.new.self) (to_z-of_z shear-fits)
+    ∙ ap (λ (t : List ℕ). shear ++ t) (c.put_parted.ensures.text ∙ ap (λ z. (47 ∷ signed_decimal z) ++ c.args.line.now) (to_z-of_z bending-fits))
     ∙ sym (append_assoc shear (codes "/" ++ bending) c.args.line.now)
