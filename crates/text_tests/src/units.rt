@@ -1,7 +1,8 @@
 use std::alloc::{AllocError, Global};
 use units_core::{
     Angle, Body, Cell, Frac, Kg, Mm, Place, at_least, at_most, conflicts, cosine, enclosing,
-    enclosing_near, floor, gap, interp, interp_floor, read, same_items, same_rows, sine, span,
+    enclosing_near, floor, floor_near, gap, interp, interp_floor, is_rest, read, same_items,
+    same_rows, sine, span, upper_half,
 };
 
 /// Masses in kg, and whether each is one of a container.
@@ -452,4 +453,18 @@ fn bodies_are_told_apart(rt: HostRuntime) {
         let is_first = *kg == 21 && *x == 3 && *fsm == 34;
         assert_eq!(rt; same_items(&[first], &[other]), is_first, "{other:?}");
     }
+}
+
+// 17 is 3 times 5, and 2 more: whatever is guessed, 17 / 5 is 3, and -17 / 5 is -4, rounded down.
+#[test]
+fn quotients_by_a_guess(rt: HostRuntime) {
+    for guess in [3, 2, 4, -4, i64::MAX] {
+        assert_eq!(rt; floor_near(Frac { num: 17, den: 5 }, guess), 3, "{guess}");
+        assert_eq!(rt; floor_near(Frac { num: -17, den: 5 }, guess), -4, "{guess}");
+    }
+    for (rest, is) in [(-1, false), (0, true), (4, true), (5, false)] {
+        assert_eq!(rt; is_rest(rest, 5), is, "{rest}");
+    }
+    // 7 * 2^63 over 2^64 is 3.5
+    assert_eq!(rt; upper_half(1 << 63, 7), 3);
 }
