@@ -113,14 +113,14 @@ impl BonjeanRow {
     }
 
     /// The number of the row.
-    pub fn number(&self) -> usize
+    pub(crate) fn number(&self) -> usize
         ensures { result ≡ self.now.row }
     {
         self.row
     }
 
     /// Has the next condition's draughts looked for first in the row of this number.
-    pub fn begin_at(&mut self, row: usize)
+    pub(crate) fn begin_at(&mut self, row: usize)
         ensures { self.new.row ≡ row }
     {
         self.row = row;
