@@ -11,6 +11,8 @@ use Rattle.criteria.specs.Criteria.{not_met}
 use Rattle.hydrostat.specs.declared.outside.Outside.{Outside}
 use Rattle.hydrostat.specs.declared.outside.Outside.TheVariants as cause
 use Rattle.criteria.specs.declared.criterion.Criterion.{Criterion}
+use Rattle.criteria.specs.declared.verdicts.Judged.{Judged}
+use Rattle.criteria.specs.declared.verdicts.Judged.TheVariants as parts
 use Rattle.criteria.specs.declared.verdicts.Verdict.{Verdict}
 use Rattle.criteria.specs.declared.verdicts.Verdict.TheVariants as verdict
 use Rattle.criteria.specs.declared.figures.Figures.{Figures}
@@ -91,6 +93,11 @@ abbrev pub told : Verdict → Judgement
 told (verdict.Outside outside) = IsOutside outside
 told (verdict.Fails criterion figures) = Fails criterion (read figures)
 told (verdict.Passes figures) = Passes (read figures)
+
+-- what was found, with the figures
+abbrev pub told_with : Judged → Figures → Judgement
+told_with (parts.Outside outside) figures = IsOutside outside
+told_with (parts.Within criterion) figures = judged criterion (read figures)
 
 -- Outside of the first table, in their order, in which the ship isn't: the hydrostatic table, the cross curves, the Bonjean curves at
 -- each station, then the closing error, and last the least metacentric heights. Within all of them, by the first criterion that doesn't hold.

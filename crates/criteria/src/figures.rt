@@ -12,7 +12,7 @@ use units_core::Mm;
 
 /// The figures of a condition, rounded down: lengths in mm, the list in ten-thousandths, areas in mm degrees, the angle in degrees, forces
 /// in kg, bending moments in kg mm.
-#[derive(Clone, Copy)]
+#[derive(Clone, Copy, Default)]
 pub struct Figures {
     pub gm: i128,
     pub mean: i128,
@@ -30,35 +30,37 @@ pub struct Figures {
     pub bending: [i128; 16],
 }
 
-/// The figures of a ship of this length afloat, with these draughts along her, measures of her levers and loads.
-#[inline(always)]
-pub fn figures_of(
-    a: &Afloat,
-    length: Mm,
-    line: &DraughtLine,
-    curve: &CurveMeasures,
-    strains: &Strains,
-) -> Figures
-    requires of { line.now.of ≡ a.now }
-    requires length { a.now.lbp ≡ length }
-    ensures { AreFigures result a.now curve.now strains.now }
-{
-    // The levers have one divisor, and so have the areas.
-    let near = Reciprocal::of(curve.best.den);
-    Figures {
-        gm: gm_down(a),
-        mean: mean_down(a),
-        aft: aft_down(line),
-        fwd: fwd_down(line, length),
-        trim: trim_down(a),
-        list: list_down(a),
-        area_30: area_figure(curve.sum_30, near),
-        area_40: area_figure(curve.sum_40, near),
-        area_30_40: area_figure(curve.sum_30_40, near),
-        lever: lever_down(curve, near),
-        angle: angle(curve),
-        closing: strains.closing,
-        shear: strains.loads.shear,
-        bending: strains.loads.bending,
+impl Figures {
+    /// Makes them those of a ship of this length afloat, with these draughts along her, measures of her levers and loads. They are written where they
+    /// are, since a move of them is a copy of 700 bytes.
+    #[inline(always)]
+    pub(crate) fn set(
+        &mut self,
+        a: &Afloat,
+        length: Mm,
+        line: &DraughtLine,
+        curve: &CurveMeasures,
+        strains: &Strains,
+    )
+        requires of { line.now.of ≡ a.now }
+        requires length { a.now.lbp ≡ length }
+        ensures { AreFigures self.new a.now curve.now strains.now }
+    {
+        // The levers have one divisor, and so have the areas.
+        let near = Reciprocal::of(curve.best.den);
+        self.gm = gm_down(a);
+        self.mean = mean_down(a);
+        self.aft = aft_down(line);
+        self.fwd = fwd_down(line, length);
+        self.trim = trim_down(a);
+        self.list = list_down(a);
+        self.area_30 = area_figure(curve.sum_30, near);
+        self.area_40 = area_figure(curve.sum_40, near);
+        self.area_30_40 = area_figure(curve.sum_30_40, near);
+        self.lever = lever_down(curve, near);
+        self.angle = angle(curve);
+        self.closing = strains.closing;
+        self.shear = strains.loads.shear;
+        self.bending = strains.loads.bending;
     }
 }

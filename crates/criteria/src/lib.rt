@@ -15,4 +15,4 @@ mod verdicts;
 
 pub use criterion::Criterion;
 pub use figures::Figures;
-pub use verdicts::{Nearby, Verdict, judge, judge_near};
+pub use verdicts::{Judged, Nearby, Verdict, judge, judge_into, judge_near};

@@ -10,10 +10,10 @@ ghost use Rattle.strength.specs.Immersed.{areas_of};
 ghost use Rattle.strength.specs.Running.{AreStrains};
 ghost use Rattle.strength.specs.Strains.{closes, closing_of};
 ghost use Rattle.criteria.specs.Least.{least_at};
-ghost use Rattle.criteria.specs.Judgement.{IsOutside, IsWhatever, judged, judgement_of, read, told, with_areas, with_closing, with_least, with_levers};
+ghost use Rattle.criteria.specs.Judgement.{IsWhatever, judgement_of, told, told_with, with_areas, with_closing, with_least, with_levers};
 
 use crate::criterion::Criterion;
-use crate::figures::{Figures, figures_of};
+use crate::figures::Figures;
 use crate::holding::first_not_met;
 use crate::levers::measures_of;
 use crate::limits::least_gm;
@@ -34,6 +34,15 @@ pub enum Verdict {
     Passes(Figures),
 }
 
+/// How a condition is judged, its figures apart.
+#[derive(Clone, Copy)]
+pub enum Judged {
+    /// It lies outside of one of the ship's tables, and has no figures.
+    Outside(Outside),
+    /// It lies within them; this is the first criterion that doesn't hold, if there is one.
+    Within(Option<Criterion>),
+}
+
 /// In which interval of each table a condition was found. The next condition, which differs by one step, is looked for there first; the
 /// answer doesn't depend on it.
 #[derive(Clone, Copy, Default)]
@@ -42,24 +51,6 @@ pub struct Nearby {
     levers: usize,
     bonjean: BonjeanRow,
     least_gm: usize,
-}
-
-/// The verdict by the first criterion that isn't met, if there is one. The figures are lent, since each move of them is a copy of 700 bytes.
-#[inline(always)]
-fn judged(criterion: Option<Criterion>, figures: &Figures) -> Verdict
-    ensures { told result ≡ judged criterion (read figures.now) }
-{
-    match criterion {
-        Some(criterion) => Verdict::Fails(criterion, *figures),
-        None => Verdict::Passes(*figures),
-    }
-}
-
-/// Outside of a table there are no figures.
-fn outside(cause: Outside) -> Verdict
-    ensures { told result ≡ IsOutside cause }
-{
-    Verdict::Outside(cause)
 }
 
 /// The verdict, once the loads are known.
@@ -72,10 +63,11 @@ fn judge_loaded(
     line: &DraughtLine,
     strains: &Strains,
     near: &mut Nearby,
-) -> Verdict
+    figures: &mut Figures,
+) -> Judged
     requires line { line.now.of ≡ a.now }
     requires length { a.now.lbp ≡ profile.now.ship.lbp }
-    ensures { IsWhatever (told result) levers.now.num levers.now.den
+    ensures { IsWhatever (told_with result figures.new) levers.now.num levers.now.den
         (λ y. with_least profile.now.ship (water a.now) (load a.now) y strains.now.closing
         (λ i. at strains.now.loads.shear i) (λ i. at strains.now.loads.bending i)
         (least_at profile.now.tables.least_gm (values totals.now Weight))) }
@@ -83,11 +75,10 @@ fn judge_loaded(
     match least_gm(profile, totals, &mut near.least_gm) {
         Some(least) => {
             let curve = measures_of(levers);
-            let criterion = first_not_met(profile, a, &curve, &strains.loads, least);
-            let figures = figures_of(a, profile.lbp(), line, &curve, strains);
-            judged(criterion, &figures)
+            figures.set(a, profile.lbp(), line, &curve, strains);
+            Judged::Within(first_not_met(profile, a, &curve, &strains.loads, least))
         }
-        None => outside(Outside::GmLimit),
+        None => Judged::Outside(Outside::GmLimit),
     }
 }
 
@@ -101,21 +92,22 @@ fn judge_strained(
     line: &DraughtLine,
     strains: &Strains,
     near: &mut Nearby,
-) -> Verdict
+    figures: &mut Figures,
+) -> Judged
     requires line { line.now.of ≡ a.now }
     requires loaded { load a.now ≡ load_of (values totals.now) }
     requires length { a.now.lbp ≡ profile.now.ship.lbp }
     ensures { (areas : ℕ → ℤ)
         → AreStrains strains.now (values totals.now) areas profile.now.ship
-        → IsWhatever (told result) levers.now.num levers.now.den
+        → IsWhatever (told_with result figures.new) levers.now.num levers.now.den
         (λ y. with_closing profile.now (values totals.now) (water a.now) y areas
         (closes (closing_of (values totals.now) areas profile.now.ship.stations)
         profile.now.ship.closing_max)) }
 {
     if closes(strains.closing, profile.closing_max()) {
-        judge_loaded(profile, totals, a, levers, line, strains, near)
+        judge_loaded(profile, totals, a, levers, line, strains, near, figures)
     } else {
-        outside(Outside::Closing)
+        Judged::Outside(Outside::Closing)
     }
 }
 
@@ -128,13 +120,14 @@ fn judge_righted(
     levers: &Levers,
     hull: &Hull,
     near: &mut Nearby,
-) -> Verdict
+    figures: &mut Figures,
+) -> Judged
     requires of { IsHullOf hull.now profile.now.ship }
     requires bounded { IsBounded (values totals.now) }
     requires kg { unsigned_abs (values totals.now Weight) ≤ 10 ^ 9 }
     requires loaded { load a.now ≡ load_of (values totals.now) }
     requires length { a.now.lbp ≡ profile.now.ship.lbp }
-    ensures { IsWhatever (told result) levers.now.num levers.now.den
+    ensures { IsWhatever (told_with result figures.new) levers.now.num levers.now.den
         (λ y. with_areas profile.now (values totals.now) (water a.now) y
         (areas_of profile.now.tables.bonjean (draught_at (water a.now)
         (load_of (values totals.now)) profile.now.ship.lbp) profile.now.ship.stations)) }
@@ -142,8 +135,8 @@ fn judge_righted(
     let line = DraughtLine::new(a);
     let strains = strains_along(profile, hull, totals, &line, &mut near.bonjean);
     match &strains {
-        Some(strains) => judge_strained(profile, totals, a, levers, &line, strains, near),
-        None => outside(Outside::Bonjean),
+        Some(strains) => judge_strained(profile, totals, a, levers, &line, strains, near, figures),
+        None => Judged::Outside(Outside::Bonjean),
     }
 }
 
@@ -155,33 +148,62 @@ fn judge_afloat(
     a: &Afloat,
     hull: &Hull,
     near: &mut Nearby,
-) -> Verdict
+    figures: &mut Figures,
+) -> Judged
     requires of { IsHullOf hull.now profile.now.ship }
     requires bounded { IsBounded (values totals.now) }
     requires kg { unsigned_abs (values totals.now Weight) ≤ 10 ^ 9 }
     requires side { unsigned_abs (values totals.now MomentY) ≤ 10 ^ 15 }
     requires loaded { load a.now ≡ load_of (values totals.now) }
     requires length { a.now.lbp ≡ profile.now.ship.lbp }
-    ensures { told result ≡ with_levers profile.now (values totals.now) (water a.now)
+    ensures { told_with result figures.new ≡ with_levers profile.now (values totals.now) (water a.now)
         (levers_of profile.now.tables.levers (values totals.now)) }
 {
     match levers_aboard(profile, totals, &mut near.levers) {
-        Some(levers) => judge_righted(profile, totals, a, &levers, hull, near),
-        None => outside(Outside::Levers),
+        Some(levers) => judge_righted(profile, totals, a, &levers, hull, near, figures),
+        None => Judged::Outside(Outside::Levers),
     }
 }
 
-/// How the ship is judged with this aboard, as [`judge`] says. What depends on her profile alone comes with `hull`; her tables are searched
-/// from where the last condition was.
+/// How the ship is judged with this aboard, as [`judge`] says, and her figures, where she lies within her tables; else they may be any. What
+/// depends on her profile alone comes with `hull`; her tables are searched from where the last condition was.
+pub fn judge_into(
+    profile: &Profile,
+    hull: &Hull,
+    totals: &Totals,
+    near: &mut Nearby,
+    figures: &mut Figures,
+) -> Judged
+    requires of { IsHullOf hull.now profile.now.ship }
+    requires bounded { IsBounded (values totals.now) }
+    ensures { told_with result figures.new ≡ judgement_of profile.now (values totals.now) }
+{
+    match on_waterline(profile, totals, &mut near.hydro) {
+        Some(a) => judge_afloat(profile, totals, &a, hull, near, figures),
+        None => Judged::Outside(Outside::Hydro),
+    }
+}
+
+/// The verdict of what was found and the figures.
+fn verdict_of(judged: Judged, figures: &Figures) -> Verdict
+    ensures { told result ≡ told_with judged figures.now }
+{
+    match judged {
+        Judged::Outside(cause) => Verdict::Outside(cause),
+        Judged::Within(Some(criterion)) => Verdict::Fails(criterion, *figures),
+        Judged::Within(None) => Verdict::Passes(*figures),
+    }
+}
+
+/// How the ship is judged with this aboard, as [`judge`] says, by [`judge_into`].
 pub fn judge_near(profile: &Profile, hull: &Hull, totals: &Totals, near: &mut Nearby) -> Verdict
     requires of { IsHullOf hull.now profile.now.ship }
     requires bounded { IsBounded (values totals.now) }
     ensures { told result ≡ judgement_of profile.now (values totals.now) }
 {
-    match on_waterline(profile, totals, &mut near.hydro) {
-        Some(a) => judge_afloat(profile, totals, &a, hull, near),
-        None => outside(Outside::Hydro),
-    }
+    let mut figures = Figures::default();
+    let judged = judge_into(profile, hull, totals, near, &mut figures);
+    verdict_of(judged, &figures)
 }
 
 /// How the ship is judged with this aboard.

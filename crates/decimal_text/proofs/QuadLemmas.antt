@@ -1,9 +1,13 @@
 -- Four digits, and the number that they end.
-use Rattle.std.proofs.Common.{◌≡◌, Bool, true, false, ℕ, zero, suc, ◌+◌, ◌-◌, ◌/◌, ◌%◌, ◌^◌, ◌<◌, ◌≤◌, List, [], ◌∷◌, ◌++◌, drop, length, sym, ap, ◌∙◌, arith, append_assoc}
+use Rattle.std.proofs.Common.{◌≡◌, Bool, true, false, ℕ, zero, suc, ◌+◌, ◌-◌, ◌/◌, ◌%◌, ◌^◌, ◌<◌, ◌≤◌, List, [], ◌∷◌, ◌++◌, drop, length, sym, ap, ◌∙◌, arith, append_assoc, lt_of_not-le}
 use Rattle.std.proofs.lemmas.Fmt.{decimal_digit, decimal_nonempty, length-decimal-le}
 use Rattle.std.proofs.lemmas.List.{drop-append-le, drop-drop}
 use Rattle.std.specs.Fmt.{decimal}
-use Rattle.std.specs.Prelude.{IsAscii}
+use Rattle.std.specs.Prelude.{IsAscii, nat_lt}
+use Rattle.std.proofs.lemmas.Bool.Decides.{nat_tests}
+use mathlib.Core.Logic.{dite}
+use native.Mathlib.Decide.{dec_le}
+use mir.Val.{bool_byte}
 use Rattle.itoa.proofs.Decimal.{pair, decimal_two, decimal_pair, decimal_four}
 use Rattle.decimal_text.specs.Quads.{quad, sign_of}
 
@@ -21,6 +25,24 @@ text_two n low high = let e : n % 100 ≡ n = omega arith in ap pair e ∙ sym (
 
 pub text_one : (n : ℕ) → n < 10 → (48 + n % 100 % 10) ∷ [] ≡ decimal n
 text_one n high = let e : n % 100 % 10 ≡ n = omega arith in (λ j. (48 + e j) ∷ []) ∙ sym (decimal_digit n high)
+
+-- how many of its four digits are zeros in front
+abbrev pub zeros : ℕ → ℕ
+zeros n = bool_byte (nat_lt n 1000) + bool_byte (nat_lt n 100) + bool_byte (nat_lt n 10)
+
+pub so_many : (n z : ℕ) → zeros n ≡ z → drop z (quad n) ≡ decimal n → z + length (decimal n) ≡ 4
+    → (drop (zeros n) (quad n) ≡ decimal n) × (zeros n + length (decimal n) ≡ 4)
+so_many n z e text len = (ap (λ z. drop z (quad n)) e ∙ text, ap (λ z. z + length (decimal n)) e ∙ len)
+
+pub behind_zeros : (n : ℕ) → n < 10000 → (drop (zeros n) (quad n) ≡ decimal n) × (zeros n + length (decimal n) ≡ 4)
+behind_zeros n high =
+    dite (dec_le 1000 n)
+    (λ low. let text = text_four n low high in so_many n 0 (grind (arith, nat_tests)) text (omega (arith, ap length text)))
+    (λ three. let three = lt_of_not-le three in dite (dec_le 100 n)
+    (λ low. let text = text_three n low three in so_many n 1 (grind (arith, nat_tests)) text (omega (arith, ap length text)))
+    (λ two. let two = lt_of_not-le two in dite (dec_le 10 n)
+    (λ low. let text = text_two n low two in so_many n 2 (grind (arith, nat_tests)) text (omega (arith, ap length text)))
+    (λ one. let one = lt_of_not-le one in let text = text_one n one in so_many n 3 (grind (arith, nat_tests)) text (omega (arith, ap length text)))))
 
 -- behind the zeros stands the number
 pub after_zeros : (bytes rest : List ℕ) (n at zeros : ℕ) → drop at bytes ≡ quad n ++ rest → zeros ≤ 4 → drop zeros (quad n) ≡ decimal n

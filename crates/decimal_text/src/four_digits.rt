@@ -29,20 +29,27 @@ fn digits_of(n: u64) -> [u8; 4]
     ]
 }
 
-/// How many zeros stand in front of a number among its four digits; of 0 the last one is its digit.
+/// How many zeros stand in front of a number among its four digits; of 0 the last one is its digit. It is added up without a branch, since no
+/// processor foretells how long the next number is.
 #[inline(always)]
 fn zeros_before(n: u64) -> usize
     requires { n < 10000 }
     ensures text { drop result (quad n) ≡ decimal n }
     ensures rest { result + length (decimal n) ≡ 4 }
 {
-    if n >= 1000 {
-        return 0;
-    }
-    if n >= 100 {
-        return 1;
-    }
-    if n >= 10 { 2 } else { 3 }
+    usize::from(n < 1000) + usize::from(n < 100) + usize::from(n < 10)
+}
+
+/// Writes four bytes over four. They are written as one number: `copy_from_slice` also looks whether the two overlap.
+#[inline(always)]
+fn write_over(bytes: &mut [u8], four: [u8; 4])
+    requires { length bytes.old ≡ 4 }
+    ensures { bytes.new ≡ four }
+{
+    let Some(all) = bytes.as_mut_array() else {
+        unreachable!()
+    };
+    *all = four;
 }
 
 /// Writes a byte that ends at `end`, and answers where it stands.
@@ -89,7 +96,7 @@ impl FourDigits {
         requires room { at + 4 ≤ length bytes.old }
         ensures { drop at bytes.new ≡ quad n ++ drop (at + 4) bytes.old }
     {
-        bytes[at..at + 4].copy_from_slice(&self.table[n as usize]);
+        write_over(&mut bytes[at..at + 4], self.table[n as usize]);
     }
 
     /// Writes the digits of a number below 10,000 so that they end at `end`, and answers where they begin.

@@ -14,7 +14,7 @@ use Rattle.hydrostat.specs.declared.outside.Outside.TheVariants.{Hydro, Levers, 
 use Rattle.criteria.specs.declared.criterion.Criterion.{Criterion}
 use Rattle.criteria.specs.declared.criterion.Criterion.TheVariants.{C0}
 use Rattle.criteria.specs.Criteria.{code_of}
-use Rattle.criteria.specs.Judgement.{Judgement, IsOutside, Fails, Passes, judgement_of, told}
+use Rattle.criteria.specs.Judgement.{Judgement, IsOutside, Fails, Passes, judgement_of, told_with}
 use Rattle.seq_report.specs.declared.step_lines.StepLine.{StepLine}
 use Rattle.seq_report.specs.Columns.{figures_text, headings_text}
 use Rattle.seq_report.specs.Lifts.{lift_text}
@@ -41,7 +41,7 @@ pub record Said : Type 0 where
   pub judgement : Judgement
 
 abbrev pub said : StepLine → Said
-said l = record { step = l.step; kg = l.kg; frames = l.frames; judgement = told l.verdict }
+said l = record { step = l.step; kg = l.kg; frames = l.frames; judgement = told_with l.judged l.figures }
 
 -- the figures of a line, and the verdict; or the word OUTSIDE and the cause
 abbrev pub verdict_text : ℕ → Judgement → List ℕ

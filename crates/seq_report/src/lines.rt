@@ -3,14 +3,14 @@ ghost use Rattle.moment_sums.specs.Bounded.{IsBounded};
 ghost use Rattle.moment_sums.specs.Kept.{values};
 ghost use Rattle.strength.specs.Hull.{IsHullOf};
 ghost use Rattle.criteria.specs.Criteria.{code_of};
-ghost use Rattle.criteria.specs.Judgement.{told};
+ghost use Rattle.criteria.specs.Judgement.{told_with};
 ghost use Rattle.seq_report.specs.Report.{cause_of, failure_of, first_failed, header_of, judged_headings, judged_text, last_line, line_of, said, step_line, verdict_text};
 
 use crate::causes::cause;
 use crate::columns::{put_figures, write_headings};
 use crate::lifts::put_lift;
 use crate::step_lines::StepLine;
-use criteria::{Criterion, Nearby, Verdict, judge_near};
+use criteria::{Criterion, Figures, Judged, Nearby, judge_into};
 use decimal_text::BackwardText;
 use hydrostat::Outside;
 use lift_sequence::Op;
@@ -21,43 +21,54 @@ use std::fmt::Write;
 use strength::Hull;
 
 impl StepLine {
-    /// The line of a step at which everything aboard adds up to this.
-    pub fn judged(
+    /// A line that says nothing of a step yet.
+    pub fn new() -> StepLine {
+        StepLine {
+            step: 0,
+            kg: 0,
+            frames: 1,
+            judged: Judged::Within(None),
+            figures: Figures::default(),
+        }
+    }
+
+    /// Makes it the line of a step at which everything aboard adds up to this. Figures are written where they are, since a move of them is a copy of
+    /// 700 bytes.
+    pub fn judge(
+        &mut self,
         profile: &Profile,
         hull: &Hull,
         step: u32,
         sum: &Totals,
         near: &mut Nearby,
-    ) -> StepLine
+    )
         requires of { IsHullOf hull.now profile.now.ship }
         requires bounded { IsBounded (values sum.now) }
-        ensures { said result ≡ step_line profile.now step (values sum.now) }
+        ensures { said self.new ≡ step_line profile.now step (values sum.now) }
     {
-        StepLine {
-            step,
-            kg: sum.kg(),
-            frames: profile.frames().as_slice().len(),
-            verdict: judge_near(profile, hull, sum, near),
-        }
+        self.step = step;
+        self.kg = sum.kg();
+        self.frames = profile.frames().as_slice().len();
+        self.judged = judge_into(profile, hull, sum, near, &mut self.figures);
     }
 
     /// The step, where it fails, with its first criterion.
     pub fn failure(&self) -> Option<(u32, Criterion)>
         ensures { result ≡ failure_of (said self.now) }
     {
-        let criterion = first_failed(&self.verdict)?;
+        let criterion = first_failed(self)?;
         Some((self.step, criterion))
     }
 }
 
-/// The first criterion that a condition fails, which is C0 outside of the tables.
-fn first_failed(verdict: &Verdict) -> Option<Criterion>
-    ensures { result ≡ first_failed (told verdict.now) }
+/// The first criterion that a step fails, which is C0 outside of the tables.
+fn first_failed(line: &StepLine) -> Option<Criterion>
+    ensures { result ≡ first_failed (told_with line.now.judged line.now.figures) }
 {
-    match *verdict {
-        Verdict::Outside(_) => Some(Criterion::C0),
-        Verdict::Fails(criterion, _) => Some(criterion),
-        Verdict::Passes(_) => None,
+    match line.judged {
+        Judged::Outside(_) => Some(Criterion::C0),
+        Judged::Within(Some(criterion)) => Some(criterion),
+        Judged::Within(None) => None,
     }
 }
 
@@ -100,18 +111,18 @@ fn put_outside(end: &mut BackwardText<'_>, outside: Outside)
 /// Puts how a step is judged before the end of its line: its figures and the verdict, or what lies outside of the tables.
 fn put_verdict(end: &mut BackwardText<'_>, line: &StepLine)
     requires room { length end.old + 1813 ≤ 2048 }
-    ensures text { end.new ≡ verdict_text line.now.frames (told line.now.verdict) ++ end.old }
+    ensures text { end.new ≡ verdict_text line.now.frames (told_with line.now.judged line.now.figures) ++ end.old }
     ensures short { length end.new ≤ length end.old + 1813 }
 {
-    match &line.verdict {
-        Verdict::Outside(outside) => put_outside(end, *outside),
-        Verdict::Fails(criterion, figures) => {
-            put_failure(end, *criterion);
-            put_figures(end, figures, line.frames);
+    match line.judged {
+        Judged::Outside(outside) => put_outside(end, outside),
+        Judged::Within(Some(criterion)) => {
+            put_failure(end, criterion);
+            put_figures(end, &line.figures, line.frames);
         }
-        Verdict::Passes(figures) => {
+        Judged::Within(None) => {
             end.put_words(" PASS");
-            put_figures(end, figures, line.frames);
+            put_figures(end, &line.figures, line.frames);
         }
     }
 }

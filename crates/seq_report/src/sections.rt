@@ -112,8 +112,9 @@ pub fn make_section(
     let mut sum = chunk.first;
     let mut near = Nearby::default();
     let mut end = BackwardText::new(digits);
+    let mut line = StepLine::new();
     for k in chunk.start..chunk.end {
-        let line = StepLine::judged(case.profile, hull, k, &sum, &mut near);
+        line.judge(case.profile, hull, k, &sum, &mut near);
         section.add(&mut end, case.lift(k), &line)?;
         pass_line(case, k, &mut sum);
     }
@@ -129,8 +130,9 @@ pub fn first_failing(case: CaseView<'_>, hull: &Hull, chunk: &Chunk) -> Option<(
 {
     let mut sum = chunk.first;
     let mut near = Nearby::default();
+    let mut line = StepLine::new();
     for k in chunk.start..chunk.end {
-        let line = StepLine::judged(case.profile, hull, k, &sum, &mut near);
+        line.judge(case.profile, hull, k, &sum, &mut near);
         let failure = line.failure();
         if failure.is_some() {
             return failure;

@@ -1,6 +1,6 @@
 ghost use Rattle.std.specs.Prelude.{◌≤◌};
 
-use criteria::Verdict;
+use criteria::{Figures, Judged};
 
 /// What the line of a step says: its number, the displacement in kg, and how it is judged.
 #[derive(Clone, Copy)]
@@ -12,7 +12,9 @@ pub struct StepLine {
     /// How many frames the ship has.
     pub frames: usize,
     /// How the condition is judged.
-    pub verdict: Verdict,
+    pub judged: Judged,
+    /// Its figures, where it lies within the tables.
+    pub figures: Figures,
     pub ghost some: { 1 ≤ frames },
     pub ghost few: { frames ≤ 16 },
 }

@@ -3,7 +3,7 @@ ghost use Rattle.std.specs.Str.{bytes_eq};
 ghost use Rattle.units_core.specs.Bodies.{IsWithinLimits};
 ghost use Rattle.units_core.specs.Interpolation.{at, interval, reading, Encloses, Rises, IsWithin};
 ghost use Rattle.units_core.specs.Ratio.{floor_of};
-ghost use Rattle.ship_tables.specs.Record.{TankTable, IsTankTable, IsAtLeast, tank_table, tanks_in, filling, filling_in, IsPlace};
+ghost use Rattle.ship_tables.specs.Record.{TankTable, IsTankTable, IsAtLeast, tank_table, tanks_in, filling, filling_in, numbers_of, IsPlace};
 
 use crate::curves::numbers;
 use crate::extents::Extent;
@@ -16,15 +16,21 @@ use std::alloc::Global;
 use std::marker::Model;
 use units_core::{Body, Mm, Place, enclosing, interp_floor, same_items, same_rows};
 
+/// Where the fillings of a tank stand, column by column.
+#[derive(Debug, Drop)]
+struct Centres {
+    x: Vec<i128>,
+    y: Vec<i128>,
+    z: Vec<i128>,
+    half: Vec<i128>,
+}
+
 /// The table of a tank, column by column: at each mass of its filling where that stands, and its free surface moment. It has 2 to
 /// 64 rows, and the masses rise.
 #[derive(Debug, Drop)]
 struct TankRows {
     kg: Vec<i128>,
-    x: Vec<i128>,
-    y: Vec<i128>,
-    z: Vec<i128>,
-    half: Vec<i128>,
+    centres: Centres,
     fsm: Vec<i128>,
 }
 
@@ -33,9 +39,9 @@ impl Model for TankRows {
 
     ghost Value = { TankTable };
 
-    ghost view = { λ t. record { kg = t.kg.items; x = t.x.items; y = t.y.items; z = t.z.items; half = t.half.items; fsm = t.fsm.items } };
+    ghost view = { λ t. record { kg = t.kg.items; x = t.centres.x.items; y = t.centres.y.items; z = t.centres.z.items; half = t.centres.half.items; fsm = t.fsm.items } };
 
-    ghost invariant = { λ t. IsTankTable (record { kg = t.kg.items; x = t.x.items; y = t.y.items; z = t.z.items; half = t.half.items; fsm = t.fsm.items }) };
+    ghost invariant = { λ t. IsTankTable (record { kg = t.kg.items; x = t.centres.x.items; y = t.centres.y.items; z = t.centres.z.items; half = t.centres.half.items; fsm = t.fsm.items }) };
 }
 
 /// The value of a column at `x` in a row's interval of its arguments, rounded down.
@@ -96,11 +102,12 @@ impl TankRows {
     {
         let mass = i128::from(kg);
         let masses = self.kg.as_slice();
+        let centres = &self.centres;
         Place {
-            x: length_at(masses, self.x.as_slice(), row, mass),
-            y: length_at(masses, self.y.as_slice(), row, mass),
-            z: length_at(masses, self.z.as_slice(), row, mass),
-            half: length_at(masses, self.half.as_slice(), row, mass),
+            x: length_at(masses, centres.x.as_slice(), row, mass),
+            y: length_at(masses, centres.y.as_slice(), row, mass),
+            z: length_at(masses, centres.z.as_slice(), row, mass),
+            half: length_at(masses, centres.half.as_slice(), row, mass),
         }
     }
 
@@ -127,10 +134,10 @@ impl TankRows {
         ensures { IsTrue result ↔ (self.now ≡ other.now) }
     {
         same_items(&self.kg, &other.kg)
-            && same_items(&self.x, &other.x)
-            && same_items(&self.y, &other.y)
-            && same_items(&self.z, &other.z)
-            && same_items(&self.half, &other.half)
+            && same_items(&self.centres.x, &other.centres.x)
+            && same_items(&self.centres.y, &other.centres.y)
+            && same_items(&self.centres.z, &other.centres.z)
+            && same_items(&self.centres.half, &other.centres.half)
             && same_items(&self.fsm, &other.fsm)
     }
 }
@@ -214,6 +221,21 @@ impl Tanks {
     }
 }
 
+/// Where the fillings of a tank's rows stand.
+fn gather_centres(alloc: Global, rows: &[Row]) -> Result<Centres, TableFault>
+    ensures x { IfOk result (λ c. c.x.items ≡ numbers_of 2 rows.now) }
+    ensures y { IfOk result (λ c. c.y.items ≡ numbers_of 3 rows.now) }
+    ensures z { IfOk result (λ c. c.z.items ≡ numbers_of 4 rows.now) }
+    ensures half { IfOk result (λ c. c.half.items ≡ numbers_of 5 rows.now) }
+    ensures memory { IfErr result (λ e. e ≡ TableFault.NoMemory) }
+{
+    let x = numbers(alloc, rows, 2)?;
+    let y = numbers(alloc, rows, 3)?;
+    let z = numbers(alloc, rows, 4)?;
+    let half = numbers(alloc, rows, 5)?;
+    Ok(Centres { x, y, z, half })
+}
+
 /// The table of a tank of rows that make one.
 fn gather(alloc: Global, rows: &[Row]) -> Result<TankRows, TableFault>
     requires { IsTankTable (tank_table rows.now) }
@@ -221,19 +243,9 @@ fn gather(alloc: Global, rows: &[Row]) -> Result<TankRows, TableFault>
     ensures memory { IfErr result (λ e. e ≡ TableFault.NoMemory) }
 {
     let kg = numbers(alloc, rows, 1)?;
-    let x = numbers(alloc, rows, 2)?;
-    let y = numbers(alloc, rows, 3)?;
-    let z = numbers(alloc, rows, 4)?;
-    let half = numbers(alloc, rows, 5)?;
     let fsm = numbers(alloc, rows, 6)?;
-    Ok(TankRows {
-        kg,
-        x,
-        y,
-        z,
-        half,
-        fsm,
-    })
+    let centres = gather_centres(alloc, rows)?;
+    Ok(TankRows { kg, centres, fsm })
 }
 
 /// The tables of the tanks.

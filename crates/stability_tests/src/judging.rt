@@ -2,7 +2,7 @@ ghost use Rattle.strength.specs.Hull.{IsHullOf};
 
 use super::masses::{BLOCK, Mass, sum_of};
 use box_ship::{Check, on_box_ship};
-use criteria::{Criterion, Figures, Nearby, Verdict, judge, judge_near};
+use criteria::{Criterion, Figures, Judged, Nearby, Verdict, judge, judge_into, judge_near};
 use hydrostat::Outside;
 use ship_profile::Profile;
 use std::process::Abort;
@@ -31,24 +31,30 @@ fn told(verdict: &Verdict) -> Said {
     }
 }
 
+/// The same of a verdict whose figures stand apart.
+fn told_apart(judged: Judged, figures: &Figures) -> Said {
+    match judged {
+        Judged::Outside(outside) => Said::Lies(outside),
+        Judged::Within(criterion) => Said::Figures(three(figures), criterion),
+    }
+}
+
 /// Masses aboard, and what is told of them.
 struct Row {
     masses: &'static [Mass],
     told: Said,
 }
 
-/// The verdict on a row alone, and on it behind the rows before it.
-fn judged(
-    profile: &Profile,
-    hull: &Hull,
-    row: &Row,
-    near: &mut Nearby,
-) -> Result<(Said, Said), Fail>
+/// The verdict on a row alone, and on it behind the rows before it, with its figures and apart from them.
+fn judged(profile: &Profile, hull: &Hull, row: &Row, near: &mut Nearby) -> Result<[Said; 3], Fail>
     requires { IsHullOf hull.now profile.now.ship }
 {
     let sum = sum_of(profile, row.masses)?;
     let alone = told(&judge(profile, &sum));
-    Ok((alone, told(&judge_near(profile, hull, &sum, near))))
+    let behind = told(&judge_near(profile, hull, &sum, near));
+    let mut figures = Figures::default();
+    let judged = judge_into(profile, hull, &sum, near, &mut figures);
+    Ok([alone, behind, told_apart(judged, &figures)])
 }
 
 /// Compares rows with the box ship.
@@ -60,8 +66,8 @@ impl<R: Abort + AllocGlobal> Check<R> for Rows {
         let hull = Hull::new(profile);
         let mut near = Nearby::default();
         for row in self.0 {
-            let both = judged(profile, &hull, row, &mut near)?;
-            assert_eq!(rt; both, (row.told, row.told));
+            let told = judged(profile, &hull, row, &mut near)?;
+            assert_eq!(rt; told, [row.told; 3]);
         }
         Ok(())
     }

@@ -85,17 +85,28 @@ fn other_row(arguments: &[i128], x: i64, near: &mut usize) -> Option<usize>
 /// How many reciprocals are kept. Rows whose numbers differ by a multiple of it share one.
 const RECIPROCALS: usize = 32;
 
-/// The row of the Bonjean table in which the last draught was found, and its ends; and about 2^64 over the length of each row in which one was found,
-/// by which quotients are guessed. Answers don't depend on them.
+/// The row of the Bonjean table in which the last draught was found, and its ends; and about 2^64 over its length, and over those of the rows in which
+/// one was found before, by which quotients are guessed. Answers don't depend on them.
 #[derive(Clone, Copy, Default)]
 pub struct BonjeanRow {
     row: usize,
     lower: i64,
     upper: i64,
+    reciprocal: u64,
     reciprocals: [u64; RECIPROCALS],
 }
 
 impl BonjeanRow {
+    /// Keeps the reciprocal of this row, and takes the one that was kept of another.
+    fn change_reciprocal(&mut self, row: usize)
+        ensures row { self.new.row ≡ self.old.row }
+        ensures lower { self.new.lower ≡ self.old.lower }
+        ensures upper { self.new.upper ≡ self.old.upper }
+    {
+        self.reciprocals[self.row % RECIPROCALS] = self.reciprocal;
+        self.reciprocal = self.reciprocals[row % RECIPROCALS];
+    }
+
     /// Makes the row that of this table, the first one where the table has no such row.
     pub fn of(&mut self, arguments: &[i128])
         requires rows { 2 ≤ length arguments.now }
@@ -123,6 +134,7 @@ impl BonjeanRow {
     pub(crate) fn begin_at(&mut self, row: usize)
         ensures { self.new.row ≡ row }
     {
+        self.change_reciprocal(row);
         self.row = row;
     }
 
@@ -167,6 +179,7 @@ impl BonjeanRow {
         let mut near = self.row;
         match other_row(arguments, x, &mut near) {
             Some(row) => {
+                self.change_reciprocal(row);
                 self.row = row;
                 self.lower = place(arguments[row]);
                 self.upper = place(arguments[row + 1]);
@@ -212,7 +225,7 @@ impl BonjeanRow {
     {
         let lower = short(ys[self.row]);
         let upper = short(ys[self.row + 1]);
-        let reciprocal = &mut self.reciprocals[self.row % RECIPROCALS];
+        let reciprocal = &mut self.reciprocal;
         on_line(self.lower, lower, self.upper, upper, x, reciprocal)
     }
 

@@ -1,20 +1,13 @@
-use super::refusals::EMPTY_CELL_OUT;
-use super::{IDLE, Run, check_refusal_by, options, written_by};
+use super::{check_refusal, inputs, options, written_by};
 use claim_run::Gate;
 use seq_report::{CutPlan, Summary, Through, report};
 use std::sync::atomic::Ordering::SeqCst;
 use std::sync::atomic::{AtomicBool, AtomicU64};
 use std::test::Fail;
 
-/// The container of 20,500 kg to starboard, and then one of 20,500 kg on deck amidships.
+/// The container of 20,500 kg to starboard, and then one of 20,500 kg on deck amidships: two steps, and so three lines.
 const TWO_LOADS: &[u8] =
     b"UNB+UNOA:2+PLAN+SHIP+250101:1200+8'UNH+1+MOVINS:D:95B:UN'HAN+LOA'LOC+147+0030782::5'MEA+WT++KGM:20500'EQD+CN+ABCU1234560'HAN+LOA'LOC+147+0050082::5'MEA+WT++KGM:20500'EQD+CN+ABCU7654321'UNT+10+1'UNZ+1+8'";
-
-/// Two steps, and so three lines.
-const TWICE: Run<'static> = Run {
-    movins: TWO_LOADS,
-    ..IDLE
-};
 
 // 8,200,000 and twice 20,500 kg are 8,241,000 kg; the draught rises by 2,000 mm over 4,100,000 kg.
 const LINES: &[u8] =
@@ -32,7 +25,7 @@ static PLANS: [CutPlan<'static>; 5] = [
 fn two_loads(rt: HostRuntime) {
     for plan in &PLANS {
         for workers in [1, 2, 16] {
-            let (outcome, text) = written_by(&rt, &TWICE, &options(workers, *plan));
+            let (outcome, text) = written_by(&rt, TWO_LOADS, &options(workers, *plan));
             assert_eq!(rt; text.as_slice(), LINES);
             assert_eq!(rt;
                 outcome,
@@ -86,7 +79,7 @@ fn gated_workers(rt: HostRuntime) {
         &rt,
         rt.alloc(),
         &gate,
-        &TWICE.inputs(),
+        &inputs(TWO_LOADS),
         &options(2, CutPlan::Every(1)),
         &mut Through::new(&mut taken),
     );
@@ -110,17 +103,17 @@ static UNFIT: [(CutPlan<'static>, &str); 8] = [
 #[test]
 fn plans_that_do_not_fit(rt: HostRuntime) -> Result<(), Fail> {
     for (plan, refusal) in &UNFIT {
-        check_refusal_by(&rt, &TWICE, *plan, refusal)?;
+        check_refusal(&rt, TWO_LOADS, *plan, refusal)?;
     }
     Ok(())
 }
 
+/// A container is discharged from an empty cell.
+const EMPTY_CELL_OUT: &[u8] =
+    b"UNB+UNOA:2+PLAN+SHIP+250101:1200+8'UNH+1+MOVINS:D:95B:UN'HAN+DIS'LOC+147+0050082'EQD+CN+ABCU1234560'UNT+5+1'UNZ+1+8'";
+
 // A sequence that can't be is told before a plan that doesn't fit.
 #[test]
 fn sequence_before_plan(rt: HostRuntime) -> Result<(), Fail> {
-    let run = Run {
-        movins: EMPTY_CELL_OUT,
-        ..TWICE
-    };
-    check_refusal_by(&rt, &run, CutPlan::Every(0), "F5 S4 step 1")
+    check_refusal(&rt, EMPTY_CELL_OUT, CutPlan::Every(0), "F5 S4 step 1")
 }

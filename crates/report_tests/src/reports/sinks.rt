@@ -1,4 +1,5 @@
-use super::{IDLE, PLAN, options};
+use super::{PLAN, inputs, options};
+use box_ship::NO_MOVES;
 use claim_run::Open;
 use seq_report::{RunFault, Sink, SinkFailed, Summary, Through, report};
 use std::io;
@@ -39,7 +40,7 @@ fn written_to(
         rt,
         rt.alloc(),
         &Open,
-        &IDLE.inputs(),
+        &inputs(NO_MOVES),
         &options(2, PLAN),
         &mut Through::new(writer),
     )

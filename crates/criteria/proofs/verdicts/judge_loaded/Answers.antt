@@ -11,12 +11,12 @@ returns-in-Some c =
     let l = c.args.strains.now.loads in
     let ship = c.args.profile.now.ship in
     let len = c.requires.length in
-    let f = c.figures_of-figures.ensures.floating in
-    let s = c.figures_of-figures.ensures.loads in
+    let f = c.set.ensures.floating in
+    let s = c.set.ensures.loads in
     λ y are.
     let measures = c.measures_of-curve.ensures y are in
-    let r = c.figures_of-figures.ensures.righting y measures in
-    let figures : read c.figures_of-figures.result ≡ printed_of (water a) (load a) ship.lbp y c.args.strains.now.closing (λ i. at l.shear i) (λ i. at l.bending i) = λ j. record {
+    let r = c.set.ensures.righting y measures in
+    let figures : read c.set.new.self ≡ printed_of (water a) (load a) ship.lbp y c.args.strains.now.closing (λ i. at l.shear i) (λ i. at l.bending i) = λ j. record {
       gm = f.gm j;
       mean = f.mean j;
       aft = (f.aft ∙ (λ i. floor_of (draught_at (water a) (load a) (len i) (pos 0)))) j;
@@ -32,11 +32,11 @@ returns-in-Some c =
       shear = λ i. s.shear i j;
       bending = λ i. s.bending i j;
     } in
-    (c.judged.ensures ∙ (λ j. judged (c.first_not_met-criterion.ensures y measures j) (figures j)))
+    (λ j. judged (c.first_not_met.ensures y measures j) (figures j))
     ∙ ap (with_least ship (water a) (load a) y c.args.strains.now.closing (λ i. at l.shear i) (λ i. at l.bending i)) c.in-Some.ensures.value
 
 pub returns-in-None : goal.returns-in-None
 returns-in-None c =
     let a = c.args.a.now in
     let l = c.args.strains.now.loads in
-    λ y are. c.outside.ensures ∙ ap (with_least c.args.profile.now.ship (water a) (load a) y c.args.strains.now.closing (λ i. at l.shear i) (λ i. at l.bending i)) c.in-None.ensures.value
+    λ y are. ap (with_least c.args.profile.now.ship (water a) (load a) y c.args.strains.now.closing (λ i. at l.shear i) (λ i. at l.bending i)) c.in-None.ensures.value

@@ -32,4 +32,4 @@ returns-else-closes c =
     λ areas is.
     let test : false ≡ closes (closing_of s areas p.ship.stations) p.ship.closing_max =
     sym c.if-closes.false ∙ (c.closes.ensures ∙ (λ j. closes ((to_z-of_z e ∙ is.is_closing) j) ((to_z-of_z m ∙ c.closing_max.ensures.value) j))) in
-    λ y are. c.outside.ensures ∙ ap (λ (b : Bool). with_closing p s (water a) y areas b) test
+    λ y are. ap (λ (b : Bool). with_closing p s (water a) y areas b) test

@@ -10,8 +10,8 @@ use Rattle.seq_report.proofs.ChunkLemmas.{first_here, or_other, or_some}
 use Rattle.seq_report.proofs.SumLemmas.{line_told, next_size, next_sum, sum_here}
 use Rattle.seq_report.proofs.sections.first_failing.Goals as goal
 
-pub judged-line-requires-clause-bounded : goal.judged-line-requires-clause-bounded
-judged-line-requires-clause-bounded c =
+pub judge-requires-clause-bounded : goal.judge-requires-clause-bounded
+judge-requires-clause-bounded c =
     let case = seen c.args.case in
     let ready = c.requires.ready in
     let k = c.loop-k.k in
@@ -27,7 +27,7 @@ returns-then-is_some c =
     let case = seen c.args.case in
     let k = c.loop-k.k in
     let e = c.args.chunk.now.end in
-    let told = line_told case c.requires.ready k (values c.loop-k.sum) _ _ c.loop-k.invariant.sum c.judged-line.ensures c.failure-failure.ensures in
+    let told = line_told case c.requires.ready k (values c.loop-k.sum) _ _ c.loop-k.invariant.sum c.judge.ensures c.failure-failure.ensures in
     sym (c.loop-k.invariant.first ∙ first_here case k e c.loop-k-test.true
     ∙ ap (λ o. option_or o (first_of (map (line_in case) (range_with_len (k + 1) (e - (k + 1)))))) (sym told)
     ∙ or_some c.failure-failure.result _ (sym c.is_some.ensures ∙ c.if-is_some.true))
@@ -39,7 +39,7 @@ loop-k-preserved c =
     let k = c.loop-k.k in
     let e = c.args.chunk.now.end in
     let inv = c.loop-k.invariant in
-    let told = line_told case ready k (values c.loop-k.sum) _ _ inv.sum c.judged-line.ensures c.failure-failure.ensures in
+    let told = line_told case ready k (values c.loop-k.sum) _ _ inv.sum c.judge.ensures c.failure-failure.ensures in
     let inside : k ≤ 120000 = omega (arith, c.loop-k-test.true, c.requires.chunk.inside, ready.few) in
     record {
       first = inv.first ∙ first_here case k e c.loop-k-test.true

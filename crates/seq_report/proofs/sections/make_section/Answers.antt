@@ -11,8 +11,8 @@ use Rattle.seq_report.proofs.ChunkLemmas.{part_more}
 use Rattle.seq_report.proofs.SumLemmas.{line_here, next_size, next_sum, sum_here}
 use Rattle.seq_report.proofs.sections.make_section.Goals as goal
 
-pub judged-line-requires-clause-bounded : goal.judged-line-requires-clause-bounded
-judged-line-requires-clause-bounded c =
+pub judge-requires-clause-bounded : goal.judge-requires-clause-bounded
+judge-requires-clause-bounded c =
     let case = seen c.args.case in
     let ready = c.requires.ready in
     let k = c.loop-k.k in
@@ -41,7 +41,7 @@ loop-k-preserved c =
     let line : Line = record { lift = lift_to ops k; step = s } in
     record {
       lines = c.in_ok-add.ensures
-          ∙ (λ j. record { text = c.loop-k.section.text ++ line_of (c.lift.ensures j) (c.judged-line.ensures j); first = option_or c.loop-k.section.first (failure_of (c.judged-line.ensures j)) })
+          ∙ (λ j. record { text = c.loop-k.section.text ++ line_of (c.lift.ensures j) (c.judge.ensures j); first = option_or c.loop-k.section.first (failure_of (c.judge.ensures j)) })
           ∙ ap (λ (p : Part). record { text = p.text ++ text_of line; first = option_or p.first (failure_of s) }) inv.lines
           ∙ part_more lines line
           ∙ ap (λ (l : Line). part_of (lines ++ l ∷ [])) (line_here case ready k (values c.loop-k.sum) inv.sum)

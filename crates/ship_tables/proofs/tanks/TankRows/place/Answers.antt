@@ -3,7 +3,7 @@ use Rattle.ship_tables.proofs.tanks.TankRows.place.Goals as goal
 
 pub returns-clause-placed : goal.returns-clause-placed
 returns-clause-placed c =
-    let half : c.as_slice-4.result.now ≡ c.self.inside.half.items = search rules in
+    let half : c.as_slice-4.result.now ≡ c.self.inside.centres.half.items = search rules in
     record {
       x_within = c.length_at.ensures.size;
       y_within = c.length_at-2.ensures.size;
