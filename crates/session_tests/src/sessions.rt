@@ -48,23 +48,6 @@ fn session(alloc: Global, movins: &[u8], steps: Option<&[u8]>) -> Result<Session
     Session::read(alloc, &inputs)
 }
 
-/// What a test does with a session, in a runtime `R`.
-trait Trial<R> {
-    fn run(&self, rt: &R, session: &mut Session) -> Result<(), Fail>;
-}
-
-/// Tries something on a session on the box ship with no container aboard. This alone owns a session, since each way of letting one go is long to
-/// prove.
-fn on_session<R: AllocGlobal, T: Trial<R>>(
-    rt: &R,
-    movins: &[u8],
-    steps: Option<&[u8]>,
-    trial: &T,
-) -> Result<(), Fail> {
-    let mut session = session(rt.alloc(), movins, steps)?;
-    trial.run(rt, &mut session)
-}
-
 /// The report of a session, as text, made by two workers in chunks of two lines.
 fn report_of(
     rt: &(impl Abort + AllocGlobal + Threads + Wait + Sync),
