@@ -13,7 +13,6 @@ use what_if::Session;
 mod bases;
 mod desks;
 mod edits;
-mod reweighs;
 
 /// The heading of a report.
 const HEADER: &str =
@@ -38,12 +37,12 @@ const TWO_LOADS: &[u8] =
     b"UNB+UNOA:2+PLAN+SHIP+250101:1200+8'UNH+1+MOVINS:D:95B:UN'HAN+LOA'LOC+147+0030782::5'MEA+WT++KGM:20500'EQD+CN+ABCU1234560'HAN+LOA'LOC+147+0050082::5'MEA+WT++KGM:20500'EQD+CN+ABCU7654321'UNT+10+1'UNZ+1+8'";
 
 /// A session on the box ship with no container aboard.
-fn session(alloc: Global, movins: &[u8], steps: Option<&[u8]>) -> Result<Session, RunFault> {
+fn session(alloc: Global, movins: &[u8]) -> Result<Session, RunFault> {
     let inputs = Inputs {
         profile: files(),
         baplie: EMPTY_PLAN,
         movins,
-        steps,
+        steps: None,
     };
     Session::read(alloc, &inputs)
 }

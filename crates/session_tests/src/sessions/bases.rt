@@ -25,8 +25,8 @@ fn loaded(alloc: Global) -> Result<Session, RunFault> {
 #[test]
 fn same_bases(rt: HostRuntime) -> Result<(), Fail> {
     let alloc = rt.alloc();
-    let one = session(alloc, TWO_LOADS, None)?;
-    let other = session(alloc, LOAD_TO_STARBOARD, None)?;
+    let one = session(alloc, TWO_LOADS)?;
+    let other = session(alloc, LOAD_TO_STARBOARD)?;
     let third = loaded(alloc)?;
     assert!(rt; one.base().same(other.base()));
     assert!(rt; !one.base().same(third.base()));

@@ -78,7 +78,7 @@ fn is_shared(
 #[test]
 fn desk_two_threads(rt: HostRuntime) -> Result<(), Fail> {
     let alloc = rt.alloc();
-    let both = session(alloc, TWO_LOADS, None)?;
+    let both = session(alloc, TWO_LOADS)?;
     let first = first_step_of(alloc, &both)?;
     let desk = Desk::new(alloc, Arc::try_clone(both.base())?)?;
     assert!(rt; desk.find(0).is_none());
