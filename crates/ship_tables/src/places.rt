@@ -1,4 +1,4 @@
-ghost use Rattle.std.specs.Prelude.{◌≡◌, ◌≢◌, ◌↔◌, IsTrue, Ok, Err, IfOk, IfErr, All, map, slice_get, ◌≤◌, ◌^◌, unsigned_abs};
+ghost use Rattle.std.specs.Prelude.{◌≡◌, ◌≢◌, ◌↔◌, IsTrue, Ok, Err, IfOk, IfErr, All, length, map, zip, slice_get, ◌≤◌, ◌^◌, unsigned_abs};
 ghost use Rattle.std.specs.List.{position};
 ghost use Rattle.std.specs.Map.{keys_of, lookup};
 ghost use Rattle.units_core.specs.Cells.{cell_eq};
@@ -95,6 +95,19 @@ fn places(alloc: Global, rows: &[Row]) -> Result<Vec<Place>, TableFault>
     Ok(places)
 }
 
+/// The cells of rows, each with where a container in it stands.
+fn gather(alloc: Global, rows: &[Row], cells: &[Cell]) -> Result<CellPlaces, TableFault>
+    requires places { All (λ r. IsPlace (place_at r)) rows.now }
+    requires size { length cells.now ≡ length rows.now }
+    ensures ok { IfOk result (λ c. c ≡ zip cells.now (map place_at rows.now)) }
+    ensures memory { IfErr result (λ e. e ≡ TableFault.NoMemory) }
+{
+    let places = places(alloc, rows)?;
+    let cells = Vec::from_slice(alloc, cells)?;
+    let cells = CellList::new(alloc, cells)?;
+    Ok(CellPlaces { cells, places })
+}
+
 /// The cells that the text of `cells.csv` writes, for a ship of this extent.
 pub fn read_places(alloc: Global, extent: &Extent, text: &[u8]) -> Result<CellPlaces, TableFault>
     ensures ok { IfOk result (λ c. places_in extent.now text.now ≡ Ok c) }
@@ -102,8 +115,5 @@ pub fn read_places(alloc: Global, extent: &Extent, text: &[u8]) -> Result<CellPl
         (λ e. e ≢ TableFault.NoMemory → places_in extent.now text.now ≡ Err e) }
 {
     let read = read_file(alloc, &cells_layout(*extent), text)?;
-    let places = places(alloc, read.rows.as_slice())?;
-    let cells = Vec::from_slice(alloc, read.cells.as_slice())?;
-    let cells = CellList::new(alloc, cells)?;
-    Ok(CellPlaces { cells, places })
+    gather(alloc, read.rows.as_slice(), read.cells.as_slice())
 }

@@ -223,10 +223,9 @@ impl Tanks {
 
 /// Where the fillings of a tank's rows stand.
 fn gather_centres(alloc: Global, rows: &[Row]) -> Result<Centres, TableFault>
-    ensures x { IfOk result (λ c. c.x.items ≡ numbers_of 2 rows.now) }
-    ensures y { IfOk result (λ c. c.y.items ≡ numbers_of 3 rows.now) }
-    ensures z { IfOk result (λ c. c.z.items ≡ numbers_of 4 rows.now) }
-    ensures half { IfOk result (λ c. c.half.items ≡ numbers_of 5 rows.now) }
+    ensures ok { IfOk result (λ c. (c.x.items ≡ numbers_of 2 rows.now)
+        × ((c.y.items ≡ numbers_of 3 rows.now)
+        × ((c.z.items ≡ numbers_of 4 rows.now) × (c.half.items ≡ numbers_of 5 rows.now)))) }
     ensures memory { IfErr result (λ e. e ≡ TableFault.NoMemory) }
 {
     let x = numbers(alloc, rows, 2)?;
