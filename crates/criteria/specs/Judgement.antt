@@ -84,9 +84,9 @@ read f = record {
   area_30_40 = f.area_30_40;
   lever = Some f.lever;
   angle = Some f.angle;
-  closing = f.closing;
-  shear = λ i. at f.shear i;
-  bending = λ i. at f.bending i;
+  closing = f.strains.closing;
+  shear = λ i. at f.strains.loads.shear i;
+  bending = λ i. at f.strains.loads.bending i;
 }
 
 abbrev pub told : Verdict → Judgement

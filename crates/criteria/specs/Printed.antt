@@ -1,13 +1,11 @@
--- Bookkeeping: the code's figures of a condition that lies within all tables, each the textbook's ratio rounded toward minus infinity.
+-- Bookkeeping: the code's figures of a condition that lies within all tables but those of the loads, each the textbook's ratio rounded toward minus infinity.
 use Rattle.std.specs.Prelude.{◌≡◌, ℕ, ◌*◌, ℤ, pos, Some, option_map}
-use Rattle.units_core.specs.Interpolation.{at}
 use Rattle.units_core.specs.Ratio.{Ratio, Is, floor_of}
 use Rattle.hydrostat.specs.declared.particulars.Afloat.{Afloat}
 use Rattle.hydrostat.specs.Floating.{Hydrostatics, Load, draught_at, gm, load, trim, water}
 use Rattle.righting.specs.Levers.{greatest_of, mm_degrees, simpson}
 use Rattle.criteria.specs.declared.measures.CurveMeasures.{CurveMeasures}
 use Rattle.criteria.specs.Measures.{AreMeasures}
-use Rattle.strength.specs.declared.loads.Strains.{Strains}
 use Rattle.criteria.specs.declared.figures.Figures.{Figures}
 use Rattle.criteria.specs.Judgement.{list_down}
 
@@ -28,16 +26,9 @@ pub record AreRighting (f : Figures) (y : ℕ → Ratio) : Type 0 where
   pub lever : Some f.lever ≡ option_map (λ k. floor_of (y k)) (greatest_of y 6 7)
   pub angle : Some f.angle ≡ option_map (λ k. 5 * k) (greatest_of y 0 13)
 
--- and the loads on her hull
-pub record AreLoads (f : Figures) (s : Strains) : Type 0 where
-  pub closing : f.closing ≡ s.closing
-  pub shear : (i : ℕ) → at f.shear i ≡ at s.loads.shear i
-  pub bending : (i : ℕ) → at f.bending i ≡ at s.loads.bending i
-
-pub record AreFigures (f : Figures) (a : Afloat) (curve : CurveMeasures) (s : Strains) : Type 0 where
+pub record AreFigures (f : Figures) (a : Afloat) (curve : CurveMeasures) : Type 0 where
   pub floating : AreFloating f (water a) (load a) a.lbp
   pub righting : (y : ℕ → Ratio) → AreMeasures curve y → AreRighting f y
-  pub loads : AreLoads f s
 
 -- of any ordinates that the measures are of
 abbrev pub IsLeverDown : ℤ → CurveMeasures → Type 0

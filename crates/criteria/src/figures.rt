@@ -25,26 +25,18 @@ pub struct Figures {
     pub area_30_40: i128,
     pub lever: i128,
     pub angle: usize,
-    pub closing: i128,
-    pub shear: [i128; 16],
-    pub bending: [i128; 16],
+    pub strains: Strains,
 }
 
 impl Figures {
-    /// Makes them those of a ship of this length afloat, with these draughts along her, measures of her levers and loads. They are written where they
-    /// are, since a move of them is a copy of 700 bytes.
+    /// Makes them those of a ship of this length afloat, with these draughts along her and measures of her levers; the loads on her hull stand there
+    /// already. They are written where they are, since a move of them is a copy of 700 bytes.
     #[inline(always)]
-    pub(crate) fn set(
-        &mut self,
-        a: &Afloat,
-        length: Mm,
-        line: &DraughtLine,
-        curve: &CurveMeasures,
-        strains: &Strains,
-    )
+    pub(crate) fn set(&mut self, a: &Afloat, length: Mm, line: &DraughtLine, curve: &CurveMeasures)
         requires of { line.now.of ≡ a.now }
         requires length { a.now.lbp ≡ length }
-        ensures { AreFigures self.new a.now curve.now strains.now }
+        ensures figures { AreFigures self.new a.now curve.now }
+        ensures strains { self.new.strains ≡ self.old.strains }
     {
         // The levers have one divisor, and so have the areas.
         let near = Reciprocal::of(curve.best.den);
@@ -59,8 +51,5 @@ impl Figures {
         self.area_30_40 = area_figure(curve.sum_30_40, near);
         self.lever = lever_down(curve, near);
         self.angle = angle(curve);
-        self.closing = strains.closing;
-        self.shear = strains.loads.shear;
-        self.bending = strains.loads.bending;
     }
 }

@@ -21,7 +21,7 @@ use hydrostat::{Afloat, DraughtLine, Outside, on_waterline};
 use moment_sums::Totals;
 use righting::{Levers, levers_aboard};
 use ship_profile::Profile;
-use strength::{BonjeanRow, Hull, Strains, closes, strains_along};
+use strength::{Hull, Walk, closes, strains_into};
 
 /// How a condition is judged.
 #[derive(Clone, Copy)]
@@ -49,11 +49,11 @@ pub enum Judged {
 pub struct Nearby {
     hydro: usize,
     levers: usize,
-    bonjean: BonjeanRow,
+    walk: Walk,
     least_gm: usize,
 }
 
-/// The verdict, once the loads are known.
+/// The verdict, once the loads are known, which stand in the figures.
 #[inline(always)]
 fn judge_loaded(
     profile: &Profile,
@@ -61,28 +61,27 @@ fn judge_loaded(
     a: &Afloat,
     levers: &Levers,
     line: &DraughtLine,
-    strains: &Strains,
     near: &mut Nearby,
     figures: &mut Figures,
 ) -> Judged
     requires line { line.now.of ≡ a.now }
     requires length { a.now.lbp ≡ profile.now.ship.lbp }
     ensures { IsWhatever (told_with result figures.new) levers.now.num levers.now.den
-        (λ y. with_least profile.now.ship (water a.now) (load a.now) y strains.now.closing
-        (λ i. at strains.now.loads.shear i) (λ i. at strains.now.loads.bending i)
+        (λ y. with_least profile.now.ship (water a.now) (load a.now) y figures.old.strains.closing
+        (λ i. at figures.old.strains.loads.shear i) (λ i. at figures.old.strains.loads.bending i)
         (least_at profile.now.tables.least_gm (values totals.now Weight))) }
 {
     match least_gm(profile, totals, &mut near.least_gm) {
         Some(least) => {
             let curve = measures_of(levers);
-            figures.set(a, profile.lbp(), line, &curve, strains);
-            Judged::Within(first_not_met(profile, a, &curve, &strains.loads, least))
+            figures.set(a, profile.lbp(), line, &curve);
+            Judged::Within(first_not_met(profile, a, &curve, &figures.strains.loads, least))
         }
         None => Judged::Outside(Outside::GmLimit),
     }
 }
 
-/// The verdict, once the loads and the closing error are known.
+/// The verdict, once the loads are worked out, which stand in the figures.
 #[inline(always)]
 fn judge_strained(
     profile: &Profile,
@@ -90,7 +89,6 @@ fn judge_strained(
     a: &Afloat,
     levers: &Levers,
     line: &DraughtLine,
-    strains: &Strains,
     near: &mut Nearby,
     figures: &mut Figures,
 ) -> Judged
@@ -98,14 +96,14 @@ fn judge_strained(
     requires loaded { load a.now ≡ load_of (values totals.now) }
     requires length { a.now.lbp ≡ profile.now.ship.lbp }
     ensures { (areas : ℕ → ℤ)
-        → AreStrains strains.now (values totals.now) areas profile.now.ship
+        → AreStrains figures.old.strains (values totals.now) areas profile.now.ship
         → IsWhatever (told_with result figures.new) levers.now.num levers.now.den
         (λ y. with_closing profile.now (values totals.now) (water a.now) y areas
         (closes (closing_of (values totals.now) areas profile.now.ship.stations)
         profile.now.ship.closing_max)) }
 {
-    if closes(strains.closing, profile.closing_max()) {
-        judge_loaded(profile, totals, a, levers, line, strains, near, figures)
+    if closes(figures.strains.closing, profile.closing_max()) {
+        judge_loaded(profile, totals, a, levers, line, near, figures)
     } else {
         Judged::Outside(Outside::Closing)
     }
@@ -133,10 +131,17 @@ fn judge_righted(
         (load_of (values totals.now)) profile.now.ship.lbp) profile.now.ship.stations)) }
 {
     let line = DraughtLine::new(a);
-    let strains = strains_along(profile, hull, totals, &line, &mut near.bonjean);
-    match &strains {
-        Some(strains) => judge_strained(profile, totals, a, levers, &line, strains, near, figures),
-        None => Judged::Outside(Outside::Bonjean),
+    if strains_into(
+        profile,
+        hull,
+        totals,
+        &line,
+        &mut near.walk,
+        &mut figures.strains,
+    ) {
+        judge_strained(profile, totals, a, levers, &line, near, figures)
+    } else {
+        Judged::Outside(Outside::Bonjean)
     }
 }
 

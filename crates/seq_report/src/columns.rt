@@ -88,7 +88,7 @@ impl Column {
             Column::Area30To40 => Some(figures.area_30_40),
             Column::Lever => Some(figures.lever),
             Column::Angle => Some(figures.angle as i128),
-            Column::Closing => Some(figures.closing),
+            Column::Closing => Some(figures.strains.closing),
         }
     }
 }
@@ -148,8 +148,8 @@ fn put_frame(line: &mut BackwardText<'_>, figures: &Figures, i: usize, byte: u8)
     ensures text { line.new ≡ (byte ∷ frame_text (read figures.now) i) ++ line.old }
     ensures short { length line.new ≤ length line.old + 82 }
 {
-    line.put_parted(b'/', figures.bending[i]);
-    line.put_parted(byte, figures.shear[i]);
+    line.put_parted(b'/', figures.strains.loads.bending[i]);
+    line.put_parted(byte, figures.strains.loads.shear[i]);
 }
 
 /// Puts the shear forces and bending moments at so many frames, behind a space, before the line.

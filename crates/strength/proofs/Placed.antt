@@ -1,10 +1,10 @@
 -- Numbers written place by place; areas at all stations.
-use Rattle.std.proofs.Common.{◌≡◌, ◌∙◌, ℕ, zero, suc, true, ◌+◌, ◌*◌, ◌/◌, ◌<◌, ◌≤◌, ◌⊎◌, inl, inr, List, [], ◌∷◌, length, get_or, set, replicate, Option, None, Some, unsigned_abs, FitsSigned, to_z, of_z, to_z-of_z, ℤ, pos, ◌+ℤ◌, ◌-ℤ◌, ◌*ℤ◌, ◌≤ℤ◌, refl, sym, ap, arith}
+use Rattle.std.proofs.Common.{◌≡◌, ◌∙◌, ℕ, zero, suc, true, ◌+◌, ◌*◌, ◌/◌, ◌<◌, ◌≤◌, ◌⊎◌, inl, inr, List, [], ◌∷◌, length, get_or, set, Option, None, Some, unsigned_abs, FitsSigned, to_z, of_z, to_z-of_z, ℤ, pos, ◌+ℤ◌, ◌-ℤ◌, ◌*ℤ◌, ◌≤ℤ◌, refl, sym, ap, subst, arith}
 use Rattle.std.specs.Prelude.{is_some}
 use Rattle.std.specs.Int.{w128}
 use Rattle.units_core.proofs.Signed.{signed_arith, one_part}
 use Rattle.moment_sums.proofs.Bounds.{set_done}
-use Rattle.units_core.specs.Interpolation.{at, IsWithin}
+use Rattle.units_core.specs.Interpolation.{at}
 use Rattle.units_core.specs.Ratio.{Ratio, ◌over◌, floor_of}
 use Rattle.ship_tables.specs.Record.{CurveTable}
 use Rattle.units_core.proofs.Ranges.{range_all, range_not_all}
@@ -33,15 +33,6 @@ areas_none t dr xs k less h =
     let none = range_not_all (λ j. is_some (area_at t dr xs j)) 0 (length xs) k less (ap (λ m. is_some (area_at t dr xs m)) here ∙ ap (λ (o : Option ℤ). is_some o) h) in
     rw none refl
 
-pub no_places : (n i : ℕ) → get_or (replicate n (pos 0)) i (pos 0) ≡ pos 0
-no_places zero zero = refl
-no_places zero (suc i) = refl
-no_places (suc n) zero = refl
-no_places (suc n) (suc i) = no_places n i
-
-pub none_within : (n m : ℕ) → IsWithin m (replicate n (pos 0))
-none_within n m = λ j. rw (no_places n j) (omega arith)
-
 -- inside a list it's the same which default is given
 pub inside_same : (xs : List ℤ) (k : ℕ) (d e : ℤ) → k < length xs → get_or xs k d ≡ get_or xs k e
 inside_same [] k d e h = absurd (omega arith)
@@ -65,6 +56,23 @@ on_line_is x0 y0 x1 y1 x a p b r e f g h =
 -- the next of running sums, written behind the first k
 pub set_next : (ns : List ℤ) (g : ℕ → ℤ) (k : ℕ) (v : ℤ) → k + 1 < length ns → ((n : ℕ) → n ≤ k → at ns n ≡ g n) → v ≡ g (k + 1) → (n : ℕ) → n ≤ k + 1 → at (set ns (k + 1) v) n ≡ g n
 set_next ns g k v inside done e n low = set_done ns g (k + 1) v inside (λ j less. done j (omega arith)) e n (omega arith)
+
+-- the first of running sums, which is 0
+pub first_set : (ns : List ℤ) (g : ℕ → ℤ) → 0 < length ns → pos 0 ≡ g 0 → (n : ℕ) → n ≤ 0 → at (set ns 0 (pos 0)) n ≡ g n
+first_set [] g some e n low = absurd (omega arith)
+first_set (x ∷ xs) g some e zero low = e
+first_set (x ∷ xs) g some e (suc n) low = absurd (omega arith)
+
+-- a bound of all sums up to k, and of the next
+pub first_within : (g : ℕ → ℤ) (m : ℕ) → pos 0 ≡ g 0 → (n : ℕ) → n ≤ 0 → unsigned_abs (g n) ≤ m
+first_within g m e zero low = subst (λ z. unsigned_abs z ≤ m) e (omega arith)
+first_within g m e (suc n) low = absurd (omega arith)
+
+pub next_within : (g : ℕ → ℤ) (k m : ℕ) → ((j : ℕ) → j ≤ k → unsigned_abs (g j) ≤ m) → unsigned_abs (g (k + 1)) ≤ m → (j : ℕ) → j ≤ k + 1 → unsigned_abs (g j) ≤ m
+next_within g k m done h j low = elim (below_cases j (k + 1)) [
+  | inl less ↦ done j (omega arith)
+  | inr past ↦ let same : j ≡ k + 1 = omega arith in rw same h
+]
 
 -- what holds of all numbers up to k, and of the next
 pub one_there : (found : ℕ → Option ℤ) → is_some (found 0) ≡ true → (j : ℕ) → j ≤ 0 → is_some (found j) ≡ true

@@ -1,5 +1,5 @@
 -- Bookkeeping: sums along the stations up to each of them, and the loads by them.
-use Rattle.std.specs.Prelude.{◌≡◌, ℕ, ◌≤◌, ℤ, List, Option, Some, None}
+use Rattle.std.specs.Prelude.{◌≡◌, ℕ, ◌≤◌, ℤ, List, Bool, true, false, Option, Some, None}
 use Rattle.units_core.specs.Interpolation.{at}
 use Rattle.ship_profile.specs.Ship.{ShipRecord}
 use Rattle.moment_sums.specs.Sum.{Sum}
@@ -22,3 +22,8 @@ pub record AreStrains (r : Strains) (s : Sum) (areas : ℕ → ℤ) (ship : Ship
 abbrev pub AreStrainsBy : Strains → Sum → Option (ℕ → ℤ) → ShipRecord → Type 0
 AreStrainsBy r s None ship = ⊥
 AreStrainsBy r s (Some areas) ship = AreStrains r s areas ship
+
+-- or none, where there are no areas
+abbrev pub AreStrainsIf : Bool → Strains → Sum → Option (ℕ → ℤ) → ShipRecord → Type 0
+AreStrainsIf true r s areas ship = AreStrainsBy r s areas ship
+AreStrainsIf false r s areas ship = areas ≡ None

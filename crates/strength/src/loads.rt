@@ -1,5 +1,5 @@
 /// The loads at the frames, and the closing error.
-#[derive(Clone, Copy)]
+#[derive(Clone, Copy, Default)]
 pub struct Strains {
     /// The shear forces and bending moments at the frames.
     pub loads: Loads,
@@ -8,7 +8,7 @@ pub struct Strains {
 }
 
 /// The loads at each frame, 0 at the places behind the last.
-#[derive(Clone, Copy)]
+#[derive(Clone, Copy, Default)]
 pub struct Loads {
     /// The weight aft of the frame less the buoyancy there, in kg.
     pub shear: [i128; 16],

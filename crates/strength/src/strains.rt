@@ -1,5 +1,5 @@
-ghost use Rattle.std.specs.Prelude.{◌≡◌, ℕ, ◌-◌, ◌^◌, ◌≤◌, ℤ, ◌-ℤ◌, unsigned_abs, length, ◌*◌};
-ghost use Rattle.units_core.specs.Interpolation.{at, IsWithin};
+ghost use Rattle.std.specs.Prelude.{◌≡◌, ℕ, ◌-◌, ◌^◌, ◌<◌, ◌≤◌, ℤ, ◌-ℤ◌, unsigned_abs, length, ◌*◌};
+ghost use Rattle.units_core.specs.Interpolation.{at};
 ghost use Rattle.moment_sums.specs.Bounded.{IsBounded};
 ghost use Rattle.moment_sums.specs.Kept.{values};
 ghost use Rattle.moment_sums.specs.Sum.{Weight};
@@ -14,8 +14,8 @@ use crate::closing::closes;
 use crate::forces::{buoyancy, buoyancy_moment};
 use crate::hulls::Hull;
 use crate::loads::{Loads, Strains};
-use crate::rows::BonjeanRow;
 use crate::stations::mm;
+use crate::walks::Walk;
 use hydrostat::{Afloat, DraughtLine, Floating, Outside};
 use moment_sums::Totals;
 use ship_profile::Profile;
@@ -29,29 +29,30 @@ fn minus(one: i128, other: i128) -> i128
     one - other
 }
 
-/// The loads on the hull with this aboard, by twice the volumes of the first intervals between stations and six times their moments about the
-/// after perpendicular, each by how many intervals they are.
+/// Sets the loads on the hull with this aboard, by the sums of a walk: twice the volumes of the first intervals between stations and six times
+/// their moments about the after perpendicular, each by how many intervals they are.
 #[inline(always)]
-pub fn strains_by(
+pub fn set_strains(
     profile: &Profile,
     hull: &Hull,
     totals: &Totals,
-    volumes: &[i64; 64],
-    arms: &[i128; 64],
-) -> Strains
+    walk: &Walk,
+    strains: &mut Strains,
+)
     requires of { IsHullOf hull.now profile.now.ship }
     requires bounded { IsBounded (values totals.now) }
     requires kg { unsigned_abs (values totals.now Weight) ≤ 10 ^ 9 }
-    requires volumes { IsWithin (3 * 10 ^ 16) volumes.now }
-    requires arms { IsWithin (10 ^ 23) arms.now }
-    ensures { (areas : ℕ → ℤ) → AreRunning volumes.now arms.now
+    requires volumes { (k : ℕ) → k < length profile.now.ship.stations
+        → unsigned_abs (at walk.now.volumes k) ≤ 3 * 10 ^ 16 }
+    requires arms { (k : ℕ) → k < length profile.now.ship.stations
+        → unsigned_abs (at walk.now.arms k) ≤ 10 ^ 23 }
+    ensures { (areas : ℕ → ℤ) → AreRunning walk.now.volumes walk.now.arms
         (at profile.now.ship.stations) areas (length profile.now.ship.stations - 1)
-        → AreStrains result (values totals.now) areas profile.now.ship }
+        → AreStrains strains.new (values totals.now) areas profile.now.ship }
 {
     let intervals = profile.stations().len() - 1;
     let frames = profile.frames().as_slice();
-    // Built where it stays, since each move of it is a copy of 500 bytes.
-    let mut strains = Strains {
+    *strains = Strains {
         loads: Loads {
             shear: [0; 16],
             bending: [0; 16],
@@ -61,13 +62,12 @@ pub fn strains_by(
     for i in 0..frames.len() {
         let n = hull.intervals_aft(i);
         let x = mm(frames[i].x);
-        let volume = volumes[n];
-        let arm = arms[n];
+        let volume = walk.volumes[n];
+        let arm = walk.arms[n];
         strains.loads.shear[i] = minus(totals.weight_aft(i), i128::from(buoyancy(volume)));
         strains.loads.bending[i] = minus(totals.moment_aft(i), buoyancy_moment(x, volume, arm));
     }
-    strains.closing = minus(i128::from(buoyancy(volumes[intervals])), totals.kg());
-    strains
+    strains.closing = minus(i128::from(buoyancy(walk.volumes[intervals])), totals.kg());
 }
 
 /// The loads on the hull of a ship afloat.
@@ -78,8 +78,8 @@ fn loads_afloat(profile: &Profile, totals: &Totals, afloat: &Afloat) -> Result<L
         (load afloat.now) afloat.now.lbp) profile.now.ship }
 {
     let line = DraughtLine::new(afloat);
-    let mut near = BonjeanRow::default();
-    let Some(strains) = strains_along(profile, &Hull::new(profile), totals, &line, &mut near) else {
+    let mut walk = Walk::default();
+    let Some(strains) = strains_along(profile, &Hull::new(profile), totals, &line, &mut walk) else {
         return Err(Outside::Bonjean);
     };
     if closes(strains.closing, profile.closing_max()) {

@@ -1,11 +1,11 @@
-use Rattle.std.proofs.Common.{◌≡◌, ◌∙◌, ℕ, ℤ, Option, None, Some}
+use Rattle.std.proofs.Common.{◌≡◌, ◌∙◌, ℕ, ℤ, Bool, Option, None, Some, subst}
 use Rattle.ship_profile.specs.Record.{ProfileRecord}
 use Rattle.moment_sums.specs.Sum.{Sum}
 use Rattle.hydrostat.specs.Floating.{Hydrostatics, draught_at, load, water}
 use Rattle.moment_sums.specs.Kept.{values}
 use Rattle.units_core.specs.Ratio.{Ratio}
-use Rattle.strength.specs.Immersed.{areas_of}
-use Rattle.strength.specs.Running.{AreStrains, AreStrainsBy}
+use Rattle.strength.specs.Immersed.{areas_along, areas_of}
+use Rattle.strength.specs.Running.{AreStrains, AreStrainsBy, AreStrainsIf}
 use Rattle.strength.specs.Strains.{closes, closing_of}
 use Rattle.strength.specs.declared.loads.Strains.{Strains}
 use Rattle.criteria.specs.Judgement.{Judgement, with_areas, with_closing}
@@ -17,12 +17,16 @@ by_areas : (answer : Judgement) (p : ProfileRecord) (s : Sum) (w : Hydrostatics)
 by_areas answer p s w y r None is h = absurd is
 by_areas answer p s w y r (Some areas) is h = h areas is
 
-pub returns-in-Some : goal.returns-in-Some
-returns-in-Some c =
+pub returns-then-strains_into : goal.returns-then-strains_into
+returns-then-strains_into c =
     let p = c.args.profile.now in
     let a = c.args.a.now in
     let s = values c.args.totals.now in
     let of = c.new-line.ensures in
-    λ y are. by_areas _ p s (water a) y c.in-Some.strains _ (rw c.in-Some.is at c.strains_along-strains.ensures) (λ areas is. c.judge_strained.ensures areas is y are)
+    let r = c.strains_into.new.strains in
+    let l = c.new-line.result.of in
+    let areas = areas_along p (water l) (load l) l.lbp in
+    let is = subst (λ (b : Bool). AreStrainsIf b r s areas p.ship) c.if-strains_into.true c.strains_into.ensures in
+    λ y are. by_areas _ p s (water a) y r _ is (λ areas is. c.judge_strained.ensures areas is y are)
     ∙ (λ j. with_areas p s (water a) y (areas_of p.tables.bonjean (draught_at (water (of j)) (load (of j)) (of j).lbp) p.ship.stations))
     ∙ (λ j. with_areas p s (water a) y (areas_of p.tables.bonjean (draught_at (water a) (c.requires.loaded j) (c.requires.length j)) p.ship.stations))

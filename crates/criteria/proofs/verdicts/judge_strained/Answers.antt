@@ -13,7 +13,7 @@ returns-then-closes c =
     let p = c.args.profile.now in
     let s = values c.args.totals.now in
     let a = c.args.a.now in
-    let e : FitsSigned w128 c.args.strains.now.closing = search rules in
+    let e : FitsSigned w128 c.args.figures.now.strains.closing = search rules in
     let m : FitsSigned w64 c.closing_max.result = search rules in
     λ areas is.
     let test : true ≡ closes (closing_of s areas p.ship.stations) p.ship.closing_max =
@@ -27,7 +27,7 @@ returns-else-closes c =
     let p = c.args.profile.now in
     let s = values c.args.totals.now in
     let a = c.args.a.now in
-    let e : FitsSigned w128 c.args.strains.now.closing = search rules in
+    let e : FitsSigned w128 c.args.figures.now.strains.closing = search rules in
     let m : FitsSigned w64 c.closing_max.result = search rules in
     λ areas is.
     let test : false ≡ closes (closing_of s areas p.ship.stations) p.ship.closing_max =

@@ -1,12 +1,12 @@
-use Rattle.std.proofs.Common.{rules, ℤ, pos, ◌∙◌, ap, refl, FitsSigned, to_z-of_z, Some}
+use Rattle.std.proofs.Common.{rules, ℤ, pos, ◌∙◌, ap, FitsSigned, to_z-of_z, Some}
 use Rattle.std.specs.Int.{w128}
 use Rattle.units_core.specs.Ratio.{floor_of}
 use Rattle.righting.specs.Levers.{simpson}
 use Rattle.hydrostat.specs.Floating.{draught_at, load, water}
 use Rattle.criteria.proofs.figures.Figures.set.Goals as goal
 
-pub returns : goal.returns
-returns c =
+pub returns-clause-figures : goal.returns-clause-figures
+returns-clause-figures c =
     let a = c.args.a.now in
     let f1 : FitsSigned w128 c.gm_down-self.result = search rules in
     let f2 : FitsSigned w128 c.mean_down-self.result = search rules in
@@ -18,7 +18,6 @@ returns c =
     let f8 : FitsSigned w128 c.area_figure-self-3.result = search rules in
     let f9 : FitsSigned w128 c.lever_down-self.result = search rules in
     let of = c.requires.of in
-    let e : FitsSigned w128 c.args.strains.now.closing = search rules in
     record {
       floating = record {
         gm = to_z-of_z f1 ∙ c.gm_down-self.ensures;
@@ -35,5 +34,4 @@ returns c =
         lever = ap (λ (z : ℤ). Some z) (to_z-of_z f9) ∙ c.lever_down-self.ensures y are;
         angle = c.angle-self.ensures y are;
       };
-      loads = record { closing = to_z-of_z e; shear = λ i. refl; bending = λ i. refl };
     }

@@ -1,4 +1,4 @@
-use Rattle.std.proofs.Common.{rules, arith, ◌≡◌, ◌∙◌, ◌-◌, ◌^◌, ◌<◌, ◌≤◌, ℤ, pos, ◌≤ℤ◌, List, length, length-set, get_or, slice_get, Option, Some, ap, sym, subst, unsigned_abs, FitsSigned, to_z-of_z}
+use Rattle.std.proofs.Common.{rules, arith, ◌≡◌, ◌∙◌, ◌-◌, ◌*◌, ◌^◌, ◌<◌, ◌≤◌, ℤ, pos, ◌≤ℤ◌, List, length, length-set, get_or, slice_get, Option, Some, ap, sym, subst, unsigned_abs, FitsSigned, to_z-of_z}
 use Rattle.std.specs.Int.{w64, w128}
 use Rattle.std.specs.Prelude.{IfSome}
 use Rattle.std.proofs.lemmas.Option.{slice_get-get_or, slice_get_past}
@@ -7,15 +7,20 @@ use Rattle.units_core.specs.Ratio.{floor_of}
 use Rattle.units_core.proofs.Signed.{signed_arith, one_part}
 use Rattle.ship_profile.specs.declared.frames.Frame.{Frame}
 use Rattle.moment_sums.specs.Kept.{values}
+use Rattle.moment_sums.specs.Sum.{Weight}
 use Rattle.moment_sums.proofs.Bounds.{set_done, set_rest}
 use Rattle.strength.specs.Buoyancy.{force_of, intervals_aft, moment_of_buoyancy}
 use Rattle.strength.specs.Strains.{bending_at, bending_there, shear_at, shear_there}
 use Rattle.strength.proofs.Placed.{all_places, less_read}
-use Rattle.strength.proofs.strains.strains_by.Goals as goal
+use Rattle.strength.proofs.strains.set_strains.Goals as goal
 
 -- what is aft of a frame is at most what there is
 aft_within : (w a k : ℤ) → w ≡ a → pos 0 ≤ℤ a → a ≤ℤ k → unsigned_abs k ≤ 10 ^ 9 → unsigned_abs w ≤ 10 ^ 30
 aft_within w a k e low high size = rw e (omega (arith, signed_arith, one_part a, one_part k, low, high, size))
+
+-- and so is its moment
+moment_within : (w m k : ℤ) → w ≡ m → unsigned_abs m ≤ 2 * 10 ^ 6 * unsigned_abs k → unsigned_abs k ≤ 10 ^ 9 → unsigned_abs w ≤ 10 ^ 30
+moment_within w m k e high size = rw e (omega (arith, high, size))
 
 pub minus-requires-clause-one : goal.minus-requires-clause-one
 minus-requires-clause-one c =
@@ -23,6 +28,32 @@ minus-requires-clause-one c =
     let b = c.requires.bounded in
     let w : FitsSigned w128 c.weight_aft.result = search rules in
     simp (to_z-of_z w) (aft_within c.weight_aft.result _ _ c.weight_aft.ensures (b.weights_low i) (b.weights_high i) c.requires.kg)
+
+-- the sums of the intervals aft of a frame are among those of the walk
+pub buoyancy-requires : goal.buoyancy-requires
+buoyancy-requires c =
+    let n = c.intervals_aft-n.result in
+    let v : FitsSigned w64 (get_or c.args.walk.now.volumes n (pos 0)) = search rules in
+    record { within = simp (to_z-of_z v) (c.requires.volumes n (rw c.intervals_aft-n.ensures.value (c.requires.of.inside c.loop-i.i))) }
+
+pub buoyancy_moment-requires-clause-within : goal.buoyancy_moment-requires-clause-within
+buoyancy_moment-requires-clause-within c =
+    let n = c.intervals_aft-n.result in
+    let v : FitsSigned w64 (get_or c.args.walk.now.volumes n (pos 0)) = search rules in
+    simp (to_z-of_z v) (c.requires.volumes n (rw c.intervals_aft-n.ensures.value (c.requires.of.inside c.loop-i.i)))
+
+pub buoyancy_moment-requires-clause-arm_within : goal.buoyancy_moment-requires-clause-arm_within
+buoyancy_moment-requires-clause-arm_within c =
+    let n = c.intervals_aft-n.result in
+    let u : FitsSigned w128 (get_or c.args.walk.now.arms n (pos 0)) = search rules in
+    simp (to_z-of_z u) (c.requires.arms n (rw c.intervals_aft-n.ensures.value (c.requires.of.inside c.loop-i.i)))
+
+pub minus-requires-in-loop-i-clause-one : goal.minus-requires-in-loop-i-clause-one
+minus-requires-in-loop-i-clause-one c =
+    let i = c.loop-i.i in
+    let b = c.requires.bounded in
+    let w : FitsSigned w128 c.moment_aft.result = search rules in
+    simp (to_z-of_z w) (moment_within c.moment_aft.result _ (values c.args.totals.now Weight) c.moment_aft.ensures (b.moments_high i) c.requires.kg)
 
 pub loop-i-preserved : goal.loop-i-preserved
 loop-i-preserved c =
@@ -39,8 +70,8 @@ loop-i-preserved c =
     let aft : n ≡ intervals_aft xs frame.x = c.intervals_aft-n.ensures.value ∙ subst (λ (o : Option Frame). IfSome o (λ f. get_or c.args.hull.now.aft i 0 ≡ intervals_aft xs f.x)) here (of.aft i) in
     let inside : n < length xs = rw c.intervals_aft-n.ensures.value (of.inside i) in
     let low : n ≤ length xs - 1 = omega (arith, inside) in
-    let v : FitsSigned w64 (get_or c.args.volumes.now n (pos 0)) = search rules in
-    let u : FitsSigned w128 (get_or c.args.arms.now n (pos 0)) = search rules in
+    let v : FitsSigned w64 (get_or c.args.walk.now.volumes n (pos 0)) = search rules in
+    let u : FitsSigned w128 (get_or c.args.walk.now.arms n (pos 0)) = search rules in
     let m : FitsSigned w64 c.mm-x.result = search rules in
     let w1 : FitsSigned w128 c.weight_aft.result = search rules in
     let b1 : FitsSigned w64 c.buoyancy.result = search rules in
@@ -78,17 +109,17 @@ returns c =
     let ended : length c.as_slice-frames.result.now ≤ c.loop-i.i = omega arith in
     let all : length ship.frames ≤ c.loop-i.i = rw are at ended in
     let n = length c.stations.result.now - 1 in
-    let v : FitsSigned w64 (get_or c.args.volumes.now n (pos 0)) = search rules in
+    let v : FitsSigned w64 (get_or c.args.walk.now.volumes n (pos 0)) = search rules in
     let b : FitsSigned w64 c.buoyancy-2.result = search rules in
     let f : FitsSigned w128 c.from-2.result = search rules in
     let k : FitsSigned w128 c.kg.result = search rules in
-    let r : FitsSigned w128 c.minus-2.result = search rules in
+    let r : FitsSigned w128 c.minus-strains.result = search rules in
     λ areas run.
     record {
       are_shear = all_places c.loop-i.strains.loads.shear (shear_at s areas ship.stations ship.frames) c.loop-i.i (inv.shear_done areas run) inv.shear_rest
           (λ j past. let out : length ship.frames ≤ j = omega (arith, all, past) in ap (λ (o : Option Frame). shear_there s areas ship.stations j o) (slice_get_past ship.frames j out));
       are_bending = all_places c.loop-i.strains.loads.bending (bending_at s areas ship.stations ship.frames) c.loop-i.i (inv.bending_done areas run) inv.bending_rest
           (λ j past. let out : length ship.frames ≤ j = omega (arith, all, past) in ap (λ (o : Option Frame). bending_there s areas ship.stations j o) (slice_get_past ship.frames j out));
-      is_closing = less_read c.from-2.result c.kg.result c.minus-2.result _ _ f k r c.minus-2.ensures
+      is_closing = less_read c.from-2.result c.kg.result c.minus-strains.result _ _ f k r c.minus-strains.ensures
           (c.from-2.ensures ∙ (to_z-of_z b ∙ c.buoyancy-2.ensures.value (at ship.stations) areas n (to_z-of_z v ∙ run.are_volumes n (rw c.stations.ensures.value (omega arith)))) ∙ (λ j. floor_of (force_of (at ship.stations) areas (length (c.stations.ensures.value j) - 1)))) c.kg.ensures;
     }

@@ -1,4 +1,4 @@
-use Rattle.std.proofs.Common.{rules, arith, ◌-◌, ◌≡◌, ◌∙◌, ℕ, zero, suc, ℤ, pos, ◌+◌, ◌*◌, ◌^◌, ◌≤◌, ◌<◌, ◌+ℤ◌, ◌-ℤ◌, ◌*ℤ◌, List, length, length-set, replicate, refl, ap, sym, subst, FitsSigned, to_z, of_z, to_z-of_z, Option, Some}
+use Rattle.std.proofs.Common.{rules, arith, ◌-◌, ◌≡◌, ◌∙◌, ℕ, ℤ, pos, ◌+◌, ◌*◌, ◌^◌, ◌≤◌, ◌<◌, ◌+ℤ◌, ◌-ℤ◌, ◌*ℤ◌, List, length, length-set, refl, ap, sym, subst, unsigned_abs, FitsSigned, to_z, of_z, to_z-of_z, Option, Some}
 use Rattle.std.specs.Int.{w64, w128}
 use Rattle.std.specs.Prelude.{is_some}
 use Rattle.std.proofs.lemmas.Int.{fits_signed_from_abs}
@@ -9,7 +9,6 @@ use Rattle.units_core.proofs.Signed.{fits_within, sum_within}
 use Rattle.units_core.proofs.Signed as signed
 use Rattle.ship_tables.specs.Record.{CurveTable}
 use Rattle.hydrostat.specs.Floating.{draught_at, load, water}
-use Rattle.moment_sums.proofs.Bounds.{set_within}
 use Rattle.strength.specs.Buoyancy.{arm_top, force_top, tops}
 use Rattle.strength.specs.Immersed.{area_at, area_there, areas_of, or_none}
 use Rattle.strength.specs.Running.{AreRunning, AreStrainsBy}
@@ -18,12 +17,8 @@ use Rattle.ship_profile.specs.Ship.{ShipRecord}
 use Rattle.moment_sums.specs.Sum.{Sum}
 use Rattle.moment_sums.specs.Kept.{values}
 use Rattle.strength.proofs.Adding.{more, sum_back, sum_fits}
-use Rattle.strength.proofs.Placed.{areas_none, areas_there, inside_same, next_there, none_within, one_there, set_next}
-use Rattle.strength.proofs.aboard.strains_along.Goals as goal
-
-nothing : (g : ℕ → ℤ) (n : ℕ) → n ≤ 0 → at (replicate 64 (pos 0)) n ≡ tops g n
-nothing g zero low = refl
-nothing g (suc n) low = absurd (omega arith)
+use Rattle.strength.proofs.Placed.{areas_none, areas_there, inside_same, next_there, first_set, first_within, next_within, one_there, set_next}
+use Rattle.strength.proofs.aboard.strains_into.Goals as goal
 
 -- the strains by the areas that there are, by the tables as they were read
 moved : (r : Strains) (sums : Sum) (ship : ShipRecord) (dr : ℤ → Ratio) (xs ys : List ℤ) (t u : CurveTable) → xs ≡ ys → t ≡ u → AreStrainsBy r sums (areas_of t dr xs) ship → AreStrainsBy r sums (areas_of u dr ys) ship
@@ -35,6 +30,7 @@ loop-k-init c =
     let t = c.bonjean-curves.result.now in
     let xs = c.stations-stations.result.now in
     let dr : ℤ → Ratio = draught_at (water a) (load a) a.lbp in
+    let areas : ℕ → ℤ = λ j. or_none (area_at t dr xs j) in
     let two = c.stations-stations.ensures.sound.ship.stations.some in
     let some : 0 < length xs = rw c.stations-stations.ensures.value (omega (arith, two)) in
     let m : FitsSigned w64 c.mm-place.result = search rules in
@@ -44,8 +40,8 @@ loop-k-init c =
     let value : area_at t dr xs 0 ≡ Some v = ap (λ (o : Option ℤ). area_there t dr 0 o) here ∙ (sym c.in-Some.ensures.value ∙ ap (λ (z : ℤ). Some z) (sym (to_z-of_z h))) in
     record {
       row = c.area_near.ensures.row;
-      volumes_size = refl;
-      arms_size = refl;
+      volumes_size = search rules;
+      arms_size = search rules;
       there = one_there (area_at t dr xs) (ap (λ (o : Option ℤ). is_some o) value);
       place = to_z-of_z m ∙ (c.mm-place.ensures.value ∙ (c.index-stations-0.is ∙ inside_same xs 0 _ (pos 0) some));
       place_within = simp (to_z-of_z m) c.mm-place.ensures.within;
@@ -55,10 +51,10 @@ loop-k-init c =
       volume_size = omega arith;
       arm = refl;
       arm_size = omega arith;
-      volumes_done = nothing _;
-      volumes_within = none_within 64 (3 * 10 ^ 16);
-      arms_done = nothing _;
-      arms_within = none_within 64 (10 ^ 23);
+      volumes_done = first_set c.args.walk.now.volumes _ (omega arith) refl;
+      volumes_within = first_within (tops (force_top (at xs) areas)) (3 * 10 ^ 16) refl;
+      arms_done = first_set c.args.walk.now.arms _ (omega arith) refl;
+      arms_within = first_within (tops (arm_top (at xs) areas)) (10 ^ 23) refl;
     }
 
 pub returns-in_default-area_near : goal.returns-in_default-area_near
@@ -120,8 +116,8 @@ loop-k-preserved c =
     let arm = asum ∙ ((λ i. inv.arm i +ℤ turned i) ∙ more (arm_top (at xs) areas) k) in
     let vplaces = inv.volumes_size in
     let aplaces = inv.arms_size in
-    let vless : k + 1 < length c.loop-k.volumes = omega (arith, few2, less, vplaces) in
-    let aless : k + 1 < length c.loop-k.arms = omega (arith, few2, less, aplaces) in
+    let vless : k + 1 < length c.loop-k.walk.volumes = omega (arith, few2, less, vplaces) in
+    let aless : k + 1 < length c.loop-k.walk.arms = omega (arith, few2, less, aplaces) in
     record {
       row = c.area_near-in-loop-k.ensures.row;
       volumes_size = simp length-set vplaces;
@@ -135,10 +131,10 @@ loop-k-preserved c =
       volume_size = rw vsum (omega (arith, vsize));
       arm = arm;
       arm_size = rw asum (omega (arith, asize));
-      volumes_done = set_next c.loop-k.volumes (tops (force_top (at xs) areas)) k _ vless inv.volumes_done volume;
-      volumes_within = set_within c.loop-k.volumes (tops (force_top (at xs) areas)) (k + 1) _ vless (3 * 10 ^ 16) inv.volumes_within (rw vsum (omega (arith, vsize, few2, less)));
-      arms_done = set_next c.loop-k.arms (tops (arm_top (at xs) areas)) k _ aless inv.arms_done arm;
-      arms_within = set_within c.loop-k.arms (tops (arm_top (at xs) areas)) (k + 1) _ aless (10 ^ 23) inv.arms_within (rw asum (omega (arith, asize, few2, less)));
+      volumes_done = set_next c.loop-k.walk.volumes (tops (force_top (at xs) areas)) k _ vless inv.volumes_done volume;
+      volumes_within = next_within (tops (force_top (at xs) areas)) k (3 * 10 ^ 16) inv.volumes_within (subst (λ z. unsigned_abs z ≤ 3 * 10 ^ 16) volume (rw vsum (omega (arith, vsize, few2, less))));
+      arms_done = set_next c.loop-k.walk.arms (tops (arm_top (at xs) areas)) k _ aless inv.arms_done arm;
+      arms_within = next_within (tops (arm_top (at xs) areas)) k (10 ^ 23) inv.arms_within (subst (λ z. unsigned_abs z ≤ 10 ^ 23) arm (rw asum (omega (arith, asize, few2, less))));
     }
 
 pub returns : goal.returns
@@ -152,7 +148,7 @@ returns c =
     let areas : ℕ → ℤ = λ j. or_none (area_at t dr xs j) in
     let ship = c.args.profile.now.ship in
     let sums = values c.args.totals.now in
-    let run : AreRunning c.loop-k.volumes c.loop-k.arms (at xs) areas (length xs - 1) = record { are_volumes = λ k low. inv.volumes_done k (omega (arith, ended, low)); are_arms = λ k low. inv.arms_done k (omega (arith, ended, low)) } in
-    let there = subst (λ (zs : List ℤ). AreRunning c.loop-k.volumes c.loop-k.arms (at zs) areas (length zs - 1)) c.stations-stations.ensures.value run in
-    moved c.strains_by.result sums ship dr xs _ t _ c.stations-stations.ensures.value c.bonjean-curves.ensures.value
-    (subst (λ (o : Option (ℕ → ℤ)). AreStrainsBy c.strains_by.result sums o ship) (areas_there t dr xs c.loop-k.k ended inv.there) (c.strains_by.ensures areas there))
+    let run : AreRunning c.loop-k.walk.volumes c.loop-k.walk.arms (at xs) areas (length xs - 1) = record { are_volumes = λ k low. inv.volumes_done k (omega (arith, ended, low)); are_arms = λ k low. inv.arms_done k (omega (arith, ended, low)) } in
+    let there = subst (λ (zs : List ℤ). AreRunning c.loop-k.walk.volumes c.loop-k.walk.arms (at zs) areas (length zs - 1)) c.stations-stations.ensures.value run in
+    moved c.set_strains.new.strains sums ship dr xs _ t _ c.stations-stations.ensures.value c.bonjean-curves.ensures.value
+    (subst (λ (o : Option (ℕ → ℤ)). AreStrainsBy c.set_strains.new.strains sums o ship) (areas_there t dr xs c.loop-k.k ended inv.there) (c.set_strains.ensures areas there))
