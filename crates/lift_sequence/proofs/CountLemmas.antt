@@ -215,8 +215,7 @@ has_lift lifts (row.Lift n) h = by_case (nat_le 1 n && nat_le n (length lifts)) 
       let itself = is_itself n (row.Lift n) in
       let other = h n e in
       absurd (cc (itself, other))
-has_lift lifts (row.Tank name kg) h = tt
-has_lift lifts (row.Restow from to id) h = tt
+has_lift lifts other h = tt
 
 each_has_lift : (lifts : List lift.Lift) (rows : List StepRow) → NoneBeyond (length lifts) rows → All (HasLift lifts) rows
 each_has_lift lifts [] none = All-nil (HasLift lifts)

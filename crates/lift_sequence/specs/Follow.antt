@@ -16,9 +16,7 @@ use Rattle.lift_sequence.specs.Sequence.{first_fault, sequence_fault}
 -- the cell into which a step loads a container; None: it is no load
 abbrev pub loaded_cell : operation.Op → Option Cell
 loaded_cell (Lift (Load item)) = Some item.cell
-loaded_cell (Lift (Discharge cell id)) = None
-loaded_cell (Fill name kg) = None
-loaded_cell (Restow from to id) = None
+loaded_cell op = None
 
 -- the same of the step at a place of a list, the first place being 0
 abbrev pub loaded_at : List operation.Op → ℕ → Option Cell
@@ -30,9 +28,7 @@ IsLoad ops i = is_some (loaded_at ops i) ≡ true
 -- the load of a container of another weight; any other step stays as it is
 abbrev pub reweighed : ℕ → operation.Op → operation.Op
 reweighed kg (Lift (Load item)) = Lift (Load (record { cell = item.cell; id = item.id; kg = kg }))
-reweighed kg (Lift (Discharge cell id)) = Lift (Discharge cell id)
-reweighed kg (Fill name mass) = Fill name mass
-reweighed kg (Restow from to id) = Restow from to id
+reweighed kg op = op
 
 -- a list with this step at a place, where there is one
 abbrev pub with_step : List operation.Op → ℕ → Option operation.Op → List operation.Op

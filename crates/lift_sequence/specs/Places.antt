@@ -25,5 +25,4 @@ filled_tanks ship at = filter (λ tank. is_some (at.tanks tank)) (range_with_len
 -- a row of a lift has the number of one, the first being 1
 abbrev pub HasLift : List lift.Lift → StepRow → Type 0
 HasLift lifts (row.Lift n) = (1 ≤ n) × (n ≤ length lifts)
-HasLift lifts (row.Tank name kg) = Unit {0}
-HasLift lifts (row.Restow from to id) = Unit {0}
+HasLift lifts other = Unit {0}

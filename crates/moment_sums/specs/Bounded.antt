@@ -4,11 +4,11 @@ use Rattle.std.specs.Prelude.{ℕ, ◌*◌, ◌^◌, ◌≤◌, pos, ◌≤ℤ�
 use Rattle.std.specs.List.{AllByRecursion}
 use Rattle.units_core.specs.declared.cells.Cell.{Cell}
 use Rattle.stow_messages.specs.declared.items.Item.{Item}
-use Rattle.stow_messages.specs.declared.lifts.Lift.TheVariants.{Load, Discharge}
+use Rattle.stow_messages.specs.declared.lifts.Lift.TheVariants.{Load}
 use Rattle.ship_profile.specs.declared.fills.TankFill.{TankFill}
 use Rattle.ship_profile.specs.Record.{ProfileRecord, IsSound}
 use Rattle.lift_sequence.specs.declared.operations.Op as operation
-use Rattle.lift_sequence.specs.declared.operations.Op.TheVariants.{Lift, Fill, Restow}
+use Rattle.lift_sequence.specs.declared.operations.Op.TheVariants.{Lift}
 use Rattle.lift_sequence.specs.Aboard.{Aboard, after_all}
 use Rattle.lift_sequence.specs.Arrival.{on_arrival}
 use Rattle.lift_sequence.specs.Bodies.{bodies}
@@ -36,9 +36,7 @@ AboardIsBounded = (ship : ProfileRecord) (at : Aboard) → IsSound ship → AreL
 -- a container that is loaded is of at most 10^9 kg
 abbrev pub IsLight : operation.Op → Type 0
 IsLight (Lift (Load item)) = item.kg ≤ 10 ^ 9
-IsLight (Lift (Discharge cell id)) = ⊤
-IsLight (Fill name kg) = ⊤
-IsLight (Restow from to id) = ⊤
+IsLight op = ⊤
 
 -- so after any number of steps
 abbrev pub SequencesAreBounded : Type 0

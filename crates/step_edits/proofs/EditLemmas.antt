@@ -6,9 +6,9 @@ use Rattle.std.proofs.lemmas.Bool.{eqb-false, leb-true, le-leb, and_parts, and_f
 use Rattle.std.proofs.lemmas.List.{length-set, set-set, set_comm, set-get_or, get_or-set_same, get_or-set_other, get_or_default}
 use Rattle.std.proofs.lemmas.List.Edits.{length-insert, length-remove, length-swap}
 use Rattle.std.proofs.lemmas.Option.{none-some, same_Some, slice_get_within}
-use Rattle.stow_messages.specs.declared.lifts.Lift.TheVariants.{Load, Discharge}
+use Rattle.stow_messages.specs.declared.lifts.Lift.TheVariants.{Load}
 use Rattle.lift_sequence.specs.declared.operations.Op as operation
-use Rattle.lift_sequence.specs.declared.operations.Op.TheVariants.{Lift, Fill, Restow}
+use Rattle.lift_sequence.specs.declared.operations.Op.TheVariants.{Lift}
 use Rattle.lift_sequence.specs.Follow.{reweighed, with_step}
 use Rattle.step_edits.specs.declared.edits.Edit.{Edit}
 use Rattle.step_edits.specs.declared.edits.Edit.TheVariants.{Swap, Move, Remove, Insert, Reweigh}
@@ -169,9 +169,7 @@ reweigh_back ops i kg (Some (Lift (Load item))) e h =
     let load : operation.Op = Lift (Load item) in
     let now = set_at_place ops i (reweighed kg load) load e in
     (ap weigh_fault now, ap (λ o. with_step (set ops i (reweighed kg load)) i (option_map (reweighed item.kg) o)) now ∙ set_back ops i (reweighed kg load) load e)
-reweigh_back ops i kg (Some (Lift (Discharge cell id))) e h = absurd (none-some NotLoad (sym h))
-reweigh_back ops i kg (Some (Fill name mass)) e h = absurd (none-some NotLoad (sym h))
-reweigh_back ops i kg (Some (Restow from to id)) e h = absurd (none-some NotLoad (sym h))
+reweigh_back ops i kg (Some op) e h = absurd (none-some NotLoad (sym h))
 
 pub takes_back : TakesBack
 takes_back ops (Swap a b) h = let can = can_be_done ops (Swap a b) h in swap_back ops a b can.0 can.1

@@ -2,9 +2,9 @@
 use Rattle.std.specs.Prelude.{◌≡◌, ℕ, zero, suc, ◌+◌, ◌≤◌, List, length, Option, None, Some, slice_get, nat_le, Bool, ◌&&◌, if◌then◌else◌}
 use Rattle.std.specs.List.{swap, insert, remove}
 use Rattle.std.specs.Option.{is_some}
-use Rattle.stow_messages.specs.declared.lifts.Lift.TheVariants.{Load, Discharge}
+use Rattle.stow_messages.specs.declared.lifts.Lift.TheVariants.{Load}
 use Rattle.lift_sequence.specs.declared.operations.Op as operation
-use Rattle.lift_sequence.specs.declared.operations.Op.TheVariants.{Lift, Fill, Restow}
+use Rattle.lift_sequence.specs.declared.operations.Op.TheVariants.{Lift}
 use Rattle.lift_sequence.specs.Follow.{loaded_cell, weighed_at}
 use Rattle.step_edits.specs.declared.edits.Edit.{Edit}
 use Rattle.step_edits.specs.declared.edits.Edit.TheVariants.{Swap, Move, Remove, Insert, Reweigh}
@@ -72,11 +72,8 @@ put_back at None = Remove at
 put_back at (Some op) = Insert at op
 
 abbrev pub weigh_back : ℕ → ℕ → Option operation.Op → Edit
-weigh_back at kg None = Reweigh at kg
 weigh_back at kg (Some (Lift (Load item))) = Reweigh at item.kg
-weigh_back at kg (Some (Lift (Discharge cell id))) = Reweigh at kg
-weigh_back at kg (Some (Fill name mass)) = Reweigh at kg
-weigh_back at kg (Some (Restow from to id)) = Reweigh at kg
+weigh_back at kg other = Reweigh at kg
 
 -- the edit that takes an edit of a list back
 abbrev pub inverse : List operation.Op → Edit → Edit

@@ -7,7 +7,7 @@ use Rattle.std.proofs.lemmas.Grind.{get_or-set_at}
 use Rattle.csv.specs.Records.{field_at}
 use Rattle.csv_text.specs.Reading.{Fields}
 use Rattle.stow_messages.specs.declared.step_rows.StepRow.{StepRow}
-use Rattle.stow_messages.specs.declared.step_rows.StepRow.TheVariants.{Lift, Tank, Restow}
+use Rattle.stow_messages.specs.declared.step_rows.StepRow.TheVariants.{Lift}
 use Rattle.stow_messages.specs.declared.step_faults.StepsFault.{StepsFault}
 use Rattle.stow_messages.specs.declared.step_faults.StepsCode.TheVariants as code
 use Rattle.stow_messages.specs.StepsSoFar.{AreFlags, IsWithin}
@@ -111,8 +111,7 @@ flags-joined lifts n rows items flags seen row are in' is p q =
 
 no_lift : (row : StepRow) → ((n : ℕ) → row ≢ Lift n) → (n : ℕ) → is_lift n row ≡ false
 no_lift (Lift m) other n = absurd (other m refl)
-no_lift (Tank name kg) other n = refl
-no_lift (Restow from to id) other n = refl
+no_lift row other n = refl
 
 pub flags-kept : (lifts : ℕ) (rows items : List StepRow) (flags seen : List Bool) (row : StepRow) → AreFlags lifts rows flags → ((n : ℕ) → row ≢ Lift n) → items ≡ rows ++ row ∷ []
     → seen ≡ flags → AreFlags lifts items seen

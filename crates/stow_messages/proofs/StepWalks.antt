@@ -11,7 +11,7 @@ use Rattle.units_core.specs.Cells.{cell_in}
 use Rattle.csv_text.specs.Numbers.{number_in}
 use Rattle.csv_text.specs.Reading.{Fields, records_of}
 use Rattle.stow_messages.specs.declared.step_rows.StepRow.{StepRow}
-use Rattle.stow_messages.specs.declared.step_rows.StepRow.TheVariants.{Lift, Tank, Restow}
+use Rattle.stow_messages.specs.declared.step_rows.StepRow.TheVariants.{Lift}
 use Rattle.stow_messages.specs.declared.step_faults.StepsFault.{StepsFault}
 use Rattle.stow_messages.specs.declared.step_faults.StepsCode.{StepsCode}
 use Rattle.stow_messages.specs.declared.step_faults.StepsCode.TheVariants.{BadCsv, BadField, LiftTwice, LiftMissing, TooMany}
@@ -89,8 +89,6 @@ stands_if_once n rows h = go (stands n rows) refl
 
 -- a row that no row before it repeats
 not_repeated : (rows more : List StepRow) (row : StepRow) → NoLiftTwice (rows ++ row ∷ more) → repeats rows row ≡ false
-not_repeated rows more (Tank name kg) once = refl
-not_repeated rows more (Restow from to id) once = refl
 not_repeated rows more (Lift n) once = go (stands n rows) refl
   where
     go : (b : Bool) → stands n rows ≡ b → stands n rows ≡ false
@@ -100,11 +98,11 @@ not_repeated rows more (Lift n) once = go (stands n rows) refl
         let more_than_one : times n (Lift n ∷ more) ≡ suc (times n more) = rw self refl in
         let both = times_append n rows (Lift n ∷ more) in
         absurd (omega (arith, once n, both, more_than_one, once_or_more n rows e))
+not_repeated rows more row once = refl
 
 is_fresh : (n : ℕ) (rows : List StepRow) (row : StepRow) → repeats rows row ≡ false → is_lift n row ≡ true → stands n rows ≡ false
 is_fresh n rows (Lift m) h e = let same : n ≡ m = eqb-true n m e in rw same h
-is_fresh n rows (Tank name kg) h e = cc e
-is_fresh n rows (Restow from to id) h e = cc e
+is_fresh n rows row h e = cc e
 
 still_once : (rows : List StepRow) (row : StepRow) → NoLiftTwice rows → repeats rows row ≡ false → NoLiftTwice (rows ++ row ∷ [])
 still_once rows row once fresh n = go (is_lift n row) refl
@@ -120,8 +118,7 @@ still_once rows row once fresh n = go (is_lift n row) refl
 
 repeated : (rows : List StepRow) (row : StepRow) → repeats rows row ≡ true → (n : ℕ) × (row ≡ Lift n) × (stands n rows ≡ true)
 repeated rows (Lift n) h = (n, refl, h)
-repeated rows (Tank name kg) h = cc h
-repeated rows (Restow from to id) h = cc h
+repeated rows row h = cc h
 
 -- records that write their rows
 rows_on : (lifts : ℕ) (start rows : List StepRow) (records : List Fields) → map (row_of lifts) records ≡ map Ok rows
@@ -288,8 +285,7 @@ missing-some rows n (suc count) m h = go (stands n rows) refl (missing-some rows
 -- no row is another lift
 no_other : (lifts n : ℕ) (row : StepRow) → IsWithin lifts row → (nat_le 1 n && nat_le n lifts) ≡ false → is_lift n row ≡ false
 no_other lifts n (Lift m) h e = grind (arith, nat_tests, h.0, h.1)
-no_other lifts n (Tank name kg) h e = refl
-no_other lifts n (Restow from to id) h e = refl
+no_other lifts n row h e = refl
 
 none_beyond : (lifts n : ℕ) (records : List Fields) (rows : List StepRow) → map (row_of lifts) records ≡ map Ok rows
     → (nat_le 1 n && nat_le n lifts) ≡ false → times n rows ≡ 0

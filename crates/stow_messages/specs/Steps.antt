@@ -67,16 +67,14 @@ row_of lifts fields = Err BadCsv
 -- the row is lift n; lift n stands among the rows; the row is a lift that does
 abbrev pub is_lift : ℕ → StepRow → Bool
 is_lift n (Lift m) = n == m
-is_lift n (Tank name kg) = false
-is_lift n (Restow from to id) = false
+is_lift n row = false
 
 abbrev pub stands : ℕ → List StepRow → Bool
 stands n rows = list_any (is_lift n) rows
 
 abbrev pub repeats : List StepRow → StepRow → Bool
 repeats rows (Lift n) = stands n rows
-repeats rows (Tank name kg) = false
-repeats rows (Restow from to id) = false
+repeats rows row = false
 
 -- the rows with one more, and with that of one more record: a file has at most 200,000
 abbrev pub with_row : List StepRow → StepRow → Result (List StepRow) StepsCode

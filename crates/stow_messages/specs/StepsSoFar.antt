@@ -7,7 +7,7 @@ use Rattle.csv_text.specs.Reading.{Fields, HasLeft}
 use Rattle.stow_messages.specs.declared.step_faults.StepsCode.{StepsCode}
 use Rattle.stow_messages.specs.declared.step_faults.StepsCode.TheVariants.{NoMemory}
 use Rattle.stow_messages.specs.declared.step_rows.StepRow.{StepRow}
-use Rattle.stow_messages.specs.declared.step_rows.StepRow.TheVariants.{Lift, Tank, Restow}
+use Rattle.stow_messages.specs.declared.step_rows.StepRow.TheVariants.{Lift}
 use Rattle.stow_messages.specs.Steps.{stands}
 
 -- one flag for each lift, which says whether the lift stands among the rows
@@ -18,8 +18,7 @@ pub record AreFlags (lifts : ℕ) (rows : List StepRow) (flags : List Bool) : Ty
 -- a row that is a lift is one of the lifts
 abbrev pub IsWithin : ℕ → StepRow → Type 0
 IsWithin lifts (Lift n) = (1 ≤ n) × (n ≤ lifts)
-IsWithin lifts (Tank name kg) = ⊤
-IsWithin lifts (Restow from to id) = ⊤
+IsWithin lifts row = ⊤
 
 -- what holds of the records that the reader has yet to give
 abbrev pub OfRecordsLeft : Reader (Bor (List ℕ)) → (List Fields → Type 0) → Type 0

@@ -4,7 +4,7 @@ use Rattle.std.specs.Prelude.{slice_get, option_map, if◌then◌else◌}
 use Rattle.std.proofs.lemmas.List.{length-set, length-map, take_more, drop_more, set_at, length-take-le, append_assoc, set_split, take_all, drop_all, append-nil, drop-set-lt, length-drop, take-map}
 use Rattle.std.proofs.lemmas.Option.{none-some}
 use Rattle.units_core.specs.declared.cells.Cell.{Cell}
-use Rattle.stow_messages.specs.declared.lifts.Lift.TheVariants.{Load, Discharge}
+use Rattle.stow_messages.specs.declared.lifts.Lift.TheVariants.{Load}
 use Rattle.lift_sequence.specs.declared.operations.Op.{Op}
 use Rattle.lift_sequence.specs.declared.operations.Op.TheVariants as operation
 use Rattle.lift_sequence.specs.declared.steps.Step.{Step}
@@ -167,9 +167,7 @@ weighed_behind kg ops i = by (option_map (reweighed kg) (slice_get ops i)) where
 
 cell_kept : (kg : ℕ) (op : Op) → loaded_cell (reweighed kg op) ≡ loaded_cell op
 cell_kept kg (operation.Lift (Load item)) = refl
-cell_kept kg (operation.Lift (Discharge cell id)) = refl
-cell_kept kg (operation.Fill name mass) = refl
-cell_kept kg (operation.Restow from to id) = refl
+cell_kept kg op = refl
 
 pub weighed_cell : (kg : ℕ) (ops : List Op) (i : ℕ) → loaded_at (weighed_at kg i ops) i ≡ loaded_at ops i
 weighed_cell kg [] i = refl
@@ -219,9 +217,7 @@ module _ (frames : List Frame) (kg i : ℕ) (ops after : List Op) (is : after �
 -- it is light enough, too
 weighed_one : (kg : ℕ) (op : Op) → kg ≤ 10 ^ 9 → IsLight (reweighed kg op)
 weighed_one kg (operation.Lift (Load item)) h = h
-weighed_one kg (operation.Lift (Discharge cell id)) h = tt
-weighed_one kg (operation.Fill name mass) h = tt
-weighed_one kg (operation.Restow from to id) h = tt
+weighed_one kg op h = tt
 
 pub weighed_light : (kg : ℕ) (ops : List Op) (i : ℕ) → kg ≤ 10 ^ 9 → AllByRecursion IsLight ops → AllByRecursion IsLight (weighed_at kg i ops)
 weighed_light kg [] i h all = tt
