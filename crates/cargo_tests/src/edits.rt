@@ -1,3 +1,4 @@
+use crate::checks::same;
 use arrayvec::ArrayVec;
 use lift_sequence::{Op, SeqCode, SeqFault};
 use std::alloc::{AllocError, Global};
@@ -179,12 +180,12 @@ fn check_done(
     let edit_of_list = edit(change);
     let after = list_after(rt.alloc(), &ops, &edit_of_list)?;
     let after_codes = codes(rt.alloc(), &after)?;
-    assert_eq!(rt; after_codes.as_slice(), want);
+    same(rt, after_codes.as_slice(), want);
     let taken_back = inverse(&ops, &edit_of_list);
-    assert_eq!(rt; taken_back, edit(back));
+    same(rt, &taken_back, &edit(back));
     let before = list_after(rt.alloc(), &after, &taken_back)?;
     let before_codes = codes(rt.alloc(), &before)?;
-    assert_eq!(rt; before_codes.as_slice(), LIST.as_slice());
+    same(rt, before_codes.as_slice(), LIST.as_slice());
     Ok(())
 }
 
@@ -221,7 +222,7 @@ fn edits_that_cannot_be(rt: HostRuntime) -> Result<(), Fail> {
     let ops = steps(rt.alloc(), &LIST)?;
     for (change, fault) in &REFUSED {
         let answer = fault_of(&ops, &edit(*change));
-        assert_eq!(rt; answer, Some(*fault));
+        same(&rt, answer, Some(*fault));
     }
     Ok(())
 }
@@ -231,7 +232,7 @@ fn steps_are_copied(rt: HostRuntime) -> Result<(), Fail> {
     let ops = steps(rt.alloc(), &LIST)?;
     let copy = copies(rt.alloc(), &ops)?;
     let copied_codes = codes(rt.alloc(), &copy)?;
-    assert_eq!(rt; copied_codes.as_slice(), LIST.as_slice());
+    same(&rt, copied_codes.as_slice(), LIST.as_slice());
     Ok(())
 }
 
@@ -253,7 +254,7 @@ static CODES: [(EditFault, &str); 4] = [
 fn codes_in_print(rt: HostRuntime) -> Result<(), Fail> {
     for (fault, text) in &CODES {
         let shown = format!(in rt.alloc(); "{fault}")?;
-        assert_eq!(rt; shown.as_str(), *text);
+        same(&rt, shown.as_str(), *text);
     }
     Ok(())
 }

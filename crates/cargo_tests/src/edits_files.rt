@@ -1,4 +1,5 @@
 //! Files of edits with what they order, line by line, and the lines that are refused.
+use crate::checks::same;
 use edits_file::{EditLine, EditsFault, edits, one_edits_file};
 use lift_sequence::Op;
 use std::alloc::{AllocError, Global};
@@ -97,7 +98,7 @@ fn answer(alloc: Global, text: &[u8]) -> Result<String, AllocError> {
 fn check(rt: &(impl Abort + AllocGlobal), rows: &[(&[u8], &str)]) -> Result<(), Fail> {
     for (text, want) in rows {
         let answer = answer(rt.alloc(), text)?;
-        assert_eq!(rt; answer.as_str(), *want);
+        same(rt, answer.as_str(), *want);
     }
     Ok(())
 }

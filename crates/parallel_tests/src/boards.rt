@@ -1,3 +1,4 @@
+use crate::checks::{holds, same};
 use claim_board::Event::{Draw, Look, Post, Refuse, Skip, Stop, Work};
 use claim_board::Stage::{Drawn, Looked, Posted, Skipped, Worked};
 use claim_board::{Entry, Event, Stage, World, for_every_run};
@@ -64,22 +65,22 @@ static EVENTS: [(Event, bool); 19] = [
 fn board_events(rt: HostRuntime) -> Result<(), Fail> {
     let mut world = World::new(rt.alloc(), 2, &[0, 5, 10], &[Some(3), Some(9), None])?;
     for (event, enabled) in EVENTS {
-        assert_eq!(rt; world.apply(event), enabled);
+        same(&rt, world.apply(event), enabled);
     }
-    assert_eq!(rt; world.next(), 5);
-    assert_eq!(rt; world.least(), Some(3));
-    assert!(rt; are(world.entries(0), &FIRST_WORKER));
-    assert!(rt; are(world.entries(1), &SECOND_WORKER));
+    same(&rt, world.next(), 5);
+    same(&rt, world.least(), Some(3));
+    holds(&rt, are(world.entries(0), &FIRST_WORKER));
+    holds(&rt, are(world.entries(1), &SECOND_WORKER));
     Ok(())
 }
 
 #[test]
 fn board_without_chunks(rt: HostRuntime) -> Result<(), Fail> {
     let mut world = World::new(rt.alloc(), 1, &[], &[])?;
-    assert!(rt; world.apply(Draw(0)));
-    assert!(rt; world.apply(Stop(0)));
-    assert!(rt; !world.apply(Draw(0)));
-    assert_eq!(rt; world.next(), 1);
+    holds(&rt, world.apply(Draw(0)));
+    holds(&rt, world.apply(Stop(0)));
+    holds(&rt, !world.apply(Draw(0)));
+    same(&rt, world.next(), 1);
     Ok(())
 }
 
@@ -266,13 +267,13 @@ fn refuses(rt: &(impl Abort + AllocGlobal), case: &Case) -> Result<(), Fail> {
     assert!(rt; case.begins.len() <= 2);
     let mut world = World::new(rt.alloc(), 1, case.begins, case.found)?;
     for event in case.before {
-        assert!(rt; world.apply(*event));
+        holds(rt, world.apply(*event));
     }
     for event in case.refused {
-        assert!(rt; !world.apply(*event));
-        assert_eq!(rt; world.next(), case.next);
-        assert_eq!(rt; world.least(), case.least);
-        assert!(rt; are(world.entries(0), case.entries));
+        holds(rt, !world.apply(*event));
+        same(rt, world.next(), case.next);
+        same(rt, world.least(), case.least);
+        holds(rt, are(world.entries(0), case.entries));
     }
     Ok(())
 }
@@ -289,7 +290,7 @@ fn events_that_are_not_enabled(rt: HostRuntime) -> Result<(), Fail> {
 #[test]
 fn nobody_has_entries(rt: HostRuntime) -> Result<(), Fail> {
     let world = World::new(rt.alloc(), 1, &[0], &[None])?;
-    assert!(rt; world.entries(1).is_empty());
+    holds(&rt, world.entries(1).is_empty());
     for_every_run();
     Ok(())
 }

@@ -5,6 +5,8 @@
 #[cfg(test)]
 mod boards;
 #[cfg(test)]
+mod checks;
+#[cfg(test)]
 mod runs;
 #[cfg(test)]
 mod scans;

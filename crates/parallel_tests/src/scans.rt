@@ -1,5 +1,6 @@
 ghost use Rattle.std.specs.Prelude.{◌≡◌};
 
+use crate::checks::{holds, same};
 use prefix_scan::{CutFault, Cuts, Last, MAX_PARTS, Monoid, Running, fold, offsets};
 use std::alloc::Global;
 use std::test::Fail;
@@ -31,10 +32,10 @@ fn joined(value: Option<u32>, parts: u32) -> Last
 
 #[test]
 fn folds(rt: HostRuntime) {
-    assert_eq!(rt; fold(&VALUES), joined(Some(3), 3));
-    assert_eq!(rt; fold::<Last>(&[]), Last::unit());
-    assert_eq!(rt; VALUES[0].size(), 1);
-    assert_eq!(rt; MAX_PARTS, 1 << 19);
+    same(&rt, fold(&VALUES), joined(Some(3), 3));
+    same(&rt, fold::<Last>(&[]), Last::unit());
+    same(&rt, VALUES[0].size(), 1);
+    same(&rt, MAX_PARTS, 1 << 19);
 }
 
 // Each offset is the fold of the values before it, without its own.
@@ -42,7 +43,7 @@ fn folds(rt: HostRuntime) {
 fn scan_and_cuts(rt: HostRuntime) -> Result<(), Fail> {
     let before = offsets(rt.alloc(), &VALUES)?;
     let expected = [joined(None, 0), joined(Some(1), 1), joined(Some(1), 2)];
-    assert_eq!(rt; before.as_slice(), expected.as_slice());
+    same(&rt, before.as_slice(), expected.as_slice());
     Ok(())
 }
 
@@ -66,9 +67,9 @@ static LATER: [Last; 2] = [
 #[test]
 fn running_joins(rt: HostRuntime) {
     let mut running = Running::new(SEVEN, &LATER);
-    assert_eq!(rt; running.next(), Some(joined(Some(7), 2)));
-    assert_eq!(rt; running.next(), Some(joined(Some(3), 3)));
-    assert_eq!(rt; running.next(), None);
+    same(&rt, running.next(), Some(joined(Some(7), 2)));
+    same(&rt, running.next(), Some(joined(Some(3), 3)));
+    same(&rt, running.next(), None);
 }
 
 /// Ends, the length that they cut, and the first fault.
@@ -94,9 +95,9 @@ fn fault_of(alloc: Global, ends: &[u32], len: u32) -> Option<CutFault> {
 #[test]
 fn faults_of_cuts(rt: HostRuntime) {
     for (ends, len, fault) in &FAULTS {
-        assert_eq!(rt; fault_of(rt.alloc(), ends, *len), Some(*fault));
+        same(&rt, fault_of(rt.alloc(), ends, *len), Some(*fault));
     }
-    assert_eq!(rt; fault_of(rt.alloc(), &[1, 3], 3), None);
+    same(&rt, fault_of(rt.alloc(), &[1, 3], 3), None);
 }
 
 /// The chunks of so many numbers each: their count, and where the last one begins and ends.
@@ -112,9 +113,9 @@ static EVERY: [(u32, u32, usize, u32, u32); 5] = [
 fn chunks_of_one_length(rt: HostRuntime) -> Result<(), Fail> {
     for (n, len, chunks, start, end) in &EVERY {
         let cuts = Cuts::every(rt.alloc(), *n, *len)?;
-        assert_eq!(rt; cuts.chunks(), *chunks);
+        same(&rt, cuts.chunks(), *chunks);
         let last = cuts.range(cuts.chunks() - 1);
-        assert_eq!(rt; (last.start, last.end), (*start, *end));
+        same(&rt, (last.start, last.end), (*start, *end));
     }
     Ok(())
 }
@@ -122,7 +123,10 @@ fn chunks_of_one_length(rt: HostRuntime) -> Result<(), Fail> {
 #[test]
 fn no_chunks(rt: HostRuntime) {
     for (n, len) in [(0, 3), (2, 0), (0, 0)] {
-        assert!(rt; matches!(Cuts::every(rt.alloc(), n, len), Err(CutFault::Empty)));
+        holds(
+            &rt,
+            matches!(Cuts::every(rt.alloc(), n, len), Err(CutFault::Empty)),
+        );
     }
 }
 
@@ -135,7 +139,7 @@ fn codes_in_print(rt: HostRuntime) -> Result<(), Fail> {
         (CutFault::NoMemory, "K4"),
     ] {
         let shown = format!(in rt.alloc(); "{fault}")?;
-        assert_eq!(rt; shown.as_str(), text);
+        same(&rt, shown.as_str(), text);
     }
     Ok(())
 }

@@ -1,6 +1,7 @@
 //! The report as a caller of the library asks for it. What its lines and refusals say is tested by runs of the program, in `tests/program.d`.
 ghost use Rattle.std.specs.Prelude.{◌≤◌};
 
+use crate::checks::{holds, same};
 use box_ship::{EMPTY_PLAN, NO_MOVES, files};
 use claim_run::{Open, Workers};
 use seq_report::{CutPlan, Inputs, Options, RunFault, Summary, Through, first_fail, report};
@@ -54,8 +55,8 @@ fn written_by(
     );
     let first = first_fail(rt, rt.alloc(), &Open, &inputs, options);
     match outcome {
-        Ok(summary) => assert_eq!(rt; first, Ok(summary.first)),
-        Err(fault) => assert_eq!(rt; first, Err(fault)),
+        Ok(summary) => same(rt, first, Ok(summary.first)),
+        Err(fault) => same(rt, first, Err(fault)),
     }
     (outcome, taken)
 }
@@ -68,12 +69,12 @@ fn check_refusal(
     refusal: &str,
 ) -> Result<(), Fail> {
     let (outcome, text) = written_by(rt, movins, &options(2, plan));
-    assert!(rt; text.is_empty());
+    holds(rt, text.is_empty());
     match outcome {
         Ok(_) => assert!(rt; false, "not refused: {refusal}"),
         Err(fault) => {
             let shown = format!(in rt.alloc(); "{fault}")?;
-            assert_eq!(rt; shown.as_str(), refusal);
+            same(rt, shown.as_str(), refusal);
         }
     }
     Ok(())
@@ -88,12 +89,13 @@ static EMPTY_REPORT: &[u8] =
 #[test]
 fn empty_plan(rt: HostRuntime) {
     let (outcome, text) = written_by(&rt, NO_MOVES, &options(2, PLAN));
-    assert_eq!(rt; text.as_slice(), EMPTY_REPORT);
-    assert_eq!(rt;
+    same(&rt, text.as_slice(), EMPTY_REPORT);
+    same(
+        &rt,
         outcome,
         Ok(Summary {
             lines: 1,
-            first: None
-        })
+            first: None,
+        }),
     );
 }

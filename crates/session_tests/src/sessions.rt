@@ -1,5 +1,6 @@
 ghost use Rattle.std.specs.Prelude.{◌≤◌};
 
+use crate::checks::same;
 use box_ship::{EMPTY_PLAN, files};
 use claim_run::{Open, Workers};
 use seq_report::{CutPlan, Inputs, Options, RunFault, Through};
@@ -62,7 +63,7 @@ fn report_of(
     };
     let outcome = session.report(rt, &Open, &options, &mut Through::new(&mut taken));
     match outcome {
-        Ok(summary) => assert_eq!(rt; session.first_fail(), summary.first),
+        Ok(summary) => same(rt, session.first_fail(), summary.first),
         Err(fault) => assert!(rt; false, "no report: {fault}"),
     }
     taken
@@ -75,6 +76,6 @@ fn check_report(
     lines: &str,
 ) -> Result<(), Fail> {
     let expected = format!(in rt.alloc(); "{HEADER}\n{EMPTY_LINE}\n{lines}ALL PASS\n")?;
-    assert_eq!(rt; report_of(rt, session).as_slice(), expected.as_bytes());
+    same(rt, report_of(rt, session).as_slice(), expected.as_bytes());
     Ok(())
 }

@@ -1,3 +1,4 @@
+use crate::checks::{holds, holds_row, same_row};
 use ship_tables::{
     Curves, Extent, File, Hydro, TableFault, TableTexts, Tables, one_file, one_record, one_set,
     sound_hydro_is_read,
@@ -109,7 +110,7 @@ pub fn refusal(alloc: Global, extent: &Extent, file: File, text: &str) -> Result
 
 /// Compares words with those that are wanted of a case.
 pub fn check_words(rt: &impl Abort, words: &str, want: &str, case: &str) {
-    assert_eq!(rt; words, want, "{case}");
+    same_row(rt, case, words, want);
 }
 
 /// Reads a text and compares the words of its fault; none for a text that is taken.
@@ -411,10 +412,10 @@ fn box_text(file: File) -> &'static str {
 
 #[test]
 fn equal_tables(rt: HostRuntime) -> Result<(), Fail> {
-    assert!(rt; are_same(rt.alloc(), &unlike_texts(), &unlike_texts())?);
+    holds(&rt, are_same(rt.alloc(), &unlike_texts(), &unlike_texts())?);
     for file in &FILES {
         let other = with_text(unlike_texts(), *file, box_text(*file).as_bytes());
-        assert!(rt; !are_same(rt.alloc(), &unlike_texts(), &other)?, "{file}");
+        holds_row(&rt, file, !are_same(rt.alloc(), &unlike_texts(), &other)?);
     }
     Ok(())
 }

@@ -1,4 +1,5 @@
 use super::masses::{BLOCK, Mass, length, sum_of};
+use crate::checks::same;
 use box_ship::{Check, on_box_ship};
 use hydrostat::{DraughtLine, Outside, floating_of};
 use ship_profile::Profile;
@@ -70,7 +71,7 @@ impl<R: Abort + AllocGlobal> Check<R> for Rows {
     fn check(&self, rt: &R, profile: &Profile) -> Result<(), Fail> {
         for row in self.0 {
             let floats = condition(profile, row.masses)?;
-            assert_eq!(rt; floats, row.condition);
+            same(rt, floats, row.condition);
         }
         Ok(())
     }
@@ -121,7 +122,7 @@ impl<R: Abort + AllocGlobal> Check<R> for Decided {
         let sum = sum_of(profile, CONDITIONS[1].masses)?;
         let floats = floating_of(profile, &sum).ok().ok_or("afloat")?;
         let line = DraughtLine::new(&floats.afloat);
-        assert_eq!(rt; line.decided(length(25_000)?), Some(4_027));
+        same(rt, line.decided(length(25_000)?), Some(4_027));
         Ok(())
     }
 }

@@ -1,6 +1,7 @@
 ghost use Rattle.strength.specs.Hull.{IsHullOf};
 
 use super::masses::{BLOCK, Mass, sum_of};
+use crate::checks::same;
 use box_ship::{Check, on_box_ship};
 use criteria::{Criterion, Figures, Judged, Nearby, Verdict, judge, judge_into, judge_near};
 use hydrostat::Outside;
@@ -19,7 +20,7 @@ enum Said {
 
 /// Of a ship's figures, those three.
 fn three(figures: &Figures) -> [i128; 3] {
-    [figures.gm, figures.lever, figures.shear[2]]
+    [figures.gm, figures.lever, figures.strains.loads.shear[2]]
 }
 
 /// What a verdict says.
@@ -67,7 +68,7 @@ impl<R: Abort + AllocGlobal> Check<R> for Rows {
         let mut near = Nearby::default();
         for row in self.0 {
             let told = judged(profile, &hull, row, &mut near)?;
-            assert_eq!(rt; told, [row.told; 3]);
+            same(rt, told, [row.told; 3]);
         }
         Ok(())
     }

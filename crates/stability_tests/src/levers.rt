@@ -1,5 +1,6 @@
 //! The righting levers of the box ship, and of one whose greatest lever stands at two angles.
 use super::masses::sum_of;
+use crate::checks::{same, same_row};
 use box_ship::{Check, files, on_box_ship, on_ship};
 use hydrostat::Outside;
 use righting::{
@@ -60,7 +61,7 @@ struct Listing {
 impl<R: Abort + AllocGlobal> Check<R> for Listing {
     fn check(&self, rt: &R, profile: &Profile) -> Result<(), Fail> {
         let levers = levers_with(profile, self.y, 6_000)?;
-        assert_eq!(rt; figures(&levers), self.levers, "{}", self.y);
+        same_row(rt, self.y, figures(&levers), self.levers);
         Ok(())
     }
 }
@@ -104,7 +105,7 @@ impl<R: Abort + AllocGlobal> Check<R> for Displacements {
     fn check(&self, rt: &R, profile: &Profile) -> Result<(), Fail> {
         for (kg, inside) in &DISPLACEMENTS {
             let levers = told(profile, *kg, 0, 6_000)?;
-            assert_eq!(rt; levers.is_some(), *inside, "{kg}");
+            same_row(rt, kg, levers.is_some(), *inside);
         }
         Ok(())
     }
@@ -155,7 +156,7 @@ impl<R: Abort + AllocGlobal> Check<R> for Areas {
             assert_eq!(rt; area(&levers, *from, *to)?, *sum, "{from} to {to}");
         }
         // from 10 to 30 degrees: 748.112 + 4 * (1,097.086 + 1,694.292) + 2 * 1,417.880 + 1,900 = 16,649.384
-        assert_eq!(rt; floor(area_over_pairs(&levers, 2, 2)), 16_649);
+        same(rt, floor(area_over_pairs(&levers, 2, 2)), 16_649);
         Ok(())
     }
 }
@@ -176,8 +177,8 @@ fn area_at_its_limit(rt: HostRuntime) {
         num: 2_363_450,
         den: 1_250,
     };
-    assert_eq!(rt; area_holds(met, 3_151_268), true);
-    assert_eq!(rt; area_holds(missed, 3_151_268), false);
+    same(&rt, area_holds(met, 3_151_268), true);
+    same(&rt, area_holds(missed, 3_151_268), false);
 }
 
 /// Looks for the greatest lever on the keel and the middle line, where the levers are those of the curves: 4,230 mm at 20 and at 25 degrees,
@@ -188,10 +189,10 @@ struct Greatest;
 impl<R: Abort + AllocGlobal> Check<R> for Greatest {
     fn check(&self, rt: &R, profile: &Profile) -> Result<(), Fail> {
         let levers = levers_with(profile, 0, 0)?;
-        assert_eq!(rt; greatest(&levers).degrees(), 20);
-        assert_eq!(rt; greatest_number(&levers), 4);
-        assert_eq!(rt; floor(best_from_30(&levers)), 4_000);
-        assert_eq!(rt; best_number_from_30(&levers), 6);
+        same(rt, greatest(&levers).degrees(), 20);
+        same(rt, greatest_number(&levers), 4);
+        same(rt, floor(best_from_30(&levers)), 4_000);
+        same(rt, best_number_from_30(&levers), 6);
         Ok(())
     }
 }

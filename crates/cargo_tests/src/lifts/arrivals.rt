@@ -1,6 +1,7 @@
 //! What is aboard on arrival, and the first item or fill that can't be.
 use super::orders::{CONTAINER_KG, items};
 use super::ships::{ASHORE, FORE, LONG, MIDDLE};
+use crate::checks::same;
 use box_ship::{Check, on_box_ship};
 use lift_sequence::{Arrival, SeqCode, SeqFault};
 use ship_profile::{Profile, TankFill};
@@ -118,7 +119,7 @@ fn check_cases(
 ) -> Result<(), Fail> {
     for case in cases {
         let fault = fault_of_arrival(rt.alloc(), profile, case.cells, case.kg)?;
-        assert_eq!(rt; fault, case.fault);
+        same(rt, fault, case.fault);
     }
     Ok(())
 }
@@ -144,7 +145,7 @@ impl<R: Abort + AllocGlobal> Check<R> for Full {
 /// What is aboard with the tank full has its masses.
 fn check_full(rt: &(impl Abort + AllocGlobal), profile: &Profile) -> Result<(), Fail> {
     let full = masses_on_arrival(rt.alloc(), profile, &[MIDDLE], 500_000)?;
-    assert_eq!(rt; full.as_slice(), FULL.as_slice());
+    same(rt, full.as_slice(), FULL.as_slice());
     Ok(())
 }
 

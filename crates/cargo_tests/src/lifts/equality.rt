@@ -1,6 +1,7 @@
 //! Which conditions on arrival are equal.
 use super::orders::{ABCU, NO_MEMORY, XYZU, short};
 use super::ships::{AFT, BESIDE, FORE, MIDDLE};
+use crate::checks::{holds, holds_row};
 use box_ship::{Check, LIMITS, files, on_box_ship};
 use lift_sequence::{Arrival, SeqFault};
 use ship_profile::{Profile, ProfileBytes, TankFill};
@@ -159,10 +160,10 @@ impl<R: Abort + AllocGlobal> Check<R> for OnOneShip {
 }
 
 fn check_conditions(rt: &(impl Abort + AllocGlobal), profile: &Profile) -> Result<(), Fail> {
-    assert!(rt; are_same(rt.alloc(), profile, profile, &PLAIN)?);
+    holds(rt, are_same(rt.alloc(), profile, profile, &PLAIN)?);
     for condition in &OTHERS {
         let is_same = are_same(rt.alloc(), profile, profile, condition)?;
-        assert!(rt; !is_same, "{}", condition.name);
+        holds_row(rt, condition.name, !is_same);
     }
     Ok(())
 }
@@ -199,8 +200,8 @@ impl<R: Abort + AllocGlobal> Check<R> for OnTwoShips {
 }
 
 fn check_blocks(rt: &(impl Abort + AllocGlobal), profile: &Profile) -> Result<(), Fail> {
-    assert!(rt; is_same_with_block(rt.alloc(), profile, 8_200_000)?);
-    assert!(rt; !is_same_with_block(rt.alloc(), profile, 8_200_001)?);
+    holds(rt, is_same_with_block(rt.alloc(), profile, 8_200_000)?);
+    holds(rt, !is_same_with_block(rt.alloc(), profile, 8_200_001)?);
     Ok(())
 }
 

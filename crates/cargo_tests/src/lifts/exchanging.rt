@@ -4,6 +4,7 @@ ghost use Rattle.lift_sequence.specs.Sequence.{IsOf};
 use super::orders::{ABCU, NO_MEMORY, Order, items, op, ops};
 use super::reweighing::step;
 use super::ships::{AFT, BESIDE, FORE, LONG, MIDDLE};
+use crate::checks::same;
 use box_ship::{Check, on_box_ship};
 use lift_sequence::{Arrival, SeqFault, Sequence};
 use ship_profile::Profile;
@@ -56,9 +57,9 @@ fn swap(sequence: &mut Sequence, a: usize, b: usize) -> bool {
 
 /// Two sequences order the same, and each step does the same.
 fn check_same(rt: &impl Abort, one: &Sequence, other: &Sequence) {
-    assert_eq!(rt; one.ops(), other.ops());
+    same(rt, one.ops(), other.ops());
     for number in 1..=other.len() {
-        assert_eq!(rt; step(one, number), step(other, number));
+        same(rt, step(one, number), step(other, number));
     }
 }
 
@@ -76,7 +77,7 @@ fn check_from(
         Ok(wanted) => match sequence(rt.alloc(), profile, arrival, case.orders) {
             Ok(mut swapped) => {
                 let did = swap(&mut swapped, case.pair[0], case.pair[1]);
-                assert_eq!(rt; did, case.did);
+                same(rt, did, case.did);
                 check_same(rt, &swapped, &wanted);
                 Ok(())
             }
@@ -105,7 +106,7 @@ fn check_case(
 impl<R: Abort + AllocGlobal> Check<R> for Cases {
     fn check(&self, rt: &R, profile: &Profile) -> Result<(), Fail> {
         for case in self.0 {
-            assert_eq!(rt; check_case(rt, profile, case), Ok(()));
+            same(rt, check_case(rt, profile, case), Ok(()));
         }
         Ok(())
     }
@@ -265,11 +266,11 @@ fn check_shifts(
     match sequence(rt.alloc(), profile, arrival, &SHIFTED) {
         Ok(wanted) => match sequence(rt.alloc(), profile, arrival, &UNSHIFTED) {
             Ok(mut shifted) => {
-                assert_eq!(rt; shift(&mut shifted, 1, 4), false);
-                assert_eq!(rt; shift(&mut shifted, 1, 3), true);
+                same(rt, shift(&mut shifted, 1, 4), false);
+                same(rt, shift(&mut shifted, 1, 3), true);
                 check_same(rt, &shifted, &wanted);
-                assert_eq!(rt; shift(&mut shifted, 3, 2), true);
-                assert_eq!(rt; shifted.ops().get(1), Some(&op(&UNSHIFTED[0])));
+                same(rt, shift(&mut shifted, 3, 2), true);
+                same(rt, shifted.ops().get(1), Some(&op(&UNSHIFTED[0])));
                 Ok(())
             }
             Err(fault) => Err(fault),
@@ -301,7 +302,7 @@ impl<R: Abort + AllocGlobal> Check<R> for Shifts {
         // `?` is longer to prove
         match Arrival::new(rt.alloc(), profile, Vec::new(rt.alloc()), &[]) {
             Ok(arrival) => {
-                assert_eq!(rt; check_shifts(rt, profile, &arrival), Ok(()));
+                same(rt, check_shifts(rt, profile, &arrival), Ok(()));
                 Ok(())
             }
             Err(fault) => Err(fault)?,
@@ -318,29 +319,35 @@ fn step_is_shifted(rt: HostRuntime) -> Result<(), Fail> {
 #[test]
 fn independent_steps(rt: HostRuntime) {
     let filling = op(&Order::Fill("DB1", 500_000));
-    assert_eq!(rt;
+    same(
+        &rt,
         filling.is_independent(&op(&Order::Fill("DB2", 300_000))),
-        true
+        true,
     );
-    assert_eq!(rt;
+    same(
+        &rt,
         filling.is_independent(&op(&Order::Fill("DB1", 300_000))),
-        false
+        false,
     );
-    assert_eq!(rt;
+    same(
+        &rt,
         filling.is_independent(&op(&Order::Weighing(FORE, 11_000))),
-        true
+        true,
     );
     let restow = op(&Order::Restow(AFT, MIDDLE));
-    assert_eq!(rt;
+    same(
+        &rt,
         restow.is_independent(&op(&Order::Discharge(AFT, ABCU))),
-        false
+        false,
     );
-    assert_eq!(rt;
+    same(
+        &rt,
         restow.is_independent(&op(&Order::Weighing(LONG, 24_100))),
-        false
+        false,
     );
-    assert_eq!(rt;
+    same(
+        &rt,
         restow.is_independent(&op(&Order::Weighing(FORE, 11_000))),
-        true
+        true,
     );
 }

@@ -1,3 +1,4 @@
+use crate::checks::same;
 use lift_sequence::SeqCode;
 use std::test::Fail;
 use units_core::Cell;
@@ -26,7 +27,7 @@ static CODES: [(SeqCode, &str); 9] = [
 fn codes_in_print(rt: HostRuntime) -> Result<(), Fail> {
     for (code, text) in &CODES {
         let shown = format!(in rt.alloc(); "{code}")?;
-        assert_eq!(rt; shown.as_str(), *text);
+        same(&rt, shown.as_str(), *text);
     }
     Ok(())
 }

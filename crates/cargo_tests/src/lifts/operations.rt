@@ -1,4 +1,5 @@
 use super::orders::short;
+use crate::checks::same;
 use lift_sequence::{Op, ops};
 use std::alloc::Global;
 use std::test::Fail;
@@ -47,8 +48,8 @@ fn steps_of_rows(rt: HostRuntime) -> Result<(), Fail> {
     let orders = ops(rt.alloc(), two_lifts(rt.alloc())?, Some(rows))?;
     assert_eq!(rt; orders.len(), 2);
     let second = item("0050082", "B", 2)?;
-    assert_eq!(rt; orders[0], Op::Lift(Lift::Load(second)));
-    assert_eq!(rt; orders[1], fill("DB1", 5));
+    same(&rt, &orders[0], &Op::Lift(Lift::Load(second)));
+    same(&rt, &orders[1], &fill("DB1", 5));
     Ok(())
 }
 
@@ -57,19 +58,19 @@ fn steps_of_lifts(rt: HostRuntime) -> Result<(), Fail> {
     let orders = ops(rt.alloc(), two_lifts(rt.alloc())?, None)?;
     assert_eq!(rt; orders.len(), 2);
     let first = item("0030082", "A", 1)?;
-    assert_eq!(rt; orders[0], Op::Lift(Lift::Load(first)));
+    same(&rt, &orders[0], &Op::Lift(Lift::Load(first)));
     Ok(())
 }
 
 #[test]
 fn steps_are_copied(rt: HostRuntime) -> Result<(), Fail> {
     let filled = fill("DB1", 5);
-    assert_eq!(rt; filled.copy(), filled);
+    same(&rt, &filled.copy(), &filled);
     let restowed = Op::Restow {
         from: cell("0030082")?,
         to: cell("0050082")?,
         id: short("A"),
     };
-    assert_eq!(rt; restowed.copy(), restowed);
+    same(&rt, &restowed.copy(), &restowed);
     Ok(())
 }

@@ -3,6 +3,7 @@ ghost use Rattle.lift_sequence.specs.Sequence.{IsOf};
 
 use super::orders::{ABCU, Order, mass, op, ops};
 use super::ships::{AFT, BESIDE, FORE, MIDDLE};
+use crate::checks::same;
 use box_ship::{Check, on_box_ship};
 use lift_sequence::{Arrival, Sequence, Step};
 use ship_profile::Profile;
@@ -96,7 +97,7 @@ pub fn step(sequence: &Sequence, number: usize) -> Step {
 /// A body has these figures.
 fn check_body(rt: &impl Abort, body: Option<Body>, want: &Figures) {
     let figures = figures(body);
-    assert_eq!(rt; figures.as_slice(), want.as_slice());
+    same(rt, figures.as_slice(), want.as_slice());
 }
 
 /// Each step takes out and puts in what it has to.
@@ -111,11 +112,11 @@ fn check_steps(rt: &impl Abort, sequence: &Sequence) {
 
 /// The first step loads another weight, and the second what it did.
 fn check_orders(rt: &impl Abort, sequence: &Sequence) {
-    assert_eq!(rt; sequence.ops().len(), LIST.len());
+    same(rt, sequence.ops().len(), LIST.len());
     let first = op(&Order::Weighing(BESIDE, 24_100));
-    assert_eq!(rt; sequence.ops().first(), Some(&first));
+    same(rt, sequence.ops().first(), Some(&first));
     let second = op(&Order::Weighing(MIDDLE, 11_000));
-    assert_eq!(rt; sequence.ops().get(1), Some(&second));
+    same(rt, sequence.ops().get(1), Some(&second));
 }
 
 /// The list, its first container of another weight, from an arrival.
@@ -162,24 +163,25 @@ fn container_is_followed(rt: HostRuntime) -> Result<(), Fail> {
 #[test]
 fn one_step_of_a_container(rt: HostRuntime) {
     let restow = op(&Order::Restow(AFT, MIDDLE));
-    assert_eq!(rt; restow.moves(Some(AFT)), true);
-    assert_eq!(rt; restow.moves(Some(MIDDLE)), false);
-    assert_eq!(rt; restow.next_cell(Some(AFT)), Some(MIDDLE));
-    assert_eq!(rt; restow.next_cell(Some(FORE)), Some(FORE));
+    same(&rt, restow.moves(Some(AFT)), true);
+    same(&rt, restow.moves(Some(MIDDLE)), false);
+    same(&rt, restow.next_cell(Some(AFT)), Some(MIDDLE));
+    same(&rt, restow.next_cell(Some(FORE)), Some(FORE));
     let discharge = op(&Order::Discharge(AFT, ABCU));
-    assert_eq!(rt; discharge.next_cell(Some(AFT)), None);
+    same(&rt, discharge.next_cell(Some(AFT)), None);
 }
 
 /// Only the step that loads it has a weight.
 #[test]
 fn weight_of_a_step(rt: HostRuntime) {
     let load = op(&Order::Weighing(AFT, 20_500));
-    assert_eq!(rt;
+    same(
+        &rt,
         load.reweighed(mass(24_100)),
-        op(&Order::Weighing(AFT, 24_100))
+        op(&Order::Weighing(AFT, 24_100)),
     );
-    assert_eq!(rt; load.loaded_cell(), Some(AFT));
+    same(&rt, load.loaded_cell(), Some(AFT));
     let restow = op(&Order::Restow(AFT, MIDDLE));
-    assert_eq!(rt; restow.reweighed(mass(24_100)), restow);
-    assert_eq!(rt; restow.loaded_cell(), None);
+    same(&rt, &restow.reweighed(mass(24_100)), &restow);
+    same(&rt, restow.loaded_cell(), None);
 }

@@ -3,6 +3,7 @@ ghost use Rattle.lift_sequence.specs.Sequence.{IsOf};
 
 use super::orders::{ABCU, NO_MEMORY, Order, XYZU, items, op, ops};
 use super::ships::{AFT, ASHORE, BESIDE, FORE, LONG, MIDDLE};
+use crate::checks::same;
 use box_ship::{Check, on_box_ship};
 use lift_sequence::{Arrival, Op, SeqCode, SeqFault, Sequence, Step};
 use ship_profile::Profile;
@@ -70,7 +71,7 @@ impl<R: Abort + AllocGlobal> Check<R> for Cases {
 fn check_cases(rt: &(impl Abort + AllocGlobal), profile: &Profile, cases: &[Case]) {
     for case in cases {
         let answer = length_of(rt.alloc(), profile, case.aboard, case.orders);
-        assert_eq!(rt; answer, case.want);
+        same(rt, answer, case.want);
     }
 }
 
@@ -335,7 +336,7 @@ fn figures(body: Option<Body>) -> [i64; 6] {
 /// A body has these figures.
 fn check_body(rt: &impl Abort, body: Option<Body>, want: &[i64; 6]) {
     let figures = figures(body);
-    assert_eq!(rt; figures.as_slice(), want.as_slice());
+    same(rt, figures.as_slice(), want.as_slice());
 }
 
 /// The last of these orders is the last step, and takes out one body and puts in another.
@@ -347,7 +348,7 @@ fn check_last(
     put: &[i64; 6],
 ) -> Result<(), Fail> {
     let last = last_step_of(rt.alloc(), profile, orders)?;
-    assert_eq!(rt; last.order, orders.last().map(op));
+    same(rt, last.order, orders.last().map(op));
     check_body(rt, last.step.out, out);
     check_body(rt, last.step.put, put);
     Ok(())
@@ -424,7 +425,7 @@ fn check_turns(
 ) -> Result<(), Fail> {
     let turns = turns(rt.alloc(), numbers)?;
     let answer = length_of(rt.alloc(), profile, &[], &turns);
-    assert_eq!(rt; answer, want);
+    same(rt, answer, want);
     Ok(())
 }
 

@@ -1,6 +1,7 @@
 //! The values of bodies, alone, joined, and with the other sign.
 use super::ships::on_two_frames;
 use super::tables::{BOX, CONTAINER, Row};
+use crate::checks::same;
 use box_ship::Check;
 use moment_sums::Totals;
 use prefix_scan::Monoid;
@@ -100,11 +101,11 @@ impl<R: Abort + AllocGlobal> Check<R> for One {
     fn check(&self, rt: &R, profile: &Profile) -> Result<(), Fail> {
         let frames = profile.frames();
         let sum = Totals::of(&self.row.body()?, frames);
-        assert_eq!(rt; values(&sum).as_slice(), self.values.as_slice());
-        assert_eq!(rt; sum.weight_aft(15), 0);
-        assert_eq!(rt; sum.moment_aft(15), 0);
-        assert_eq!(rt; sum.parts(), 1);
-        assert_eq!(rt; sum.size(), 1);
+        same(rt, values(&sum).as_slice(), self.values.as_slice());
+        same(rt, sum.weight_aft(15), 0);
+        same(rt, sum.moment_aft(15), 0);
+        same(rt, sum.parts(), 1);
+        same(rt, sum.size(), 1);
         Ok(())
     }
 }
@@ -141,15 +142,15 @@ impl<R: Abort + AllocGlobal> Check<R> for Both {
         let container = Totals::of(&CONTAINER.body()?, frames);
         let other = Totals::of(&BOX.body()?, frames);
         let both = joined(&container, &other)?;
-        assert_eq!(rt; values(&both).as_slice(), OF_BOTH.as_slice());
-        assert_eq!(rt; both.parts(), 2);
-        assert_eq!(rt; both.size(), 2);
+        same(rt, values(&both).as_slice(), OF_BOTH.as_slice());
+        same(rt, both.parts(), 2);
+        same(rt, both.size(), 2);
         let minus = other.minus();
-        assert_eq!(rt; values(&minus).as_slice(), MINUS_BOX.as_slice());
-        assert_eq!(rt; minus.size(), 1);
+        same(rt, values(&minus).as_slice(), MINUS_BOX.as_slice());
+        same(rt, minus.size(), 1);
         let left = joined(&both, &minus)?;
-        assert_eq!(rt; values(&left).as_slice(), OF_CONTAINER.as_slice());
-        assert_eq!(rt; left.parts(), 3);
+        same(rt, values(&left).as_slice(), OF_CONTAINER.as_slice());
+        same(rt, left.parts(), 3);
         Ok(())
     }
 }
@@ -162,6 +163,6 @@ fn join_and_minus(rt: HostRuntime) -> Result<(), Fail> {
 #[test]
 fn nothing_added(rt: HostRuntime) {
     let nothing = Totals::unit();
-    assert_eq!(rt; values(&nothing).as_slice(), [0; 11].as_slice());
-    assert_eq!(rt; nothing.size(), 0);
+    same(&rt, values(&nothing).as_slice(), [0; 11].as_slice());
+    same(&rt, nothing.size(), 0);
 }

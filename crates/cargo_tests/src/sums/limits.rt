@@ -2,6 +2,7 @@
 use super::bodies::joined;
 use super::ships::on_two_frames;
 use super::tables::Row;
+use crate::checks::same;
 use box_ship::Check;
 use moment_sums::Totals;
 use prefix_scan::Monoid;
@@ -228,7 +229,7 @@ impl<R: Abort + AllocGlobal> Check<R> for Cases {
         let frames = profile.frames();
         for (parts, bounded) in self.0 {
             let sum = sum_of(parts, frames)?;
-            assert_eq!(rt; sum.is_bounded(), *bounded);
+            same(rt, sum.is_bounded(), *bounded);
         }
         Ok(())
     }
@@ -271,9 +272,9 @@ impl<R: Abort + AllocGlobal> Check<R> for Surfaces {
         for _ in 0..200 {
             sum = joined(&sum, &added(&Put(1, FORE, 1_000_000_000_000), frames)?)?;
         }
-        assert_eq!(rt; sum.is_bounded(), true);
+        same(rt, sum.is_bounded(), true);
         let more = joined(&sum, &added(&Put(1, FORE, 1), frames)?)?;
-        assert_eq!(rt; more.is_bounded(), false);
+        same(rt, more.is_bounded(), false);
         Ok(())
     }
 }

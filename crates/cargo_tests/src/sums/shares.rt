@@ -1,5 +1,6 @@
 //! The share of a body that lies aft of a frame.
 use super::tables::{CONTAINER, Row, length};
+use crate::checks::same;
 use moment_sums::{moment_aft, weight_aft};
 use std::test::Fail;
 
@@ -27,8 +28,8 @@ fn share_aft_of_frame(rt: HostRuntime) -> Result<(), Fail> {
     for (x, weight, moment) in &SHARES {
         let row = Row { x: *x, ..CONTAINER };
         let body = row.body()?;
-        assert_eq!(rt; weight_aft(&body, frame), *weight);
-        assert_eq!(rt; moment_aft(&body, frame), *moment);
+        same(&rt, weight_aft(&body, frame), *weight);
+        same(&rt, moment_aft(&body, frame), *moment);
     }
     Ok(())
 }
@@ -46,8 +47,8 @@ fn share_of_long_body(rt: HostRuntime) -> Result<(), Fail> {
     let frame = length(50_000)?;
     let body = LONG.body()?;
     // 450,000,000 * 149,994 / 300,002 = 224,989,500.07
-    assert_eq!(rt; weight_aft(&body, frame), 224_989_500);
+    same(&rt, weight_aft(&body, frame), 224_989_500);
     // 450,000,000 * 149,994 * 149,994 / 600,004 = 16,873,537,536,749.8, whose product of 1.01 * 10^19 takes more than 64 bits
-    assert_eq!(rt; moment_aft(&body, frame), 16_873_537_536_749);
+    same(&rt, moment_aft(&body, frame), 16_873_537_536_749);
     Ok(())
 }

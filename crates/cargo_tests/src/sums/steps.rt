@@ -2,6 +2,7 @@
 use super::bodies::{OF_BOTH, OF_CONTAINER, Values, joined, values};
 use super::ships::on_two_frames;
 use super::tables::{BOX, CONTAINER};
+use crate::checks::same;
 use box_ship::Check;
 use lift_sequence::Step;
 use moment_sums::Totals;
@@ -57,7 +58,7 @@ impl<R: Abort + AllocGlobal> Check<R> for Steps {
             },
             frames,
         );
-        assert_eq!(rt; values(&load).as_slice(), OF_CONTAINER.as_slice());
+        same(rt, values(&load).as_slice(), OF_CONTAINER.as_slice());
         let discharge = Totals::of_step(
             &Step {
                 out: container,
@@ -65,11 +66,11 @@ impl<R: Abort + AllocGlobal> Check<R> for Steps {
             },
             frames,
         );
-        assert_eq!(rt; values(&discharge).as_slice(), TAKEN_OUT.as_slice());
-        assert_eq!(rt; discharge.size(), 1);
+        same(rt, values(&discharge).as_slice(), TAKEN_OUT.as_slice());
+        same(rt, discharge.size(), 1);
         let nothing = joined(&load, &discharge)?;
-        assert_eq!(rt; values(&nothing).as_slice(), [0; 11].as_slice());
-        assert_eq!(rt; nothing.size(), 2);
+        same(rt, values(&nothing).as_slice(), [0; 11].as_slice());
+        same(rt, nothing.size(), 2);
         let exchange = Totals::of_step(
             &Step {
                 out: container,
@@ -77,8 +78,8 @@ impl<R: Abort + AllocGlobal> Check<R> for Steps {
             },
             frames,
         );
-        assert_eq!(rt; values(&exchange).as_slice(), EXCHANGED.as_slice());
-        assert_eq!(rt; exchange.size(), 2);
+        same(rt, values(&exchange).as_slice(), EXCHANGED.as_slice());
+        same(rt, exchange.size(), 2);
         Ok(())
     }
 }
@@ -102,8 +103,8 @@ impl<R: Abort + AllocGlobal> Check<R> for Idle {
             },
             frames,
         );
-        assert_eq!(rt; values(&idle).as_slice(), [0; 11].as_slice());
-        assert_eq!(rt; idle.parts(), 0);
+        same(rt, values(&idle).as_slice(), [0; 11].as_slice());
+        same(rt, idle.parts(), 0);
         Ok(())
     }
 }
@@ -155,15 +156,15 @@ impl<R: Abort + AllocGlobal> Check<R> for Running {
             put: container,
         };
         let loaded = stepped(&sum, &load, frames)?;
-        assert_eq!(rt; values(&loaded).as_slice(), OF_BOTH.as_slice());
-        assert_eq!(rt; loaded.size(), 2);
+        same(rt, values(&loaded).as_slice(), OF_BOTH.as_slice());
+        same(rt, loaded.size(), 2);
         let exchange = Step {
             out: Some(first),
             put: container,
         };
         let exchanged = stepped(&loaded, &exchange, frames)?;
-        assert_eq!(rt; values(&exchanged).as_slice(), TWO_CONTAINERS.as_slice());
-        assert_eq!(rt; exchanged.size(), 4);
+        same(rt, values(&exchanged).as_slice(), TWO_CONTAINERS.as_slice());
+        same(rt, exchanged.size(), 4);
         Ok(())
     }
 }
@@ -182,8 +183,8 @@ impl<R: Abort + AllocGlobal> Check<R> for Added {
         let frames = profile.frames();
         let mut sum = Totals::of(&BOX.body()?, frames);
         sum.add(&CONTAINER.body()?, frames);
-        assert_eq!(rt; values(&sum).as_slice(), OF_BOTH.as_slice());
-        assert_eq!(rt; sum.size(), 2);
+        same(rt, values(&sum).as_slice(), OF_BOTH.as_slice());
+        same(rt, sum.size(), 2);
         Ok(())
     }
 }

@@ -1,6 +1,7 @@
 // Runs of a job, with threads.
 ghost use Rattle.std.specs.Prelude.{◌≤◌};
 
+use crate::checks::holds;
 use crate::runs::waits::{Squares, holds_until, wait_for};
 use claim_run::{Gate, Job, Open, Workers, run};
 use std::alloc::{AllocError, Global};
@@ -63,16 +64,16 @@ static SIXTEEN: [u64; 16] = [
 fn gated_workers(rt: HostRuntime) -> Result<(), Fail> {
     let gate = holds_until(0, 1);
     let two = by(&rt, rt.alloc(), &gate, 2, 2, &Squares)?;
-    assert!(rt; two.as_slice() == [0, 1].as_slice());
-    assert!(rt; !gate.gave_up.load(SeqCst));
+    holds(&rt, two.as_slice() == [0, 1].as_slice());
+    holds(&rt, !gate.gave_up.load(SeqCst));
     let job = AllAtOnce {
         begun: AtomicU64::new(0),
         all: AtomicBool::new(false),
         gave_up: AtomicBool::new(false),
     };
     let sixteen = by(&rt, rt.alloc(), &Open, 16, 16, &job)?;
-    assert!(rt; sixteen.as_slice() == SIXTEEN.as_slice());
-    assert!(rt; !job.gave_up.load(SeqCst));
+    holds(&rt, sixteen.as_slice() == SIXTEEN.as_slice());
+    holds(&rt, !job.gave_up.load(SeqCst));
     Ok(())
 }
 
@@ -81,7 +82,7 @@ fn gated_workers(rt: HostRuntime) -> Result<(), Fail> {
 fn values_in_order(rt: HostRuntime) -> Result<(), Fail> {
     for (n, pieces) in [(1, 5), (3, 4), (3, 0)] {
         let values = by(&rt, rt.alloc(), &Open, n, pieces, &Squares)?;
-        assert!(rt; values.as_slice() == &SIXTEEN[..pieces as usize]);
+        holds(&rt, values.as_slice() == &SIXTEEN[..pieces as usize]);
     }
     Ok(())
 }
@@ -126,14 +127,14 @@ fn refuses<R: Threads + Wait + Sync>(rt: &R, alloc: Global, n: u8) -> bool {
 #[test]
 fn piece_without_memory(rt: HostRuntime) {
     for n in [1, 2, 16] {
-        assert!(rt; refuses(&rt, rt.alloc(), n));
+        holds(&rt, refuses(&rt, rt.alloc(), n));
     }
 }
 
 #[test]
 fn numbers_of_workers(rt: HostRuntime) {
     for (n, there) in [(0, false), (1, true), (16, true), (17, false)] {
-        assert!(rt; Workers::new(n).is_some() == there);
+        holds(&rt, Workers::new(n).is_some() == there);
     }
-    assert!(rt; Workers::new(16).map(Workers::get) == Some(16));
+    holds(&rt, Workers::new(16).map(Workers::get) == Some(16));
 }

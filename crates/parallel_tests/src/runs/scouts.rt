@@ -1,6 +1,7 @@
 // Runs with an early stop, and hands of a board.
 ghost use Rattle.std.specs.Prelude.{◌≤◌};
 
+use crate::checks::holds;
 use crate::runs::waits::{holds_until, wait_for};
 use claim_run::{Board, FindsNothing, Gate, Open, Scout, Workers, every_state_is_right, run_least};
 use std::alloc::{AllocError, Global};
@@ -78,9 +79,9 @@ fn early_stop(rt: HostRuntime) -> Result<(), Fail> {
     let gate = holds_until(0, 2);
     let scout = three_chunks();
     let least = least_by_two(&rt, rt.alloc(), &gate, 3, &scout)?;
-    assert!(rt; least == Some(3));
-    assert!(rt; !scout.third.load(SeqCst));
-    assert!(rt; !gate.gave_up.load(SeqCst));
+    holds(&rt, least == Some(3));
+    holds(&rt, !scout.third.load(SeqCst));
+    holds(&rt, !gate.gave_up.load(SeqCst));
     Ok(())
 }
 
@@ -141,15 +142,21 @@ fn late_smaller_failure(rt: HostRuntime) -> Result<(), Fail> {
         gave_up: AtomicBool::new(false),
     };
     let least = least_by_two(&rt, rt.alloc(), &late, 3, &late)?;
-    assert!(rt; least == Some(3));
-    assert!(rt; !late.gave_up.load(SeqCst));
+    holds(&rt, least == Some(3));
+    holds(&rt, !late.gave_up.load(SeqCst));
     Ok(())
 }
 
 #[test]
 fn no_failing_chunk(rt: HostRuntime) -> Result<(), Fail> {
-    assert!(rt; least_by_two(&rt, rt.alloc(), &Open, 3, &FindsNothing)?.is_none());
-    assert!(rt; least_by_two(&rt, rt.alloc(), &Open, 0, &three_chunks())?.is_none());
+    holds(
+        &rt,
+        least_by_two(&rt, rt.alloc(), &Open, 3, &FindsNothing)?.is_none(),
+    );
+    holds(
+        &rt,
+        least_by_two(&rt, rt.alloc(), &Open, 0, &three_chunks())?.is_none(),
+    );
     Ok(())
 }
 
@@ -167,7 +174,7 @@ fn two_hands_one_thread(rt: HostRuntime) -> Result<(), Fail> {
     assert!(rt; a == Some(0));
     let b = board.turn(&Open, 0, &mut first);
     assert!(rt; b == Some(1));
-    assert!(rt; !scout.second.load(SeqCst));
+    holds(&rt, !scout.second.load(SeqCst));
     let c = board.turn(&Open, 1, &mut second);
     assert!(rt; c == Some(2));
     let d = board.turn(&Open, 0, &mut first);
@@ -176,7 +183,7 @@ fn two_hands_one_thread(rt: HostRuntime) -> Result<(), Fail> {
     assert!(rt; e.is_none());
     board.join(&mut first, second);
     let (next, least) = board.close(first);
-    assert!(rt; next == 5 && least == Some(3));
+    holds(&rt, next == 5 && least == Some(3));
     Ok(())
 }
 

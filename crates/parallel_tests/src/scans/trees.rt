@@ -1,6 +1,7 @@
 ghost use Rattle.std.specs.Prelude.{◌≡◌, ℕ, ◌+◌, ◌<◌, ◌≤◌, length, sum_by, IfOk};
 
 use super::{VALUES, joined};
+use crate::checks::{holds, same};
 use prefix_scan::{Cuts, Flat, Last, Monoid, Prefixes, TotalsTree, offsets_tree};
 use std::alloc::{AllocError, Global};
 use std::test::Fail;
@@ -16,25 +17,25 @@ const FIVE: Last = Last {
 #[test]
 fn scan_and_cuts(rt: HostRuntime) -> Result<(), Fail> {
     let mut tree = TotalsTree::build(rt.alloc(), &VALUES)?;
-    assert_eq!(rt; tree.len(), 3);
-    assert_eq!(rt; tree.prefix(2), joined(Some(1), 2));
-    assert_eq!(rt; tree.prefix(3), joined(Some(3), 3));
+    same(&rt, tree.len(), 3);
+    same(&rt, tree.prefix(2), joined(Some(1), 2));
+    same(&rt, tree.prefix(3), joined(Some(3), 3));
     tree.set(1, FIVE);
-    assert_eq!(rt; tree.prefix(2), joined(Some(5), 2));
+    same(&rt, tree.prefix(2), joined(Some(5), 2));
     let cuts = Cuts::at(rt.alloc(), &[2, 3], 3)?;
     let before = offsets_tree(rt.alloc(), &tree, &cuts)?;
     let expected = [joined(None, 0), joined(Some(5), 2)];
-    assert_eq!(rt; before.as_slice(), expected.as_slice());
+    same(&rt, before.as_slice(), expected.as_slice());
     Ok(())
 }
 
 #[test]
 fn flat_prefixes(rt: HostRuntime) -> Result<(), Fail> {
     let flat = Flat::build(rt.alloc(), &VALUES)?;
-    assert_eq!(rt; flat.len(), 3);
-    assert_eq!(rt; flat.prefix(0), joined(None, 0));
-    assert_eq!(rt; flat.prefix(2), joined(Some(1), 2));
-    assert_eq!(rt; flat.prefix(3), joined(Some(3), 3));
+    same(&rt, flat.len(), 3);
+    same(&rt, flat.prefix(0), joined(None, 0));
+    same(&rt, flat.prefix(2), joined(Some(1), 2));
+    same(&rt, flat.prefix(3), joined(Some(3), 3));
     Ok(())
 }
 
@@ -45,7 +46,7 @@ fn cuts_one_past_the_end(rt: HostRuntime) -> Result<(), Fail> {
     let cuts = Cuts::at(rt.alloc(), &[3, 4], 4)?;
     let before = offsets_tree(rt.alloc(), &tree, &cuts)?;
     let expected = [joined(None, 0), joined(Some(3), 3)];
-    assert_eq!(rt; before.as_slice(), expected.as_slice());
+    same(&rt, before.as_slice(), expected.as_slice());
     Ok(())
 }
 
@@ -54,24 +55,24 @@ fn cuts_one_past_the_end(rt: HostRuntime) -> Result<(), Fail> {
 #[test]
 fn joins_over_three_values(rt: HostRuntime) -> Result<(), Fail> {
     let mut tree = TotalsTree::build(rt.alloc(), &VALUES)?;
-    assert_eq!(rt; tree.joins(), 0);
+    same(&rt, tree.joins(), 0);
     tree.set(0, FIVE);
-    assert_eq!(rt; tree.joins(), 1);
+    same(&rt, tree.joins(), 1);
     tree.set(2, FIVE);
-    assert_eq!(rt; tree.joins(), 1);
-    assert_eq!(rt; tree.prefix(3), joined(Some(5), 3));
-    assert_eq!(rt; tree.joins(), 3);
-    assert_eq!(rt; tree.peek(3), joined(Some(5), 3));
-    assert_eq!(rt; tree.joins(), 3);
+    same(&rt, tree.joins(), 1);
+    same(&rt, tree.prefix(3), joined(Some(5), 3));
+    same(&rt, tree.joins(), 3);
+    same(&rt, tree.peek(3), joined(Some(5), 3));
+    same(&rt, tree.joins(), 3);
     Ok(())
 }
 
 #[test]
 fn an_empty_tree(rt: HostRuntime) -> Result<(), Fail> {
     let mut tree = TotalsTree::<Last>::build(rt.alloc(), &[])?;
-    assert_eq!(rt; tree.len(), 0);
-    assert_eq!(rt; tree.prefix(0), Last::unit());
-    assert_eq!(rt; tree.joins(), 0);
+    same(&rt, tree.len(), 0);
+    same(&rt, tree.prefix(0), Last::unit());
+    same(&rt, tree.joins(), 0);
     Ok(())
 }
 
@@ -112,8 +113,8 @@ fn counted_joins(rt: HostRuntime) -> Result<(), Fail> {
     let mut tree = TotalsTree::build(rt.alloc(), &values)?;
     for k in 0..101 {
         let (by_set, by_prefix) = rises(&mut tree, k * 59_999 / 100);
-        assert!(rt; by_set <= 17);
-        assert!(rt; by_prefix <= 17);
+        holds(&rt, by_set <= 17);
+        holds(&rt, by_prefix <= 17);
     }
     Ok(())
 }
@@ -153,7 +154,7 @@ fn agrees_after_each_set(alloc: Global, n: u32) -> Result<bool, AllocError>
 #[test]
 fn a_tree_as_the_plain_form(rt: HostRuntime) -> Result<(), Fail> {
     for n in 1..21 {
-        assert!(rt; agrees_after_each_set(rt.alloc(), n)?);
+        holds(&rt, agrees_after_each_set(rt.alloc(), n)?);
     }
     Ok(())
 }
@@ -164,12 +165,12 @@ fn a_tree_as_the_plain_form(rt: HostRuntime) -> Result<(), Fail> {
 fn a_tree_rebuilt(rt: HostRuntime) -> Result<(), Fail> {
     let mut tree = TotalsTree::build(rt.alloc(), &VALUES)?;
     tree.set(0, FIVE);
-    assert_eq!(rt; tree.joins(), 1);
+    same(&rt, tree.joins(), 1);
     let longer = [FIVE, VALUES[0], VALUES[1], VALUES[2]];
     let tree = tree.rebuilt(rt.alloc(), &longer)?;
-    assert_eq!(rt; tree.len(), 4);
-    assert_eq!(rt; tree.joins(), 1);
-    assert_eq!(rt; tree.peek(3), joined(Some(1), 3));
-    assert_eq!(rt; tree.peek(4), joined(Some(3), 4));
+    same(&rt, tree.len(), 4);
+    same(&rt, tree.joins(), 1);
+    same(&rt, tree.peek(3), joined(Some(1), 3));
+    same(&rt, tree.peek(4), joined(Some(3), 4));
     Ok(())
 }

@@ -1,4 +1,5 @@
 use super::{check_refusal, inputs, options, written_by};
+use crate::checks::{holds, same};
 use claim_run::Gate;
 use seq_report::{CutPlan, Summary, Through, report};
 use std::sync::atomic::Ordering::SeqCst;
@@ -26,13 +27,14 @@ fn two_loads(rt: HostRuntime) {
     for plan in &PLANS {
         for workers in [1, 2, 16] {
             let (outcome, text) = written_by(&rt, TWO_LOADS, &options(workers, *plan));
-            assert_eq!(rt; text.as_slice(), LINES);
-            assert_eq!(rt;
+            same(&rt, text.as_slice(), LINES);
+            same(
+                &rt,
                 outcome,
                 Ok(Summary {
                     lines: 3,
-                    first: None
-                })
+                    first: None,
+                }),
             );
         }
     }
@@ -83,9 +85,9 @@ fn gated_workers(rt: HostRuntime) {
         &options(2, CutPlan::Every(1)),
         &mut Through::new(&mut taken),
     );
-    assert_eq!(rt; taken.as_slice(), LINES);
-    assert!(rt; outcome.is_ok());
-    assert!(rt; !gate.gave_up.load(SeqCst));
+    same(&rt, taken.as_slice(), LINES);
+    holds(&rt, outcome.is_ok());
+    holds(&rt, !gate.gave_up.load(SeqCst));
 }
 
 /// Plans that don't fit three lines, and what is told of each.

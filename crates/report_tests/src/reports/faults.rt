@@ -1,3 +1,4 @@
+use crate::checks::same;
 use lift_sequence::{SeqCode, SeqFault};
 use seq_report::RunFault;
 use ship_profile::{File, ProfileFault};
@@ -86,7 +87,7 @@ static FAULTS: [(RunFault, &str); 12] = [
 fn fault_texts(rt: HostRuntime) -> Result<(), Fail> {
     for (fault, text) in &FAULTS {
         let shown = format!(in rt.alloc(); "{fault}")?;
-        assert_eq!(rt; shown.as_str(), *text);
+        same(&rt, shown.as_str(), *text);
     }
     Ok(())
 }

@@ -1,4 +1,5 @@
 use super::{PLAN, inputs, options};
+use crate::checks::same;
 use box_ship::NO_MOVES;
 use claim_run::Open;
 use seq_report::{RunFault, Sink, SinkFailed, Summary, Through, report};
@@ -57,8 +58,8 @@ fn writer_fails_after_seven(rt: HostRuntime) {
         };
         written_to(&rt, writer)
     };
-    assert_eq!(rt; outcome, Err(RunFault::Write(7)));
-    assert_eq!(rt; taken.as_slice(), b"STEP LI".as_slice());
+    same(&rt, outcome, Err(RunFault::Write(7)));
+    same(&rt, taken.as_slice(), b"STEP LI".as_slice());
 }
 
 // Wherever a writer fails, it holds a prefix of the report, of the length that is said.
@@ -86,7 +87,7 @@ fn failing_writers(rt: HostRuntime) {
                 })
             };
             assert_eq!(rt; outcome, expected, "{left} bytes, {most} a call");
-            assert_eq!(rt; taken.as_slice(), &whole[..left.min(181)]);
+            same(&rt, taken.as_slice(), &whole[..left.min(181)]);
         }
     }
     let mut taken = Vec::new(rt.alloc());
@@ -96,7 +97,7 @@ fn failing_writers(rt: HostRuntime) {
         most: 0,
     };
     let outcome = written_to(&rt, writer);
-    assert_eq!(rt; outcome, Err(RunFault::Write(0)));
+    same(&rt, outcome, Err(RunFault::Write(0)));
 }
 
 // A sink over a writer fails only where a write failed or took nothing.
@@ -116,5 +117,5 @@ fn sink_over_a_writer(rt: HostRuntime) {
         assert_eq!(rt; sink.put(b"f"), Err(SinkFailed));
         assert!(rt; sink.failed());
     }
-    assert_eq!(rt; taken.as_slice(), b"abcde".as_slice());
+    same(&rt, taken.as_slice(), b"abcde".as_slice());
 }

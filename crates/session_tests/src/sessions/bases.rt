@@ -1,5 +1,6 @@
 //! When two bases are equal.
 use super::{TWO_LOADS, session};
+use crate::checks::{holds, same};
 use box_ship::{LOAD_TO_STARBOARD, NO_MOVES, files};
 use seq_report::{Inputs, RunFault};
 use std::alloc::Global;
@@ -28,11 +29,11 @@ fn same_bases(rt: HostRuntime) -> Result<(), Fail> {
     let one = session(alloc, TWO_LOADS)?;
     let other = session(alloc, LOAD_TO_STARBOARD)?;
     let third = loaded(alloc)?;
-    assert!(rt; one.base().same(other.base()));
-    assert!(rt; !one.base().same(third.base()));
-    assert!(rt; third.base().same(loaded(alloc)?.base()));
-    assert!(rt; third.base().profile().same(one.base().profile()));
-    assert_eq!(rt; one.base().arrival().items().len(), 0);
-    assert_eq!(rt; third.base().arrival().items().len(), 1);
+    holds(&rt, one.base().same(other.base()));
+    holds(&rt, !one.base().same(third.base()));
+    holds(&rt, third.base().same(loaded(alloc)?.base()));
+    holds(&rt, third.base().profile().same(one.base().profile()));
+    same(&rt, one.base().arrival().items().len(), 0);
+    same(&rt, third.base().arrival().items().len(), 1);
     Ok(())
 }

@@ -3,6 +3,7 @@ ghost use Rattle.std.specs.Prelude.{◌≡◌, IfOk};
 ghost use Rattle.what_if.specs.Desks.{IsOf, list_of};
 
 use super::{TWO_LOADS, session};
+use crate::checks::holds;
 use std::alloc::{AllocError, Global};
 use std::sync::{Arc, Wait};
 use std::test::Fail;
@@ -81,7 +82,7 @@ fn desk_two_threads(rt: HostRuntime) -> Result<(), Fail> {
     let both = session(alloc, TWO_LOADS)?;
     let first = first_step_of(alloc, &both)?;
     let desk = Desk::new(alloc, Arc::try_clone(both.base())?)?;
-    assert!(rt; desk.find(0).is_none());
-    assert!(rt; is_shared(&rt, &desk, &both, &first)?);
+    holds(&rt, desk.find(0).is_none());
+    holds(&rt, is_shared(&rt, &desk, &both, &first)?);
     Ok(())
 }

@@ -1,6 +1,7 @@
 //! Edits of a short list of the box ship, with every figure from the worked reports of the same loads. What else edits do, and which are refused,
 //! is tested by runs of the program (`tests/program.d/trials`).
 use super::{AFT, BOTH, STARBOARD, TWO_LOADS, check_report, session};
+use crate::checks::{holds, same};
 use criteria::Verdict;
 use std::test::Fail;
 use what_if::Edit;
@@ -11,18 +12,18 @@ fn session_edits(rt: HostRuntime) -> Result<(), Fail> {
     let given = format!(in rt.alloc(); "1 {STARBOARD}\n2 L0050082 {BOTH}\n")?;
     let swapped = format!(in rt.alloc(); "1 {AFT}\n2 L0030782 {BOTH}\n")?;
     check_report(&rt, &session, given.as_str())?;
-    assert_eq!(rt; session.apply(Edit::Swap { a: 1, b: 2 }), Ok(()));
+    same(&rt, session.apply(Edit::Swap { a: 1, b: 2 }), Ok(()));
     check_report(&rt, &session, swapped.as_str())?;
-    assert_eq!(rt; session.undo(), Ok(true));
+    same(&rt, session.undo(), Ok(true));
     check_report(&rt, &session, given.as_str())?;
-    assert_eq!(rt; session.undo(), Ok(false));
+    same(&rt, session.undo(), Ok(false));
     Ok(())
 }
 
 #[test]
 fn judged_steps(rt: HostRuntime) -> Result<(), Fail> {
     let mut session = session(rt.alloc(), TWO_LOADS)?;
-    assert!(rt; matches!(session.judge(2), Some(Verdict::Passes(_))));
-    assert!(rt; session.judge(3).is_none());
+    holds(&rt, matches!(session.judge(2), Some(Verdict::Passes(_))));
+    holds(&rt, session.judge(3).is_none());
     Ok(())
 }

@@ -2,6 +2,7 @@
 use super::files::seen;
 use super::profiles::with_text;
 use super::values::unlike_ship;
+use crate::checks::{holds, holds_row};
 use ship_profile::{File, Profile, ProfileBytes};
 use std::alloc::Global;
 use std::process::Abort;
@@ -53,9 +54,9 @@ static NO_CHANGES: [(File, &str, &str); 3] = [
 
 #[test]
 fn the_same_ship(rt: HostRuntime) -> Result<(), Fail> {
-    assert!(rt; are_same(rt.alloc(), &unlike_ship(), &unlike_ship())?);
+    holds(&rt, are_same(rt.alloc(), &unlike_ship(), &unlike_ship())?);
     for (file, from, to) in &NO_CHANGES {
-        assert!(rt; is_same_with(rt.alloc(), *file, from, to)?, "{from}");
+        holds_row(&rt, from, is_same_with(rt.alloc(), *file, from, to)?);
     }
     Ok(())
 }
@@ -146,7 +147,7 @@ static CHANGES_OF_TABLES: [(File, &str, &str); 30] = [
 #[test]
 fn another_ship(rt: HostRuntime) -> Result<(), Fail> {
     for (from, to) in &CHANGES_OF_SHIP {
-        assert!(rt; !is_same_with(rt.alloc(), File::Ship, from, to)?, "{from}");
+        holds_row(&rt, from, !is_same_with(rt.alloc(), File::Ship, from, to)?);
     }
     Ok(())
 }
@@ -154,9 +155,10 @@ fn another_ship(rt: HostRuntime) -> Result<(), Fail> {
 #[test]
 fn other_tables(rt: HostRuntime) -> Result<(), Fail> {
     for (file, from, to) in &CHANGES_OF_TABLES {
-        assert!(rt;
+        holds_row(
+            &rt,
+            (file, from),
             !is_same_with(rt.alloc(), *file, from, to)?,
-            "{file} {from}"
         );
     }
     Ok(())
@@ -167,9 +169,9 @@ fn other_tables(rt: HostRuntime) -> Result<(), Fail> {
 fn a_table_that_is_missing(rt: HostRuntime) -> Result<(), Fail> {
     let files = unlike_ship();
     let without = ProfileBytes { gm: None, ..files };
-    assert!(rt; are_same(rt.alloc(), &without, &without)?);
-    assert!(rt; !are_same(rt.alloc(), &files, &without)?);
-    assert!(rt; !are_same(rt.alloc(), &without, &files)?);
+    holds(&rt, are_same(rt.alloc(), &without, &without)?);
+    holds(&rt, !are_same(rt.alloc(), &files, &without)?);
+    holds(&rt, !are_same(rt.alloc(), &without, &files)?);
     Ok(())
 }
 
@@ -184,7 +186,7 @@ fn the_name_of_a_tank(rt: HostRuntime) -> Result<(), Fail> {
     let [first, second] = &UNFILLED;
     let first = with_text(unlike_ship(), File::Tanks, first);
     let second = with_text(unlike_ship(), File::Tanks, second);
-    assert!(rt; are_same(rt.alloc(), &second, &second)?);
-    assert!(rt; !are_same(rt.alloc(), &first, &second)?);
+    holds(&rt, are_same(rt.alloc(), &second, &second)?);
+    holds(&rt, !are_same(rt.alloc(), &first, &second)?);
     Ok(())
 }

@@ -1,4 +1,5 @@
 //! The files of the box ship: 100 m long, with vertical sides, a tank and no cargo.
+use crate::checks::same_row;
 use ship_profile::{Profile, ProfileBytes, ProfileFault};
 use std::alloc::Global;
 use std::process::Abort;
@@ -175,7 +176,7 @@ pub fn refusal(alloc: Global, files: &ProfileBytes<'_>) -> Result<String, Fail> 
 
 /// Compares words with those that are wanted of a case.
 pub fn check_words(rt: &impl Abort, words: &str, want: &str, case: &str) {
-    assert_eq!(rt; words, want, "{case}");
+    same_row(rt, case, words, want);
 }
 
 /// Reads files and compares the words of their fault; none for files that are taken.

@@ -1,12 +1,13 @@
 //! The loads of the box ship, empty and with a container of 20,500 kg. One millimetre of draught is 200 cm2 of each section, and 512.5 kg of an
 //! interval of 25 m.
 use super::cargo::{Container, floating, loaded};
+use crate::checks::same;
 use box_ship::{Check, on_box_ship};
 use hydrostat::DraughtLine;
 use ship_profile::Profile;
 use std::process::Abort;
 use std::test::Fail;
-use strength::{BonjeanRow, Hull, loads_of, strains_along};
+use strength::{Hull, Walk, loads_of, strains_along};
 
 /// What is aboard, and what comes of it at her five stations, which are her frames.
 #[derive(Clone, Copy)]
@@ -60,14 +61,18 @@ impl<R: Abort + AllocGlobal> Check<R> for Condition {
         let afloat = floating(profile, &sum)?;
         let hull = Hull::new(profile);
         let line = DraughtLine::new(&afloat.afloat);
-        let mut near = BonjeanRow::default();
-        let strains = strains_along(profile, &hull, &sum, &line, &mut near).ok_or("areas")?;
-        assert_eq!(rt; &strains.loads.shear[..5], self.shear.as_slice());
-        assert_eq!(rt; &strains.loads.bending[..5], self.bending.as_slice());
-        assert_eq!(rt; strains.closing, self.closing);
+        let mut walk = Walk::default();
+        let strains = strains_along(profile, &hull, &sum, &line, &mut walk).ok_or("areas")?;
+        same(rt, &strains.loads.shear[..5], self.shear.as_slice());
+        same(rt, &strains.loads.bending[..5], self.bending.as_slice());
+        same(rt, strains.closing, self.closing);
         let loads = loads_of(profile, &sum, &afloat).ok().ok_or("loads")?;
-        assert_eq!(rt; loads.shear.as_slice(), strains.loads.shear.as_slice());
-        assert_eq!(rt; loads.bending.as_slice(), strains.loads.bending.as_slice());
+        same(rt, loads.shear.as_slice(), strains.loads.shear.as_slice());
+        same(
+            rt,
+            loads.bending.as_slice(),
+            strains.loads.bending.as_slice(),
+        );
         Ok(())
     }
 }
@@ -95,7 +100,7 @@ impl<R: Abort + AllocGlobal> Check<R> for OfHull {
     fn check(&self, rt: &R, profile: &Profile) -> Result<(), Fail> {
         let hull = Hull::new(profile);
         for frame in 0..5usize {
-            assert_eq!(rt; hull.intervals_aft(frame), frame);
+            same(rt, hull.intervals_aft(frame), frame);
         }
         Ok(())
     }
