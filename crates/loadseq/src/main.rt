@@ -4,28 +4,14 @@
 //! the report on the list that is left.
 #![tactic(auto)]
 
-mod arguments;
-mod command_line;
-mod files;
-mod folders;
-mod serving;
-mod stops;
-mod trials;
-
-use arguments::words;
 use claim_run::Open;
-use files::Disk;
-use serving::{serve, stopped};
+use command_line::words;
+use program::{serve, stopped};
+use run_files::{Disk, Stop};
 use std::alloc::{AllocError, Global};
 use std::process::ExitCode;
 use std::sync::Wait;
 use std::thread::Threads;
-use stops::Stop;
-
-#[cfg(test)]
-mod command_line_tests;
-#[cfg(test)]
-mod tests;
 
 /// The words as they are lent to the program.
 fn borrowed(alloc: Global, words: &[String]) -> Result<Vec<&str>, AllocError> {

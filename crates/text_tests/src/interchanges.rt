@@ -1,3 +1,4 @@
+use crate::checks::{holds, holds_row, same, same_row};
 use arrayvec::ArrayVec;
 use edifact_text::{EdiCode, EdiFault, Kind, one_reading, open};
 use std::test::Fail;
@@ -437,32 +438,35 @@ fn fault(code: EdiCode, place: usize) -> Result<u64, EdiFault> {
 #[test]
 fn cut_interchange(rt: HostRuntime) {
     for len in 0..EMPTY_PLAN.len() {
-        assert_eq!(rt;
+        same(
+            &rt,
             judged(&EMPTY_PLAN[..len], Kind::Baplie),
-            fault(EdiCode::Truncated, len)
+            fault(EdiCode::Truncated, len),
         );
     }
-    assert_eq!(rt; judged(EMPTY_PLAN, Kind::Baplie), Ok(0));
+    same(&rt, judged(EMPTY_PLAN, Kind::Baplie), Ok(0));
 }
 
 #[test]
 fn every_prefix(rt: HostRuntime) {
     for len in 0..LOAD_ONE.len() {
-        assert_eq!(rt;
+        same(
+            &rt,
             judged(&LOAD_ONE[..len], Kind::Movins),
-            fault(EdiCode::Truncated, len)
+            fault(EdiCode::Truncated, len),
         );
     }
-    assert_eq!(rt; judged(LOAD_ONE, Kind::Movins), Ok(4));
+    same(&rt, judged(LOAD_ONE, Kind::Movins), Ok(4));
     let end = ONE_CONTAINER.len() - 2;
     for len in 0..end {
-        assert_eq!(rt;
+        same(
+            &rt,
             judged(&ONE_CONTAINER[..len], Kind::Baplie),
-            fault(EdiCode::Truncated, len)
+            fault(EdiCode::Truncated, len),
         );
     }
     for len in end..ONE_CONTAINER.len() {
-        assert_eq!(rt; judged(&ONE_CONTAINER[..len], Kind::Baplie), Ok(4));
+        same(&rt, judged(&ONE_CONTAINER[..len], Kind::Baplie), Ok(4));
     }
 }
 
@@ -478,31 +482,31 @@ fn one_byte_changed(rt: HostRuntime) {
             match judged(&text, Kind::Baplie) {
                 Ok(_) => still = still.wrapping_add(1),
                 Err(fault) => {
-                    assert!(rt; fault.place <= ONE_CONTAINER.len());
+                    holds(&rt, fault.place <= ONE_CONTAINER.len());
                     faults = faults.wrapping_add(1);
                 }
             }
         }
         text[at] = ONE_CONTAINER[at];
     }
-    assert!(rt; still > 100, "{still}");
-    assert!(rt; faults > 100, "{faults}");
-    assert_eq!(rt; judged(&text, Kind::Baplie), Ok(4));
+    holds_row(&rt, still, still > 100);
+    holds_row(&rt, faults, faults > 100);
+    same(&rt, judged(&text, Kind::Baplie), Ok(4));
 }
 
 #[test]
 fn interchange_faults(rt: HostRuntime) {
     for (name, text, code, place) in &FAULTS {
-        assert_eq!(rt; judged(text, Kind::Baplie), fault(*code, *place), "{name}");
+        same_row(&rt, name, judged(text, Kind::Baplie), fault(*code, *place));
     }
 }
 
 #[test]
 fn interchanges(rt: HostRuntime) {
     for (name, text, count) in &PLANS {
-        assert_eq!(rt; judged(text, Kind::Baplie), Ok(*count), "{name}");
+        same_row(&rt, name, judged(text, Kind::Baplie), Ok(*count));
     }
-    assert!(rt; open(EMPTY_PLAN, Kind::Movins).is_err());
+    holds(&rt, open(EMPTY_PLAN, Kind::Movins).is_err());
     one_reading();
 }
 
@@ -527,7 +531,7 @@ fn has_components(
 #[test]
 fn components_by_their_places(rt: HostRuntime) {
     let text = b"UNA|^,!*~UNB^^^^^7~UNH^1^MOVINS|D|95B|UN~X^a|b^c|d!~e^f^g^h|i^j~UNT^3^1~UNZ^1^7~";
-    assert_eq!(rt; has_components(text, b',', &COMPONENTS), Ok(true));
+    same(&rt, has_components(text, b',', &COMPONENTS), Ok(true));
 }
 
 /// The same behind a tag of three ordinary letters.
@@ -535,7 +539,7 @@ fn components_by_their_places(rt: HostRuntime) {
 fn components_behind_a_plain_tag(rt: HostRuntime) {
     let text =
         b"UNA|^,!*~UNB^^^^^7~UNH^1^MOVINS|D|95B|UN~XYZ^a|b^c|d!~e^f^g^h|i^j~UNT^3^1~UNZ^1^7~";
-    assert_eq!(rt; has_components(text, b',', &PLAIN_COMPONENTS), Ok(true));
+    same(&rt, has_components(text, b',', &PLAIN_COMPONENTS), Ok(true));
 }
 
 /// A tag is plain where it is three letters before an element separator, and no letter is released.
@@ -546,12 +550,12 @@ fn plain_tags(rt: HostRuntime) -> Result<(), EdiFault> {
     let mut plain: u64 = 0;
     for segment in message.segments() {
         if let Some(tag) = segment.plain_tag() {
-            assert!(rt; tag.is(b'A', b'B', b'C'));
-            assert!(rt; !tag.is(b'A', b'B', b'D'));
+            holds(&rt, tag.is(b'A', b'B', b'C'));
+            holds(&rt, !tag.is(b'A', b'B', b'D'));
             plain = plain.wrapping_mul(10).wrapping_add(segment.number());
         }
     }
-    assert_eq!(rt; plain, 2);
+    same(&rt, plain, 2);
     Ok(())
 }
 
@@ -559,13 +563,13 @@ fn plain_tags(rt: HostRuntime) -> Result<(), EdiFault> {
 #[test]
 fn no_release_character(rt: HostRuntime) {
     let text = b"UNA:+,  'UNB+++++7?'UNH+1+MOVINS:D:95B:UN'A?+?'UNT+3+1'UNZ+1+7?'";
-    assert_eq!(rt; has_components(text, b',', &UNRELEASED), Ok(true));
+    same(&rt, has_components(text, b',', &UNRELEASED), Ok(true));
 }
 
 #[test]
 fn release_and_verified_weight(rt: HostRuntime) -> Result<(), EdiFault> {
     let message = open(ONE_CONTAINER, Kind::Baplie)?;
-    assert_eq!(rt; message.decimal_mark(), b'.');
+    same(&rt, message.decimal_mark(), b'.');
     let mut numbers: u64 = 0;
     let mut released = false;
     for segment in message.segments() {
@@ -574,8 +578,8 @@ fn release_and_verified_weight(rt: HostRuntime) -> Result<(), EdiFault> {
             released = segment.component(2, 0).is(b"AB+CD");
         }
     }
-    assert!(rt; released);
-    assert_eq!(rt; numbers, 2345);
+    holds(&rt, released);
+    same(&rt, numbers, 2345);
     Ok(())
 }
 
@@ -593,22 +597,23 @@ fn literals(rt: HostRuntime) -> Result<(), EdiFault> {
         if segment.tag().is(b"A") {
             seen = true;
             let mut out: ArrayVec<u8, 35> = ArrayVec::new();
-            assert!(rt; segment.component(1, 0).literal_into(&mut out));
-            assert_eq!(rt;
+            holds(&rt, segment.component(1, 0).literal_into(&mut out));
+            same(
+                &rt,
                 out.as_slice(),
-                b"1234567890123456789012345678901234?".as_slice()
+                b"1234567890123456789012345678901234?".as_slice(),
             );
-            assert!(rt; !segment.component(2, 0).literal_into(&mut out));
-            assert_eq!(rt; out.len(), 0);
+            holds(&rt, !segment.component(2, 0).literal_into(&mut out));
+            same(&rt, out.len(), 0);
             let raw = segment.component(3, 0);
-            assert!(rt; raw.same(segment.component(4, 0)));
-            assert!(rt; raw.is(b"ABC"));
-            assert!(rt; !raw.is(b"AB"));
-            assert!(rt; !raw.is_empty());
-            assert!(rt; segment.component(5, 0).is_empty());
+            holds(&rt, raw.same(segment.component(4, 0)));
+            holds(&rt, raw.is(b"ABC"));
+            holds(&rt, !raw.is(b"AB"));
+            holds(&rt, !raw.is_empty());
+            holds(&rt, segment.component(5, 0).is_empty());
         }
     }
-    assert!(rt; seen);
+    holds(&rt, seen);
     Ok(())
 }
 
@@ -637,7 +642,7 @@ fn service_characters(rt: HostRuntime) {
             } else {
                 fault(EdiCode::BadUna, 0)
             };
-            assert_eq!(rt; judged(&text, Kind::Baplie), expected, "{byte} at {place}");
+            same_row(&rt, (byte, place), judged(&text, Kind::Baplie), expected);
         }
     }
 }
@@ -645,12 +650,12 @@ fn service_characters(rt: HostRuntime) {
 #[test]
 fn printed(rt: HostRuntime) -> Result<(), Fail> {
     for (code, text) in &CODES {
-        assert_eq!(rt; code.to_string(rt.alloc())?.as_str(), *text);
+        same(&rt, code.to_string(rt.alloc())?.as_str(), *text);
     }
     let fault = EdiFault {
         code: EdiCode::SegmentCount,
         place: 57,
     };
-    assert_eq!(rt; fault.to_string(rt.alloc())?.as_str(), "E7 at 57");
+    same(&rt, fault.to_string(rt.alloc())?.as_str(), "E7 at 57");
     Ok(())
 }

@@ -1,4 +1,5 @@
 //! Numbers at the places where their digits change in count, and whole lines, against what Rust prints.
+use crate::checks::same;
 use decimal_text::{BackwardText, FourDigits, ROOM};
 use std::alloc::{AllocError, Global};
 use std::process::Abort;
@@ -27,7 +28,7 @@ fn compare(rt: &(impl Abort + AllocGlobal), rows: &[(i128, &str)]) {
         let Ok(text) = number(rt.alloc(), &digits, n) else {
             panic!(rt; "no memory")
         };
-        assert_eq!(rt; text.as_str().strip_prefix(" "), Some(wanted));
+        same(rt, text.as_str().strip_prefix(" "), Some(wanted));
     }
 }
 
@@ -95,7 +96,7 @@ fn numbers_in_digits(rt: HostRuntime) {
     let Ok(text) = appended(rt.alloc(), &line) else {
         panic!(&rt; "no memory")
     };
-    assert_eq!(&rt; text.as_str(), "123 82 007 00");
+    same(&rt, text.as_str(), "123 82 007 00");
 }
 
 #[test]
@@ -115,15 +116,15 @@ fn a_line_behind_another(rt: HostRuntime) {
     let Ok(()) = line.append_to(&mut text) else {
         panic!(&rt; "no memory")
     };
-    assert_eq!(&rt; text.as_str(), "é 7031/-42 PASS\n");
-    assert_eq!(&rt; line.room(), ROOM - 14);
+    same(&rt, text.as_str(), "é 7031/-42 PASS\n");
+    same(&rt, line.room(), ROOM - 14);
     line.clear();
-    assert_eq!(&rt; line.room(), ROOM);
+    same(&rt, line.room(), ROOM);
     line.put_natural(5);
     let Ok(()) = line.append_to(&mut text) else {
         panic!(&rt; "no memory")
     };
-    assert_eq!(&rt; text.as_str(), "é 7031/-42 PASS\n5");
+    same(&rt, text.as_str(), "é 7031/-42 PASS\n5");
 }
 
 #[test]
@@ -133,6 +134,6 @@ fn digits_before_an_end(rt: HostRuntime) {
     };
     let mut bytes = [b'-'; 26];
     let start = digits.write(1_070_310, &mut bytes, 24);
-    assert_eq!(&rt; start, 17);
-    assert_eq!(&rt; &bytes[17..], b"1070310--".as_slice());
+    same(&rt, start, 17);
+    same(&rt, &bytes[17..], b"1070310--".as_slice());
 }

@@ -1,3 +1,4 @@
+use crate::checks::{same, same_row};
 use csv::ByteRecord;
 use csv_text::{next_record, number, open_records, text_at};
 use std::alloc::{AllocError, Global};
@@ -27,7 +28,7 @@ fn shown(alloc: Global, text: &[u8]) -> Result<String, AllocError> {
 fn check(rt: &(impl Abort + AllocGlobal), rows: &[(&[u8], &str)]) -> Result<(), Fail> {
     for (text, want) in rows {
         let shown = shown(rt.alloc(), text)?;
-        assert_eq!(rt; shown.as_str(), *want);
+        same(rt, shown.as_str(), *want);
     }
     Ok(())
 }
@@ -91,6 +92,6 @@ static NUMBERS: [(&[u8], Option<i64>); 23] = [
 #[test]
 fn numbers_of_fields(rt: HostRuntime) {
     for (text, want) in &NUMBERS {
-        assert_eq!(rt; number(text), *want, "{text:?}");
+        same_row(&rt, text, number(text), *want);
     }
 }

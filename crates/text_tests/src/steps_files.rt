@@ -1,3 +1,4 @@
+use crate::checks::{same, same_row};
 use crate::messages::printed;
 use arrayvec::ArrayVec;
 use std::alloc::{AllocError, Global};
@@ -43,7 +44,7 @@ fn check(rt: &(impl Abort + AllocGlobal), lifts: u32, rows: &[(&str, &str)]) -> 
     for (records, want) in rows {
         let text = format!(in rt.alloc(); "step,a,b,c\n{records}")?;
         let answer = answer(rt.alloc(), text.as_bytes(), lifts)?;
-        assert_eq!(rt; answer.as_str(), *want, "{records}");
+        same_row(rt, records, answer.as_str(), *want);
     }
     Ok(())
 }
@@ -53,9 +54,10 @@ fn steps_file_of_every_kind(rt: HostRuntime) -> Result<(), Fail> {
     let text =
         b"step,a,b,c\ntank,DB 1,0,\nlift,2,,\nrestow,0010082,030282,\nlift, 1 ,,\nrestow,0010082,0030282,AB\ntank,A123456789ABCDEF,1000000000,\n";
     let shown = answer(rt.alloc(), text, 2)?;
-    assert_eq!(rt;
+    same(
+        &rt,
         shown.as_str(),
-        "tank DB 1 0;lift 2;restow 0010082 0030282 ;lift 1;restow 0010082 0030282 AB;tank A123456789ABCDEF 1000000000;"
+        "tank DB 1 0;lift 2;restow 0010082 0030282 ;lift 1;restow 0010082 0030282 AB;tank A123456789ABCDEF 1000000000;",
     );
     one_steps_file();
     Ok(())
@@ -137,7 +139,7 @@ fn a_spreadsheets_habits(rt: HostRuntime) -> Result<(), Fail> {
     let text =
         b"\xef\xbb\xbf\"kind\",\"\",\"\",\"\"\r\n\"tank\",\"DB,1\",\"5\",\"\"\r\nlift,\"1\",,\r\n\r\n";
     let shown = answer(rt.alloc(), text, 1)?;
-    assert_eq!(rt; shown.as_str(), "tank DB,1 5;lift 1;");
+    same(&rt, shown.as_str(), "tank DB,1 5;lift 1;");
     Ok(())
 }
 
@@ -155,7 +157,7 @@ static HEADINGS: [(&str, u32, &str); 6] = [
 fn headings_of_steps_files(rt: HostRuntime) -> Result<(), Fail> {
     for (text, lifts, want) in &HEADINGS {
         let shown = answer(rt.alloc(), text.as_bytes(), *lifts)?;
-        assert_eq!(rt; shown.as_str(), *want, "{text}");
+        same_row(&rt, text, shown.as_str(), *want);
     }
     Ok(())
 }
@@ -182,7 +184,7 @@ fn a_record_too_many(rt: HostRuntime) -> Result<(), Fail> {
             Ok(rows) => rows.len().to_string(rt.alloc())?,
             Err(fault) => fault.to_string(rt.alloc())?,
         };
-        assert_eq!(rt; shown.as_str(), *expected, "{end}");
+        same_row(&rt, end, shown.as_str(), *expected);
     }
     Ok(())
 }
@@ -193,7 +195,7 @@ fn want_of_memory_has_no_place(rt: HostRuntime) -> Result<(), Fail> {
         code: StepsCode::NoMemory,
         at: 0,
     };
-    assert_eq!(rt; fault.to_string(rt.alloc())?.as_str(), "G8");
+    same(&rt, fault.to_string(rt.alloc())?.as_str(), "G8");
     Ok(())
 }
 
@@ -206,12 +208,12 @@ fn equal_rows(rt: HostRuntime) -> Result<(), Fail> {
     let from = Cell::read(b"0010082").ok_or("a cell")?;
     let to = Cell::read(b"0030082").ok_or("a cell")?;
     let lift = StepRow::Lift(7).copy();
-    assert_eq!(rt; lift, StepRow::Lift(7));
+    same(&rt, lift, StepRow::Lift(7));
     let tank = StepRow::Tank { name, kg: 5 };
     let copy = tank.copy();
-    assert_eq!(rt; copy, tank);
+    same(&rt, copy, tank);
     let restow = StepRow::Restow { from, to, id };
     let copy = restow.copy();
-    assert_eq!(rt; copy, restow);
+    same(&rt, copy, restow);
     Ok(())
 }

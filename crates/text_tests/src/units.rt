@@ -1,3 +1,4 @@
+use crate::checks::{holds, holds_row, same, same_row};
 use std::alloc::{AllocError, Global};
 use units_core::{
     Angle, Body, Cell, Frac, Kg, Mm, Place, at_least, at_most, conflicts, cosine, enclosing,
@@ -12,8 +13,8 @@ static MASSES: [(u32, bool); 3] = [(0, true), (999_999, true), (1_000_000, false
 fn masses_within_their_limits(rt: HostRuntime) {
     for (kg, is_mass) in &MASSES {
         match Kg::new(*kg) {
-            Some(mass) => assert_eq!(rt; (mass.get(), true), (*kg, *is_mass)),
-            None => assert!(rt; !*is_mass, "{kg} kg"),
+            Some(mass) => same(&rt, (mass.get(), true), (*kg, *is_mass)),
+            None => holds_row(&rt, kg, !*is_mass),
         }
     }
 }
@@ -32,19 +33,19 @@ static LENGTHS: [(i32, bool); 6] = [
 fn lengths_within_their_limits(rt: HostRuntime) {
     for (mm, is_length) in &LENGTHS {
         match Mm::new(*mm) {
-            Some(length) => assert_eq!(rt; (length.get(), true), (*mm, *is_length)),
-            None => assert!(rt; !*is_length, "{mm} mm"),
+            Some(length) => same(&rt, (length.get(), true), (*mm, *is_length)),
+            None => holds_row(&rt, mm, !*is_length),
         }
     }
     for mm in [-1_000_000, 0, 1_000_000] {
-        assert_eq!(rt; i64::from(Mm::of(mm).get()), mm);
+        same(&rt, i64::from(Mm::of(mm).get()), mm);
     }
 }
 
 #[test]
 fn bodies_within_their_limits(rt: HostRuntime) {
     let Some(half) = Mm::new(3_029) else {
-        assert!(rt; false);
+        holds(&rt, false);
         return;
     };
     let place = Place {
@@ -62,12 +63,12 @@ fn bodies_within_their_limits(rt: HostRuntime) {
     ] {
         match Body::new(kg, place, fsm) {
             Some(body) => {
-                assert!(rt; is_body, "{kg} kg, {fsm} kg mm");
-                assert_eq!(rt; body.kg(), kg);
-                assert_eq!(rt; body.fsm(), fsm);
-                assert_eq!(rt; body.place(), place);
+                holds_row(&rt, (kg, fsm), is_body);
+                same(&rt, body.kg(), kg);
+                same(&rt, body.fsm(), fsm);
+                same(&rt, &body.place(), &place);
             }
-            None => assert!(rt; !is_body, "{kg} kg, {fsm} kg mm"),
+            None => holds_row(&rt, (kg, fsm), !is_body),
         }
     }
 }
@@ -79,15 +80,15 @@ fn cells_of_six_and_seven_digits(rt: HostRuntime) {
         row: 7,
         tier: 82,
     };
-    assert_eq!(rt; Cell::read(b"0030782"), Some(cell));
-    assert_eq!(rt; Cell::read(b"030782"), Some(cell));
+    same(&rt, Cell::read(b"0030782"), Some(cell));
+    same(&rt, Cell::read(b"030782"), Some(cell));
     // each digit in its place
     let unlike = Cell {
         bay: 123,
         row: 45,
         tier: 67,
     };
-    assert_eq!(rt; Cell::read(b"1234567"), Some(unlike));
+    same(&rt, Cell::read(b"1234567"), Some(unlike));
 }
 
 /// Texts of five and eight digits, and one with another byte in each place: those next to the digits are `/` and `:`.
@@ -117,7 +118,7 @@ static NO_CELLS: [&[u8]; 20] = [
 #[test]
 fn other_texts_name_no_cell(rt: HostRuntime) {
     for text in &NO_CELLS {
-        assert_eq!(rt; Cell::read(text), None);
+        same(&rt, Cell::read(text), None);
     }
 }
 
@@ -131,7 +132,7 @@ fn figures_are_rounded_down(rt: HostRuntime) {
         (-12, 3, -4),
         (0, 5, 0),
     ] {
-        assert_eq!(rt; floor(Frac { num, den }), down, "{num} / {den}");
+        same_row(&rt, (num, den), floor(Frac { num, den }), down);
     }
 }
 
@@ -155,34 +156,35 @@ fn long_fractions_are_rounded_down(rt: HostRuntime) {
         (great, 7, seventh),
         (-great, 7, -seventh - 1),
     ] {
-        assert_eq!(rt; floor(Frac { num, den }), down, "{num} / {den}");
+        same_row(&rt, (num, den), floor(Frac { num, den }), down);
     }
 }
 
 #[test]
 fn limits_are_met_exactly(rt: HostRuntime) {
-    assert!(rt; at_least(Frac { num: 450, den: 3 }, 150));
-    assert!(rt; !at_least(Frac { num: 449, den: 3 }, 150));
-    assert!(rt; at_least(Frac { num: -450, den: 3 }, -150));
-    assert!(rt; !at_least(Frac { num: -451, den: 3 }, -150));
-    assert!(rt; at_most(Frac { num: 450, den: 3 }, 150));
-    assert!(rt; !at_most(Frac { num: 451, den: 3 }, 150));
+    holds(&rt, at_least(Frac { num: 450, den: 3 }, 150));
+    holds(&rt, !at_least(Frac { num: 449, den: 3 }, 150));
+    holds(&rt, at_least(Frac { num: -450, den: 3 }, -150));
+    holds(&rt, !at_least(Frac { num: -451, den: 3 }, -150));
+    holds(&rt, at_most(Frac { num: 450, den: 3 }, 150));
+    holds(&rt, !at_most(Frac { num: 451, den: 3 }, 150));
 }
 
 #[test]
 fn rows_are_joined_by_a_line(rt: HostRuntime) {
     let value = interp(8_200_000, 4_100_000, 17_667, 12_300_000, 8_556);
-    assert_eq!(rt; value.den, 8_200_000);
-    assert_eq!(rt; value.num, 17_667 * 4_100_000 + 8_556 * 4_100_000);
-    assert_eq!(rt; floor(value), 13_111);
-    assert_eq!(rt;
+    same(&rt, value.den, 8_200_000);
+    same(&rt, value.num, 17_667 * 4_100_000 + 8_556 * 4_100_000);
+    same(&rt, floor(value), 13_111);
+    same(
+        &rt,
         interp_floor(8_200_000, 4_100_000, 17_667, 12_300_000, 8_556),
-        13_111
+        13_111,
     );
-    assert_eq!(rt; interp_floor(1, 0, 0, 3, -1), -1);
+    same(&rt, interp_floor(1, 0, 0, 3, -1), -1);
     // a quarter from (0, 10) to (4, 30) is 15, three quarters are 25
-    assert_eq!(rt; interp_floor(1, 0, 10, 4, 30), 15);
-    assert_eq!(rt; interp_floor(3, 0, 10, 4, 30), 25);
+    same(&rt, interp_floor(1, 0, 10, 4, 30), 15);
+    same(&rt, interp_floor(3, 0, 10, 4, 30), 25);
 }
 
 #[test]
@@ -196,7 +198,7 @@ fn arguments_lie_between_two_rows(rt: HostRuntime) {
         (12_300_000, Some(1)),
         (12_300_001, None),
     ] {
-        assert_eq!(rt; enclosing(&arguments, x), interval, "{x}");
+        same_row(&rt, x, enclosing(&arguments, x), interval);
     }
 }
 
@@ -213,7 +215,7 @@ static SPANS: [(u16, u16, u16); 5] = [
 fn spans_of_bays(rt: HostRuntime) {
     for (bay, first, last) in &SPANS {
         let (bay, row, tier) = (*bay, 0, 82);
-        assert_eq!(rt; span(Cell { bay, row, tier }), (*first, *last));
+        same(&rt, span(Cell { bay, row, tier }), (*first, *last));
     }
 }
 
@@ -250,7 +252,7 @@ fn overlapping_spans(rt: HostRuntime) {
             row: *row,
             tier: *tier,
         };
-        assert_eq!(rt; conflicts(one, other), *want, "{first} {bay} {row} {tier}");
+        same_row(&rt, (first, bay, row, tier), conflicts(one, other), *want);
     }
 }
 
@@ -276,16 +278,17 @@ fn sines_and_cosines(rt: HostRuntime) {
     for (step, sine_of, cosine_of) in &ANGLES {
         match Angle::new(*step) {
             Some(angle) => {
-                assert_eq!(rt; (sine(angle), cosine(angle)), (*sine_of, *cosine_of));
-                assert_eq!(rt;
+                same(&rt, (sine(angle), cosine(angle)), (*sine_of, *cosine_of));
+                same(
+                    &rt,
                     (angle.step(), angle.degrees()),
-                    (usize::from(*step), *step * 5)
+                    (usize::from(*step), *step * 5),
                 );
             }
             None => assert!(rt; false, "{step} steps"),
         }
     }
-    assert!(rt; Angle::new(13).is_none());
+    holds(&rt, Angle::new(13).is_none());
 }
 
 /// Displacements of a table, and a column at them.
@@ -296,8 +299,8 @@ static COLUMN: [i128; 4] = [3, 5, 1, 7];
 // At 25, a quarter of the way from 20 to 40, the column is 5 - 4 / 4 = 4 = 80 / 20.
 #[test]
 fn readings_over_one_gap(rt: HostRuntime) {
-    assert_eq!(rt; read(&ARGUMENTS, &COLUMN, 1, 25), 80);
-    assert_eq!(rt; gap(&ARGUMENTS, 1), 20);
+    same(&rt, read(&ARGUMENTS, &COLUMN, 1, 25), 80);
+    same(&rt, gap(&ARGUMENTS, 1), 20);
 }
 
 /// Numbers, and their intervals: a row that two share belongs to the one below it.
@@ -318,12 +321,13 @@ fn searches_from_anywhere(rt: HostRuntime) {
     for start in 0..5usize {
         for (x, found) in &ENCLOSED {
             let mut near = start;
-            assert_eq!(rt;
+            same_row(
+                &rt,
+                (x, start),
                 enclosing_near(&ARGUMENTS, *x, &mut near),
                 *found,
-                "{x} from {start}"
             );
-            assert_eq!(rt; near, found.unwrap_or(start), "{x} from {start}");
+            same_row(&rt, (x, start), near, found.unwrap_or(start));
         }
     }
 }
@@ -341,7 +345,7 @@ static LISTS: [(&[i128], &[i128], bool); 6] = [
 #[test]
 fn equal_lists(rt: HostRuntime) {
     for (a, b, want) in &LISTS {
-        assert_eq!(rt; same_items(a, b), *want, "{a:?} {b:?}");
+        same_row(&rt, (a, b), same_items(a, b), *want);
     }
 }
 
@@ -368,7 +372,7 @@ fn equal_lists_of_lists(rt: HostRuntime) -> Result<(), AllocError> {
     for (a, b, want) in &ROWS {
         let first = words(rt.alloc(), a)?;
         let second = words(rt.alloc(), b)?;
-        assert_eq!(rt; same_rows(&first, &second), *want);
+        same(&rt, same_rows(&first, &second), *want);
     }
     Ok(())
 }
@@ -427,18 +431,19 @@ static PLACES: [(i32, i32, i32, i32); 5] = [
 #[test]
 fn cells_and_places_are_told_apart(rt: HostRuntime) {
     for (number, cell) in CELLS.iter().enumerate() {
-        assert_eq!(rt; same_items(&CELLS[..1], &[*cell]), number == 0, "{cell:?}");
+        same_row(&rt, cell, same_items(&CELLS[..1], &[*cell]), number == 0);
     }
     for (x, y, z, half) in &PLACES {
         let (Some(first), Some(other)) = (place(3, -5, 8, 13), place(*x, *y, *z, *half)) else {
-            assert!(rt; false);
+            holds(&rt, false);
             return;
         };
         let is_first = *x == 3 && *y == -5 && *z == 8 && *half == 13;
-        assert_eq!(rt; same_items(&[first], &[other]), is_first, "{other:?}");
-        assert_eq!(rt;
+        same_row(&rt, other, same_items(&[first], &[other]), is_first);
+        same(
+            &rt,
             same_items(&[first.x, first.y], &[other.x, other.y]),
-            *x == 3 && *y == -5
+            *x == 3 && *y == -5,
         );
     }
 }
@@ -447,11 +452,11 @@ fn cells_and_places_are_told_apart(rt: HostRuntime) {
 fn bodies_are_told_apart(rt: HostRuntime) {
     for (kg, x, fsm) in &BODIES {
         let (Some(first), Some(other)) = (body(21, 3, 34), body(*kg, *x, *fsm)) else {
-            assert!(rt; false);
+            holds(&rt, false);
             return;
         };
         let is_first = *kg == 21 && *x == 3 && *fsm == 34;
-        assert_eq!(rt; same_items(&[first], &[other]), is_first, "{other:?}");
+        same_row(&rt, other, same_items(&[first], &[other]), is_first);
     }
 }
 
@@ -459,12 +464,12 @@ fn bodies_are_told_apart(rt: HostRuntime) {
 #[test]
 fn quotients_by_a_guess(rt: HostRuntime) {
     for guess in [3, 2, 4, -4, i64::MAX] {
-        assert_eq!(rt; floor_near(Frac { num: 17, den: 5 }, guess), 3, "{guess}");
-        assert_eq!(rt; floor_near(Frac { num: -17, den: 5 }, guess), -4, "{guess}");
+        same_row(&rt, guess, floor_near(Frac { num: 17, den: 5 }, guess), 3);
+        same_row(&rt, guess, floor_near(Frac { num: -17, den: 5 }, guess), -4);
     }
     for (rest, is) in [(-1, false), (0, true), (4, true), (5, false)] {
-        assert_eq!(rt; is_rest(rest, 5), is, "{rest}");
+        same_row(&rt, rest, is_rest(rest, 5), is);
     }
     // 7 * 2^63 over 2^64 is 3.5
-    assert_eq!(rt; upper_half(1 << 63, 7), 3);
+    same(&rt, upper_half(1 << 63, 7), 3);
 }

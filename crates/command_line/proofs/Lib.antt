@@ -1,0 +1,4 @@
+pub mod Chain
+pub mod CheckWords
+pub mod LineReads
+pub mod OptionReads

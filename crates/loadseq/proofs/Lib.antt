@@ -1,6 +1,0 @@
-pub mod Chain
-pub mod CheckWords
-pub mod LineReads
-pub mod OptionReads
-pub mod StopLemmas
-pub mod TrialLemmas

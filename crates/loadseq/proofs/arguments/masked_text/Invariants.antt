@@ -1,6 +1,0 @@
-use Rattle.std.proofs.Common.{◌≡◌, string_bytes, map, take}
-use Rattle.loadseq.specs.Arguments.{masked}
-use Rattle.loadseq.proofs.arguments.masked_text.Given as goal
-
-abbrev pub invariant-loop-byte : goal.invariant-loop-byte
-invariant-loop-byte l = string_bytes l.text ≡ map masked (take l.byte-index l.bytes)

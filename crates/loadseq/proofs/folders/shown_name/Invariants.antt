@@ -1,6 +1,0 @@
-use Rattle.std.proofs.Common.{◌≡◌, string_bytes, map, take}
-use Rattle.seq_report.specs.Lifts.{shown}
-use Rattle.loadseq.proofs.folders.shown_name.Given as goal
-
-abbrev pub invariant-loop-byte : goal.invariant-loop-byte
-invariant-loop-byte l = string_bytes l.text ≡ map shown (take l.byte-index l.byte-items)

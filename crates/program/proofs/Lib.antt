@@ -1,0 +1,2 @@
+pub mod StopLemmas
+pub mod TrialLemmas

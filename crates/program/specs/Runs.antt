@@ -1,0 +1,102 @@
+-- What a run comes to, by the files that its command line names.
+use Rattle.std.specs.Prelude.{◌≡◌, ◌⊎◌, ℕ, List, Option, Ok, Err}
+use Rattle.clap.specs.Words.{Text}
+use Rattle.edits_file.specs.declared.files.EditsFault.TheVariants.{Line as LineFault}
+use Rattle.edits_file.specs.declared.forms.EditLine.{EditLine}
+use Rattle.edits_file.specs.Reading.{edits_of}
+use Rattle.lift_sequence.specs.declared.operations.Op.{Op}
+use Rattle.seq_report.specs.declared.faults.RunFault.{RunFault}
+use Rattle.seq_report.specs.declared.inputs.Inputs.{Inputs}
+use Rattle.seq_report.specs.Refusal.{Outcome, outcome_of}
+use Rattle.what_if.specs.Bases.{Base, report_on}
+use Rattle.what_if.specs.Sessions.{AreTold, SessionRecord}
+use Rattle.command_line.specs.declared.lines.Line.{Line}
+use Rattle.command_line.specs.declared.lines.Task.{Task}
+use Rattle.command_line.specs.declared.lines.Task.TheVariants.{Check, First, WhatIf}
+use Rattle.run_files.specs.declared.stops.Stop.{Stop}
+use Rattle.run_files.specs.declared.stops.Stop.TheVariants.{Refused, Edits, Usage, NoMemory, Read, Write}
+use Rattle.run_files.specs.Files.{Known, AreTexts, edits_text, texts_in}
+use Rattle.command_line.specs.Lines.{IsLine, IsNotTaken}
+use Rattle.run_files.specs.Statuses.{status_on}
+use Rattle.program.specs.Trials.{after_all, answer_lines, lists_of, outcome_after, untried}
+
+-- what comes of it when the edits of a text are tried on the steps that inputs order
+pub record AreTried (inputs : Inputs) (text : List ℕ) (outcome : Outcome) : Type 0 where
+  pub base : Base
+  pub ops : List Op
+  pub lines : List EditLine
+  pub told : AreTold inputs base ops
+  pub read : edits_of text ≡ Ok lines
+  pub outcome_is : outcome ≡ outcome_after base ops lines
+
+-- the same of a session in which they were tried, and of the answers to them
+pub record AreTriedIn (inputs : Inputs) (text : List ℕ) (session : SessionRecord) (answers : List ℕ) : Type 0 where
+  pub ops : List Op
+  pub lines : List EditLine
+  pub told : AreTold inputs session.base ops
+  pub read : edits_of text ≡ Ok lines
+  pub lists : lists_of session ≡ after_all session.base (untried ops) lines
+  pub answers_are : answers ≡ answer_lines session.base (untried ops) 1 lines
+
+-- what a run prints as a whole, and how the report in it ends
+abbrev pub IsOutcome : Task → Inputs → List ℕ → Outcome → Type 0
+IsOutcome Check inputs edits outcome = outcome_of inputs ≡ Ok outcome
+IsOutcome First inputs edits outcome = outcome_of inputs ≡ Ok outcome
+IsOutcome WhatIf inputs edits outcome = AreTried inputs edits outcome
+
+-- the inputs, and the edits, have a report, and this is the status of its first failing step
+abbrev pub HasStatus : Task → Inputs → List ℕ → ℕ → Type 0
+HasStatus task inputs edits status = (outcome : Outcome) × IsOutcome task inputs edits outcome × (status ≡ status_on outcome.summary.first)
+
+-- the inputs have a report, and the line of this number is the first of the edits that is of no form
+abbrev pub HasBadEdits : Task → Inputs → List ℕ → ℕ → Type 0
+HasBadEdits task inputs edits number =
+    (task ≡ WhatIf) × ((outcome : Outcome) × (outcome_of inputs ≡ Ok outcome)) × (edits_of edits ≡ Err (LineFault number))
+
+-- Why inputs have no report that was written: a refusal is theirs or that of the edits, and the words aren't at fault any more.
+abbrev pub IsStopOn : Task → Inputs → List ℕ → Stop → Type 0
+IsStopOn task inputs edits (Refused fault) = outcome_of inputs ≡ Err fault
+IsStopOn task inputs edits (Edits number) = HasBadEdits task inputs edits number
+IsStopOn task inputs edits (Usage text) = ⊥
+IsStopOn task inputs edits NoMemory = Unit {0}
+IsStopOn task inputs edits (Read name) = ⊥
+IsStopOn task inputs edits Write = Unit {0}
+
+-- the files of a line are these inputs and these edits, of which this holds
+abbrev pub OnFiles : (List ℕ → Known) → Line → (Inputs → List ℕ → Type 0) → Type 0
+OnFiles known line holds =
+    (inputs : Inputs) × (edits : Option (List ℕ)) × AreTexts known line (texts_in inputs edits) × holds inputs (edits_text edits)
+
+-- the report on the files of a line has this status
+abbrev pub IsReported : (List ℕ → Known) → Line → ℕ → Type 0
+IsReported known line status = OnFiles known line (λ inputs edits. HasStatus line.task inputs edits status)
+
+-- the files of a line are refused for this, or for the line of this number in the file of edits
+abbrev pub IsRefused : (List ℕ → Known) → Line → RunFault → Type 0
+IsRefused known line fault = OnFiles known line (λ inputs edits. outcome_of inputs ≡ Err fault)
+
+abbrev pub AreEditsRefused : (List ℕ → Known) → Line → ℕ → Type 0
+AreEditsRefused known line number = OnFiles known line (λ inputs edits. HasBadEdits line.task inputs edits number)
+
+-- why the files of a line have no report that was written
+abbrev pub IsStopOf : (List ℕ → Known) → Line → Stop → Type 0
+IsStopOf known line (Refused fault) = IsRefused known line fault
+IsStopOf known line (Edits number) = AreEditsRefused known line number
+IsStopOf known line (Usage text) = ⊥
+IsStopOf known line stop = Unit {0}
+
+-- the same of the words of a whole command line
+abbrev pub IsReportedBy : (List ℕ → Known) → List Text → ℕ → Type 0
+IsReportedBy known words status = (line : Line) × IsLine words line × IsReported known line status
+
+abbrev pub IsRefusedBy : (List ℕ → Known) → List Text → Type 0
+IsRefusedBy known words =
+    (line : Line) × IsLine words line × (((fault : RunFault) × IsRefused known line fault) ⊎ ((number : ℕ) × AreEditsRefused known line number))
+
+abbrev pub IsStopBy : (List ℕ → Known) → List Text → Stop → Type 0
+IsStopBy known words (Usage text) = IsNotTaken words
+IsStopBy known words (Refused fault) =
+    (line : Line) × IsLine words line × IsRefused known line fault
+IsStopBy known words (Edits number) =
+    (line : Line) × IsLine words line × AreEditsRefused known line number
+IsStopBy known words stop = Unit {0}

@@ -1,0 +1,220 @@
+ghost use Rattle.std.specs.Prelude.{◌≡◌, ◌≤◌, IfOk, IfErr, Ok, false, map};
+ghost use Rattle.std.specs.Io.KnownBytes.{Appends};
+ghost use Rattle.seq_report.specs.Refusal.{Outcome, outcome_of};
+ghost use Rattle.seq_report.specs.Report.{last_line};
+ghost use Rattle.command_line.specs.Lines.{IsNotTaken};
+ghost use Rattle.program.specs.Runs.{AreTried, IsRefusedBy, IsReported, IsReportedBy, IsStopBy, IsStopOf, IsStopOn};
+ghost use Rattle.run_files.specs.Statuses.{status_of, status_on};
+
+use crate::trials::try_edits;
+use claim_run::{Gate, Workers};
+use command_line::{Line, Task, read_line};
+use run_files::{Readers, Stop, read_texts};
+use seq_report::{
+    Criterion, CutPlan, Inputs, Options, Sink, Through, first_fail, put_all, report,
+    write_last_line,
+};
+use std::alloc::Global;
+use std::io::Write;
+use std::sync::Wait;
+use std::thread::Threads;
+
+/// How a line wants the report made.
+fn options_of(line: Line<'_>) -> Options<'static>
+    requires workers { (1 ≤ line.workers) × (line.workers ≤ 16) }
+    ensures { result.cuts ≡ CutPlan.Every line.entry.chunk }
+{
+    let Some(workers) = Workers::new(line.workers as u8) else {
+        unreachable!()
+    };
+    Options {
+        workers,
+        cuts: CutPlan::Every(line.chunk),
+    }
+}
+
+/// The exit status of a report: 0, or 1 where a step fails.
+fn status_on(first: Option<(u32, Criterion)>) -> u8
+    ensures value { result ≡ status_on first }
+    ensures range { result ≤ 1 }
+{
+    match first {
+        None => 0,
+        Some(_) => 1,
+    }
+}
+
+/// Writes the report on the inputs to a sink, and gives the exit status: 0, or 1 where a step fails.
+fn report_to<G: Gate, T: Threads + Wait + Sync, S: Sink>(
+    rt: &T,
+    alloc: Global,
+    gate: &G,
+    inputs: &Inputs<'_>,
+    line: Line<'_>,
+    sink: &mut S,
+) -> Result<u8, Stop>
+    requires chunk { 1 ≤ line.chunk }
+    requires workers { (1 ≤ line.workers) × (line.workers ≤ 16) }
+    requires sound { S.has_failed sink.old ≡ false }
+    ensures written { IfOk result (λ status. (outcome : Outcome)
+        × (outcome_of inputs.now ≡ Ok outcome) × (status ≡ status_on outcome.summary.first)
+        × Appends (S.contents sink.old) (S.contents sink.new) outcome.text) }
+    ensures status { IfOk result (λ status. status ≤ 1) }
+    ensures stopped { (edits : _) → IfErr result (IsStopOn Task.Check inputs.now edits) }
+{
+    let options = options_of(line);
+    let summary = match report(rt, alloc, gate, inputs, &options, sink) {
+        Ok(summary) => summary,
+        Err(fault) => return Err(Stop::from(fault)),
+    };
+    Ok(status_on(summary.first))
+}
+
+/// Writes the last line of the report on the inputs alone to a sink, and gives the same status.
+fn first_to<G: Gate, T: Threads + Wait + Sync, S: Sink>(
+    rt: &T,
+    alloc: Global,
+    gate: &G,
+    inputs: &Inputs<'_>,
+    line: Line<'_>,
+    sink: &mut S,
+) -> Result<u8, Stop>
+    requires chunk { 1 ≤ line.chunk }
+    requires workers { (1 ≤ line.workers) × (line.workers ≤ 16) }
+    requires sound { S.has_failed sink.old ≡ false }
+    ensures written { IfOk result (λ status. (outcome : Outcome)
+        × (outcome_of inputs.now ≡ Ok outcome) × (status ≡ status_on outcome.summary.first)
+        × Appends (S.contents sink.old) (S.contents sink.new) (last_line outcome.summary.first)) }
+    ensures status { IfOk result (λ status. status ≤ 1) }
+    ensures stopped { (edits : _) → IfErr result (IsStopOn Task.First inputs.now edits) }
+{
+    let options = options_of(line);
+    let first = match first_fail(rt, alloc, gate, inputs, &options) {
+        Ok(first) => first,
+        Err(fault) => return Err(Stop::from(fault)),
+    };
+    let mut text = String::new(alloc);
+    if write_last_line(&mut text, first).is_err() {
+        return Err(Stop::NoMemory);
+    }
+    match put_all(sink, text.as_bytes()) {
+        Ok(()) => Ok(status_on(first)),
+        Err(_) => Err(Stop::Write),
+    }
+}
+
+/// Tries edits of the steps that the inputs order, writes to a sink what became of each and then the report on the list that is left, and gives the
+/// status of that report.
+fn trial_to<G: Gate, T: Threads + Wait + Sync, S: Sink>(
+    rt: &T,
+    alloc: Global,
+    gate: &G,
+    inputs: &Inputs<'_>,
+    edits: &[u8],
+    line: Line<'_>,
+    sink: &mut S,
+) -> Result<u8, Stop>
+    requires chunk { 1 ≤ line.chunk }
+    requires workers { (1 ≤ line.workers) × (line.workers ≤ 16) }
+    requires sound { S.has_failed sink.old ≡ false }
+    ensures written { IfOk result (λ status. (outcome : Outcome)
+        × AreTried inputs.now edits.now outcome × (status ≡ status_on outcome.summary.first)
+        × Appends (S.contents sink.old) (S.contents sink.new) outcome.text) }
+    ensures status { IfOk result (λ status. status ≤ 1) }
+    ensures stopped { IfErr result (IsStopOn Task.WhatIf inputs.now edits.now) }
+{
+    let options = options_of(line);
+    let trial = try_edits(alloc, inputs, edits)?;
+    let Ok(()) = put_all(sink, trial.answers.as_bytes()) else {
+        return Err(Stop::Write);
+    };
+    let summary = match trial.session.report(rt, gate, &options, sink) {
+        Ok(summary) => summary,
+        Err(fault) => return Err(Stop::from(fault)),
+    };
+    Ok(status_on(summary.first))
+}
+
+/// The exit status of a run that writes what its line asks for on its files: 0, or 1 where a step fails.
+fn run_line<R: Readers, G: Gate, T: Threads + Wait + Sync, O: Write>(
+    rt: &T,
+    alloc: Global,
+    gate: &G,
+    files: &mut R,
+    line: Line<'_>,
+    out: &mut O,
+) -> Result<u8, Stop>
+    requires chunk { 1 ≤ line.chunk }
+    requires workers { (1 ≤ line.workers) × (line.workers ≤ 16) }
+    ensures told { IfOk result (IsReported (R.known files.old) line.entry) }
+    ensures status { IfOk result (λ status. status ≤ 1) }
+    ensures stopped { IfErr result (IsStopOf (R.known files.old) line.entry) }
+{
+    let texts = read_texts(alloc, files, line)?;
+    let mut sink = Through::new(out);
+    match line.task {
+        Task::Check => report_to(rt, alloc, gate, &texts.inputs(), line, &mut sink),
+        Task::First => first_to(rt, alloc, gate, &texts.inputs(), line, &mut sink),
+        Task::WhatIf => trial_to(
+            rt,
+            alloc,
+            gate,
+            &texts.inputs(),
+            texts.edits(),
+            line,
+            &mut sink,
+        ),
+    }
+}
+
+/// Writes the one line on what stopped a run to `err`, and gives the exit status. A fault of `err` changes nothing.
+pub fn stopped<E: Write>(stop: &Stop, err: &mut E) -> u8
+    ensures { result ≡ status_of stop.now }
+{
+    let _ = writeln!(err, "{stop}");
+    stop.status()
+}
+
+/// The exit status of a run on the words of a command line that writes what they ask for, or what stopped it.
+fn run_words<R: Readers, G: Gate, T: Threads + Wait + Sync, O: Write>(
+    rt: &T,
+    alloc: Global,
+    gate: &G,
+    files: &mut R,
+    words: &[&str],
+    out: &mut O,
+) -> Result<u8, Stop>
+    ensures told { IfOk result (IsReportedBy (R.known files.old) (map (λ w. w.now) words.now)) }
+    ensures status { IfOk result (λ status. status ≤ 1) }
+    ensures stopped { IfErr result (IsStopBy (R.known files.old) (map (λ w. w.now) words.now)) }
+{
+    match read_line(alloc, words) {
+        Ok(line) => run_line(rt, alloc, gate, files, line, out),
+        Err(fault) => Err(Stop::from(fault)),
+    }
+}
+
+/// The whole program over readers and writers: what it writes goes to `out`, and one line on what stopped it to
+/// `err`. The gate is called by the workers, once for each chunk that one takes. It answers the exit status: 0 all steps pass, 1 some step
+/// fails, 2 an input is refused, 3 usage error or help, 4 out of memory, 5 a file can't be read or `out` can't be written. A fault of `err`
+/// changes nothing.
+pub fn serve<R: Readers, G: Gate, T: Threads + Wait + Sync, O: Write, E: Write>(
+    rt: &T,
+    alloc: Global,
+    gate: &G,
+    files: &mut R,
+    words: &[&str],
+    out: &mut O,
+    err: &mut E,
+) -> u8
+    ensures range { result ≤ 5 }
+    ensures told { result ≤ 1
+        → IsReportedBy (R.known files.old) (map (λ w. w.now) words.now) result }
+    ensures refused { result ≡ 2 → IsRefusedBy (R.known files.old) (map (λ w. w.now) words.now) }
+    ensures usage { result ≡ 3 → IsNotTaken (map (λ w. w.now) words.now) }
+{
+    match run_words(rt, alloc, gate, files, words, out) {
+        Ok(status) => status,
+        Err(stop) => stopped(&stop, err),
+    }
+}
