@@ -9,10 +9,9 @@ ghost use Rattle.run_files.specs.Statuses.{status_of, status_on};
 use crate::trials::try_edits;
 use claim_run::{Gate, Workers};
 use command_line::{Line, Task, read_line};
-use run_files::{Readers, Stop, read_texts};
+use run_files::{Readers, Stop, read_texts, status_on};
 use seq_report::{
-    Criterion, CutPlan, Inputs, Options, Sink, Through, first_fail, put_all, report,
-    write_last_line,
+    CutPlan, Inputs, Options, Sink, Through, first_fail, put_all, report, write_last_line,
 };
 use std::alloc::Global;
 use std::io::Write;
@@ -30,17 +29,6 @@ fn options_of(line: Line<'_>) -> Options<'static>
     Options {
         workers,
         cuts: CutPlan::Every(line.chunk),
-    }
-}
-
-/// The exit status of a report: 0, or 1 where a step fails.
-fn status_on(first: Option<(u32, Criterion)>) -> u8
-    ensures value { result ≡ status_on first }
-    ensures range { result ≤ 1 }
-{
-    match first {
-        None => 0,
-        Some(_) => 1,
     }
 }
 

@@ -8,4 +8,4 @@ mod stops;
 
 pub use files::{Disk, LIMIT, Readers, Unopened};
 pub use folders::{Texts, read_texts};
-pub use stops::Stop;
+pub use stops::{Stop, status_on};

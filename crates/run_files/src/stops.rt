@@ -1,12 +1,23 @@
-ghost use Rattle.std.specs.Prelude.{◌≡◌};
-ghost use Rattle.run_files.specs.Statuses.{status_of};
+ghost use Rattle.std.specs.Prelude.{◌≡◌, ◌≤◌};
+ghost use Rattle.run_files.specs.Statuses.{status_of, status_on};
 
 use command_line::LineFault;
 use edits_file::EditsFault;
-use seq_report::RunFault;
+use seq_report::{Criterion, RunFault};
 use std::alloc::AllocError;
 use std::error::Error;
 use std::fmt;
+
+/// The exit status of a report: 0, or 1 where a step fails.
+pub fn status_on(first: Option<(u32, Criterion)>) -> u8
+    ensures value { result ≡ status_on first }
+    ensures range { result ≤ 1 }
+{
+    match first {
+        None => 0,
+        Some(_) => 1,
+    }
+}
 
 /// Why a run prints no whole report. It prints as the one line that standard error gets.
 #[derive(Debug, Drop)]
