@@ -15,7 +15,7 @@ use Rattle.lift_sequence.specs.Aboard.{Aboard, container_of, nothing, with_cell,
 use Rattle.lift_sequence.specs.Arrival.{arrival_bodies, items_fault, on_arrival, with_fills, with_items}
 use Rattle.lift_sequence.specs.Bodies.{bodies, bodies_in_cells, bodies_in_tanks, fill_body, filling_in, item_body}
 use Rattle.lift_sequence.specs.Legal.{stand_fault}
-use Rattle.lift_sequence.specs.Totals.{total}
+use Rattle.units_core.specs.Totals.{total}
 use Rattle.lift_sequence.proofs.Listings.{distinct_range, nothing_stands, stowed_adds, tank_given}
 use Rattle.lift_sequence.proofs.States.{filter_first, none_first}
 use Rattle.lift_sequence.proofs.Totals.{empty_rows, one_more, total-append}

@@ -15,13 +15,14 @@ use Rattle.ship_profile.specs.Record.{ProfileRecord, place_of, tank_of}
 use Rattle.lift_sequence.specs.declared.containers.Container.{Container}
 use Rattle.lift_sequence.specs.declared.faults.SeqCode.{SeqCode}
 use Rattle.lift_sequence.specs.declared.operations.Op as operation
-use Rattle.lift_sequence.specs.declared.steps.Step.{Step}
+use Rattle.units_core.specs.declared.steps.Step.{Step}
 use Rattle.lift_sequence.specs.declared.operations.Op.TheVariants.{Lift, Fill, Restow}
 use Rattle.lift_sequence.specs.Aboard.{Aboard, with_cell, with_tank, after_step, after_all, container_of}
 use Rattle.lift_sequence.specs.Bodies.{bodies, bodies_in_cells, bodies_in_tanks, body_in, filling_in, filling_step, step_of, steps_of}
 use Rattle.lift_sequence.specs.Legal.{overlap, place_fault, stand_fault, take_fault, fault_of}
 use Rattle.lift_sequence.specs.Sequence.{StepsAddUp, first_fault}
-use Rattle.lift_sequence.specs.Totals.{change, total}
+use Rattle.units_core.specs.Steps.{change}
+use Rattle.units_core.specs.Totals.{total}
 use Rattle.lift_sequence.proofs.Listings.{cells_same, distinct_range, found, tank_given}
 use Rattle.lift_sequence.proofs.States.{none_first}
 use Rattle.lift_sequence.proofs.Totals.{changed, given, gives, total-append}

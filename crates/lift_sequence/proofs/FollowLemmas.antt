@@ -17,11 +17,12 @@ use Rattle.lift_sequence.specs.declared.faults.SeqCode.TheVariants.{TooManySteps
 use Rattle.lift_sequence.specs.declared.faults.SeqFault.{SeqFault}
 use Rattle.lift_sequence.specs.declared.operations.Op as operation
 use Rattle.lift_sequence.specs.declared.operations.Op.TheVariants.{Lift, Fill, Restow}
-use Rattle.lift_sequence.specs.declared.steps.Step.{Step}
+use Rattle.units_core.specs.declared.steps.Step.{Step}
 use Rattle.lift_sequence.specs.Aboard.{Aboard, after_step, container_of, with_cell, with_tank}
 use Rattle.lift_sequence.specs.Arrival.{fault_at}
 use Rattle.lift_sequence.specs.Bodies.{body_in, filling_step, step_of, steps_of}
-use Rattle.lift_sequence.specs.Follow.{AreReweighed, AreReweighedOnce, FewMoves, IsLoad, Reweighs, ReweighsSequences, body_weighed, loaded_at, loaded_cell, moves, moves_in, next_cell, restows_in, reweighed, step_weighed, steps_weighed, weighed_at, with_step}
+use Rattle.units_core.specs.Steps.{body_weighed, step_weighed}
+use Rattle.lift_sequence.specs.Follow.{AreReweighed, AreReweighedOnce, FewMoves, IsLoad, Reweighs, ReweighsSequences, loaded_at, loaded_cell, moves, moves_in, next_cell, restows_in, reweighed, steps_weighed, weighed_at, with_step}
 use Rattle.lift_sequence.specs.Legal.{fault_of, hold_fault, in_bay, is_rival, overlap, place_fault, stand_fault, take_fault}
 use Rattle.lift_sequence.specs.Sequence.{first_fault, sequence_fault}
 use Rattle.lift_sequence.proofs.Listings.{cells_same, is_free, stood}

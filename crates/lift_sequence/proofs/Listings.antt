@@ -18,7 +18,7 @@ use Rattle.lift_sequence.specs.declared.containers.Container.{Container}
 use Rattle.lift_sequence.specs.Aboard.{Aboard, with_cell}
 use Rattle.lift_sequence.specs.Legal.{overlap, place_fault, stand_fault}
 use Rattle.lift_sequence.specs.Bodies.{body_in, filling_in, bodies_in_cells}
-use Rattle.lift_sequence.specs.Totals.{total}
+use Rattle.units_core.specs.Totals.{total}
 use Rattle.lift_sequence.proofs.Overlaps.{find_at, find_none}
 use Rattle.lift_sequence.proofs.Totals.{element, given, one_more, ones}
 

@@ -8,7 +8,7 @@ use Rattle.ship_profile.specs.Record.{ProfileRecord}
 use Rattle.lift_sequence.specs.declared.faults.SeqCode.TheVariants.{TooManySteps}
 use Rattle.lift_sequence.specs.declared.faults.SeqFault.{SeqFault}
 use Rattle.lift_sequence.specs.declared.operations.Op.{Op}
-use Rattle.lift_sequence.specs.declared.steps.Step.{Step}
+use Rattle.units_core.specs.declared.steps.Step.{Step}
 use Rattle.lift_sequence.specs.Aboard.{Aboard, after_step}
 use Rattle.lift_sequence.specs.Arrival.{fault_at}
 use Rattle.lift_sequence.specs.Bodies.{step_of, steps_of}

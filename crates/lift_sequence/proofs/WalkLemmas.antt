@@ -6,8 +6,9 @@ use Rattle.std.proofs.lemmas.List.{drop-set-lt, drop_all, drop_at, drop_more, ge
 use Rattle.std.proofs.lemmas.Option.{slice_get-get_or}
 use Rattle.units_core.specs.declared.cells.Cell.{Cell}
 use Rattle.lift_sequence.specs.declared.operations.Op.{Op}
-use Rattle.lift_sequence.specs.declared.steps.Step.{Step}
-use Rattle.lift_sequence.specs.Follow.{AreReweighed, loaded_at, moves, next_cell, step_weighed, steps_weighed}
+use Rattle.units_core.specs.declared.steps.Step.{Step}
+use Rattle.units_core.specs.Steps.{step_weighed}
+use Rattle.lift_sequence.specs.Follow.{AreReweighed, loaded_at, moves, next_cell, steps_weighed}
 
 -- a step that does nothing; what is read at a place of a list doesn't depend on it
 abbrev pub still : Step

@@ -12,7 +12,7 @@ use Rattle.lift_sequence.specs.declared.faults.SeqFault.{SeqFault}
 use Rattle.lift_sequence.specs.Aboard.{Aboard, nothing, with_item, with_tank}
 use Rattle.lift_sequence.specs.Bodies.{bodies, fill_body, item_body}
 use Rattle.lift_sequence.specs.Legal.{stand_fault, over_fault}
-use Rattle.lift_sequence.specs.Totals.{total}
+use Rattle.units_core.specs.Totals.{total}
 
 -- what is aboard once the items stand in their cells, and the tanks are filled
 abbrev pub with_items : Aboard → List Item → Aboard

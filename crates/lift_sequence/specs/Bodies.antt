@@ -13,7 +13,7 @@ use Rattle.ship_profile.specs.Record.{ProfileRecord, place_of, tank_of, tank_bod
 use Rattle.lift_sequence.specs.declared.containers.Container.{Container}
 use Rattle.lift_sequence.specs.declared.operations.Op as operation
 use Rattle.lift_sequence.specs.declared.operations.Op.TheVariants.{Lift, Fill, Restow}
-use Rattle.lift_sequence.specs.declared.steps.Step.{Step}
+use Rattle.units_core.specs.declared.steps.Step.{Step}
 use Rattle.lift_sequence.specs.Aboard.{Aboard, after_step, container_of}
 
 -- a container at its cell's place; it has no free surface

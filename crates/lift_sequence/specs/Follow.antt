@@ -8,7 +8,8 @@ use Rattle.stow_messages.specs.declared.lifts.Lift.TheVariants.{Load, Discharge}
 use Rattle.ship_profile.specs.Record.{ProfileRecord}
 use Rattle.lift_sequence.specs.declared.operations.Op as operation
 use Rattle.lift_sequence.specs.declared.operations.Op.TheVariants.{Lift, Fill, Restow}
-use Rattle.lift_sequence.specs.declared.steps.Step.{Step}
+use Rattle.units_core.specs.declared.steps.Step.{Step}
+use Rattle.units_core.specs.Steps.{step_weighed}
 use Rattle.lift_sequence.specs.Aboard.{Aboard}
 use Rattle.lift_sequence.specs.Bodies.{steps_of}
 use Rattle.lift_sequence.specs.Sequence.{first_fault, sequence_fault}
@@ -75,13 +76,6 @@ restows_in cell (op ∷ more) = (if restows cell op then 1 else 0) + restows_in 
 -- One step at most moves a container besides its restows: its discharge.
 abbrev pub FewMoves : Type 0
 FewMoves = (cell : Option Cell) (ops : List operation.Op) → moves_in cell ops ≤ restows_in cell ops + 1
-
--- what a step takes out and puts in, of another weight
-abbrev pub body_weighed : ℕ → Mass → Mass
-body_weighed kg body = record { kg = kg; place = body.place; fsm = body.fsm }
-
-abbrev pub step_weighed : ℕ → Step → Step
-step_weighed kg step = record { out = option_map (body_weighed kg) step.out; put = option_map (body_weighed kg) step.put }
 
 -- what some steps do, those that move the container being of another weight
 abbrev pub steps_weighed : ℕ → Option Cell → List operation.Op → List Step → List Step

@@ -9,4 +9,3 @@ pub mod Places
 pub mod Printed
 pub mod Rivals
 pub mod Sequence
-pub mod Totals

@@ -9,13 +9,14 @@ use Rattle.lift_sequence.specs.declared.faults.SeqFault.{SeqFault}
 use Rattle.lift_sequence.specs.declared.faults.SeqCode.TheVariants.{TooManySteps}
 use Rattle.lift_sequence.specs.declared.operations.Op as operation
 use Rattle.lift_sequence.specs.declared.operations.Op.TheVariants.{Lift, Fill, Restow}
-use Rattle.lift_sequence.specs.declared.steps.Step.{Step}
+use Rattle.units_core.specs.declared.steps.Step.{Step}
 use Rattle.units_core.specs.Bodies.{Mass}
 use Rattle.lift_sequence.specs.Aboard.{Aboard, after_all, after_step}
 use Rattle.lift_sequence.specs.Arrival.{ArrivalRecord, arrival_fault, arrival_bodies, fault_at}
 use Rattle.lift_sequence.specs.Bodies.{bodies, step_of}
 use Rattle.lift_sequence.specs.Legal.{fault_of}
-use Rattle.lift_sequence.specs.Totals.{change, total}
+use Rattle.units_core.specs.Steps.{change}
+use Rattle.units_core.specs.Totals.{total}
 
 -- the lift of a number, the first being 1
 abbrev pub lift_at : List lift.Lift → ℕ → Option lift.Lift

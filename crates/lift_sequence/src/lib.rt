@@ -19,7 +19,6 @@ mod independence;
 mod laws;
 mod operations;
 mod sequences;
-mod steps;
 mod stowage;
 
 pub use arrivals::Arrival;
@@ -30,4 +29,3 @@ pub use laws::{
 };
 pub use operations::{Op, ops};
 pub use sequences::Sequence;
-pub use steps::Step;

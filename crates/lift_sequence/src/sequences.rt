@@ -14,12 +14,11 @@ use crate::carrying::carry;
 use crate::faults::{NO_MEMORY, SeqCode, SeqFault, fault_at};
 use crate::independence::{are_exchangeable, can_pass};
 use crate::operations::Op;
-use crate::steps::Step;
 use crate::stowage::Stowage;
 use ship_profile::Profile;
 use std::alloc::Global;
 use std::marker::Model;
-use units_core::{Cell, Kg};
+use units_core::{Cell, Kg, Step};
 
 /// The greatest number of steps.
 const MAX_STEPS: usize = 120_000;

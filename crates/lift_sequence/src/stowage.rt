@@ -9,12 +9,11 @@ ghost use Rattle.lift_sequence.specs.Legal.{Tells, fault_of, fill_fault, in_bay,
 use crate::containers::{Container, container_of, differ};
 use crate::faults::SeqCode;
 use crate::operations::Op;
-use crate::steps::Step;
 use indexmap::IndexMap;
 use ship_profile::Profile;
 use std::alloc::{AllocError, Global};
 use stow_messages::Lift;
-use units_core::{Body, Cell, Kg, Place, conflicts};
+use units_core::{Body, Cell, Kg, Place, Step, conflicts};
 
 /// What is aboard a ship: what stands in each of her cells, by the cell's number, and how much each tank holds. Nothing stands in the
 /// cells behind the last slot.

@@ -11,7 +11,7 @@ use Rattle.std.specs.List.{range_with_len}
 use Rattle.std.specs.Option.{option_to_list}
 use Rattle.std.proofs.lemmas.List.FromFn.{get_or-map-range_with_len, length-map-range_with_len}
 use Rattle.units_core.proofs.Signed.{signed_arith, one_part}
-use Rattle.lift_sequence.specs.declared.steps.Step.{Step}
+use Rattle.units_core.specs.declared.steps.Step.{Step}
 use Rattle.prefix_scan.specs.Laws.{most_parts}
 use Rattle.moment_sums.specs.Changes.{AreShared, change_in, change_of, signed}
 use Rattle.moment_sums.specs.Kept.{IsKept, Kept, added, bodies_of, both_kept, kept_of, none_kept, size_of, values}

@@ -1,10 +1,7 @@
-pub mod AboardBounds
-pub mod BodyBounds
 pub mod Bounding
 pub mod Bounds
 pub mod ChangeLemmas
 pub mod KeptLemmas
 pub mod PlaceLemmas
 pub mod Sizes
-pub mod StepBounds
 pub mod StepLemmas

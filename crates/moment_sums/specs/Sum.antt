@@ -3,8 +3,9 @@ use Rattle.std.specs.Prelude.{ℕ, ℤ, pos, ◌+ℤ◌, ◌*ℤ◌, neg_ℤ, Li
 use Rattle.std.specs.Option.{option_to_list}
 use Rattle.units_core.specs.Bodies.{Mass}
 use Rattle.ship_profile.specs.declared.frames.Frame.{Frame}
-use Rattle.lift_sequence.specs.declared.steps.Step.{Step}
-use Rattle.lift_sequence.specs.Totals.{change, total}
+use Rattle.units_core.specs.declared.steps.Step.{Step}
+use Rattle.units_core.specs.Steps.{change}
+use Rattle.units_core.specs.Totals.{total}
 use Rattle.moment_sums.specs.Shares.{weight_aft, moment_aft}
 
 -- the mass; its moments about the after perpendicular, the middle line and the keel; the free surface moment; and at each frame, by its

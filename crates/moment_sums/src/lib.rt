@@ -3,12 +3,10 @@
 #![tactic(auto)]
 
 mod changes;
-mod laws;
 mod limits;
 mod rows;
 mod shares;
 mod totals;
 
-pub use laws::{aboard_is_bounded, sequences_are_bounded};
 pub use shares::{moment_aft, weight_aft};
 pub use totals::Totals;

@@ -10,11 +10,10 @@ use crate::changes::{change_shares, changed, moment_of, surface_of};
 use crate::limits::{are_centres, are_shares, both, is_share, times};
 use crate::rows::{add, negate, negate_all, plus};
 use crate::shares::kg;
-use lift_sequence::Step;
 use prefix_scan::Monoid;
 use ship_profile::Frames;
 use std::marker::Model;
-use units_core::Body;
+use units_core::{Body, Step};
 
 /// What is aboard, or what a step changes of it, added up.
 #[derive(Clone, Copy, Drop)]

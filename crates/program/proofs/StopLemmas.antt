@@ -2,10 +2,11 @@
 use Rattle.std.proofs.Common.{◌≡◌, ℕ, List, true, Result, Ok, Err, IfOk, IfErr, inl, inr, refl, sym, subst, ◌∙◌, arith}
 use Rattle.clap.specs.Words.{Text}
 use Rattle.prefix_scan.specs.declared.divisions.CutFault.{CutFault}
-use Rattle.seq_report.specs.declared.faults.RunFault.{RunFault}
-use Rattle.seq_report.specs.declared.faults.RunFault.TheVariants as run
-use Rattle.seq_report.specs.declared.inputs.Inputs.{Inputs}
-use Rattle.seq_report.specs.Refusal.{is_refusal, outcome_of}
+use Rattle.run_inputs.specs.declared.faults.RunFault.{RunFault}
+use Rattle.run_inputs.specs.declared.faults.RunFault.TheVariants as run
+use Rattle.run_inputs.specs.declared.inputs.Inputs.{Inputs}
+use Rattle.run_inputs.specs.Refusals.{is_refusal}
+use Rattle.seq_report.specs.Refusal.{outcome_of}
 use Rattle.command_line.specs.declared.lines.Line.{Line}
 use Rattle.command_line.specs.declared.lines.Task.{Task}
 use Rattle.run_files.specs.declared.stops.Stop.{Stop}

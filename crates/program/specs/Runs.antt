@@ -5,8 +5,8 @@ use Rattle.edits_file.specs.declared.files.EditsFault.TheVariants.{Line as LineF
 use Rattle.edits_file.specs.declared.forms.EditLine.{EditLine}
 use Rattle.edits_file.specs.Reading.{edits_of}
 use Rattle.lift_sequence.specs.declared.operations.Op.{Op}
-use Rattle.seq_report.specs.declared.faults.RunFault.{RunFault}
-use Rattle.seq_report.specs.declared.inputs.Inputs.{Inputs}
+use Rattle.run_inputs.specs.declared.faults.RunFault.{RunFault}
+use Rattle.run_inputs.specs.declared.inputs.Inputs.{Inputs}
 use Rattle.seq_report.specs.Refusal.{Outcome, outcome_of}
 use Rattle.what_if.specs.Bases.{Base, report_on}
 use Rattle.what_if.specs.Sessions.{AreTold, SessionRecord}

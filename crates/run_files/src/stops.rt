@@ -2,8 +2,9 @@ ghost use Rattle.std.specs.Prelude.{◌≡◌, ◌≤◌};
 ghost use Rattle.run_files.specs.Statuses.{status_of, status_on};
 
 use command_line::LineFault;
+use criteria::Criterion;
 use edits_file::EditsFault;
-use seq_report::{Criterion, RunFault};
+use run_inputs::RunFault;
 use std::alloc::AllocError;
 use std::error::Error;
 use std::fmt;

@@ -1,23 +1,24 @@
 -- A case that was made of a ship, her arrival and a list of steps that can be done is ready for a report.
-use Rattle.std.proofs.Common.{◌≡◌, ◌∙◌, ℕ, ◌≤◌, ◌^◌, ◌+ℤ◌, List, length, Option, None, Some, Bool, true, false, nat_lt, ap, sym, refl, take, arith}
+use Rattle.std.proofs.Common.{◌≡◌, ◌∙◌, ◌≤◌, ◌^◌, ◌+ℤ◌, List, length, None, Some, Bool, true, false, nat_lt, ap, sym, refl, take, arith}
 use Rattle.std.specs.Prelude.{if◌then◌else◌}
 use Rattle.std.specs.List.{AllByRecursion}
 use Rattle.std.proofs.lemmas.Bool.{ltb-false}
 use Rattle.std.proofs.lemmas.Option.{none-some, slice_get_past}
 use Rattle.stow_messages.specs.declared.items.Item.{Item}
 use Rattle.ship_profile.specs.Record.{ProfileRecord}
-use Rattle.lift_sequence.specs.declared.faults.SeqFault.{SeqFault}
 use Rattle.lift_sequence.specs.declared.faults.SeqCode.TheVariants.{TooManySteps}
 use Rattle.lift_sequence.specs.declared.operations.Op.{Op}
 use Rattle.lift_sequence.specs.Aboard.{Aboard}
 use Rattle.lift_sequence.specs.Arrival.{ArrivalRecord, cargo_on, fault_at}
 use Rattle.lift_sequence.specs.Sequence.{SequenceRecord, first_fault, sequence_fault}
-use Rattle.lift_sequence.specs.Totals.{change, total}
+use Rattle.units_core.specs.Steps.{change}
+use Rattle.units_core.specs.Totals.{total}
 use Rattle.lift_sequence.proofs.Changes.{add_up}
 use Rattle.lift_sequence.proofs.States.{as_many}
-use Rattle.moment_sums.specs.Bounded.{IsLight}
-use Rattle.moment_sums.proofs.StepBounds.{all_steps}
-use Rattle.seq_report.specs.Cases.{HasArrived, IsMade, IsReady, case_on}
+use Rattle.bounded_sums.specs.Laws.{IsLight}
+use Rattle.bounded_sums.proofs.StepBounds.{all_steps}
+use Rattle.run_inputs.specs.Readings.{HasArrived, IsMade}
+use Rattle.seq_report.specs.Cases.{IsReady, case_on}
 
 -- a list without a fault has few steps, and none of them has one
 pub record CanBeDone (ship : ProfileRecord) (at : Aboard) (ops : List Op) : Type 0 where

@@ -1,6 +1,5 @@
 pub mod CaseLemmas
 pub mod ChunkLemmas
-pub mod Digits
 pub mod FirstLemmas
 pub mod OffsetLemmas
 pub mod PartLemmas

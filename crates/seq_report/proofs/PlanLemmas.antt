@@ -3,8 +3,8 @@ use Rattle.std.proofs.Common.{◌≡◌, ◌≢◌, ℕ, ◌<◌, ◌⊎◌, inl
 use Rattle.prefix_scan.specs.Cut.{IsFaultOfEvery}
 use Rattle.prefix_scan.specs.declared.divisions.CutFault.{CutFault}
 use Rattle.prefix_scan.specs.declared.divisions.CutFault.TheVariants.{Empty, NotRising, WrongEnd, NoMemory}
-use Rattle.seq_report.specs.declared.faults.RunFault.TheVariants.{Cuts}
-use Rattle.seq_report.specs.Refusal.{cuts_refusal}
+use Rattle.run_inputs.specs.declared.faults.RunFault.TheVariants.{Cuts}
+use Rattle.run_inputs.specs.Refusals.{cuts_refusal}
 
 empty_chunk : (n lines : ℕ) → 0 < lines → (n ≡ 0) ⊎ (lines ≡ 0) → (n ≡ 0) × (Empty ≡ Empty)
 empty_chunk n lines some (inl none) = (none, refl)

@@ -1,9 +1,9 @@
 -- Faults of a run whose inputs and cuts are right.
 use Rattle.std.proofs.Common.{◌≡◌, true}
 use Rattle.prefix_scan.specs.declared.divisions.CutFault.{CutFault}
-use Rattle.seq_report.specs.declared.faults.RunFault.{RunFault}
-use Rattle.seq_report.specs.declared.faults.RunFault.TheVariants.{Profile, Baplie, Arrival, Movins, Steps, Sequence, Cuts, NoMemory, Write}
-use Rattle.seq_report.specs.Refusal.{IsOfRun, TellsMemory, is_refusal}
+use Rattle.run_inputs.specs.declared.faults.RunFault.{RunFault}
+use Rattle.run_inputs.specs.declared.faults.RunFault.TheVariants.{Profile, Baplie, Arrival, Movins, Steps, Sequence, Cuts, NoMemory, Write}
+use Rattle.run_inputs.specs.Refusals.{IsOfRun, TellsMemory, is_refusal}
 
 -- is no refusal
 pub no_refusal : (e : RunFault) → IsOfRun e → is_refusal e ≡ true → ⊥

@@ -8,8 +8,9 @@ use Rattle.std.proofs.lemmas.List.Sums.{fold-append}
 use Rattle.std.proofs.lemmas.Option.{slice_get_past}
 use Rattle.units_core.specs.Bodies.{Mass}
 use Rattle.ship_profile.specs.declared.frames.Frame.{Frame}
-use Rattle.lift_sequence.specs.declared.steps.Step.{Step}
-use Rattle.lift_sequence.specs.Totals.{change, total}
+use Rattle.units_core.specs.declared.steps.Step.{Step}
+use Rattle.units_core.specs.Steps.{change}
+use Rattle.units_core.specs.Totals.{total}
 use Rattle.moment_sums.specs.Sum.{Column, WeightAft, MomentAft, Sum, at_frame, joined, nothing, value}
 use Rattle.moment_sums.specs.Kept.{Kept, both_kept, none_kept, size_of, values}
 use Rattle.moment_sums.specs.KeptLaws.{kept_laws}

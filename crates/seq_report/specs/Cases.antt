@@ -1,16 +1,15 @@
 -- Bookkeeping: a ship, what is aboard of her on arrival, and the steps from there, all of which can be done.
-use Rattle.std.specs.Prelude.{◌≡◌, ◌≢◌, false, Vec, IfOk, IfErr, Result, Err, ℕ, ◌+◌, ◌-◌, ◌<◌, ◌≤◌, ◌^◌, ℤ, ◌+ℤ◌, List, length, map, take, slice_get, Option, None, Some, Ok}
-use Rattle.std.specs.declared.alloc.Global.{Global}
+use Rattle.std.specs.Prelude.{◌≡◌, ℕ, ◌+◌, ◌-◌, ◌<◌, ◌≤◌, ◌^◌, ℤ, ◌+ℤ◌, List, length, map, take, slice_get, Option, None, Some, Ok}
 use Rattle.std.specs.List.{AllByRecursion, range_with_len}
 use Rattle.stow_messages.specs.declared.items.Item.{Item}
-use Rattle.stow_messages.specs.declared.lifts.Lift.{Lift}
 use Rattle.units_core.specs.Bodies.{Mass}
 use Rattle.lift_sequence.specs.Aboard.{Aboard, after_all}
 use Rattle.ship_profile.specs.Record.{ProfileRecord}
 use Rattle.lift_sequence.specs.Arrival.{ArrivalRecord, cargo_on}
-use Rattle.lift_sequence.specs.Bodies.{bodies, steps_of}
-use Rattle.lift_sequence.specs.Sequence.{IsOf, SequenceRecord, sequence_fault}
-use Rattle.lift_sequence.specs.Totals.{change, total}
+use Rattle.lift_sequence.specs.Bodies.{bodies}
+use Rattle.lift_sequence.specs.Sequence.{SequenceRecord}
+use Rattle.units_core.specs.Steps.{change}
+use Rattle.units_core.specs.Totals.{total}
 use Rattle.moment_sums.specs.Bounded.{IsBounded}
 use Rattle.moment_sums.specs.Kept.{Kept, size_of, values}
 use Rattle.moment_sums.specs.Sum.{Sum, sum_of}
@@ -19,10 +18,10 @@ use Rattle.seq_report.specs.declared.cases.CaseView.{CaseView}
 use Rattle.claim_board.specs.Claims.{IsLeastFound}
 use Rattle.seq_report.specs.declared.sections.Chunk.{Chunk}
 use Rattle.seq_report.specs.Chunks.{chunk_of, parts_to, step_of_first, sum_to}
-use Rattle.seq_report.specs.declared.faults.RunFault.{RunFault}
-use Rattle.seq_report.specs.declared.faults.RunFault.TheVariants.{NoMemory}
-use Rattle.seq_report.specs.declared.inputs.Inputs.{Inputs}
-use Rattle.seq_report.specs.Refusal.{Outcome, TellsMemory, is_cut, is_write, items_in, items_of, lifts_of, orders_in, outcome_from, outcome_of, outcome_on, ship_in}
+use Rattle.run_inputs.specs.declared.inputs.Inputs.{Inputs}
+use Rattle.run_inputs.specs.Inputs.{items_in, orders_in, ship_in}
+use Rattle.run_inputs.specs.Readings.{HasArrived}
+use Rattle.seq_report.specs.Refusal.{Outcome, outcome_from, outcome_of, outcome_on}
 use Rattle.seq_report.specs.Report.{Line, line_at, lines_of, sum_at}
 
 abbrev pub case_on : ProfileRecord → ArrivalRecord → SequenceRecord → Case
@@ -53,38 +52,12 @@ IsFirstStep case ends least = IsLeastFound (Some least) (first_step_in case ends
 abbrev pub sum_in : Case → ℕ → Sum
 sum_in case k = sum_to case.profile.ship.frames case.arrival.bodies case.sequence.steps k
 
--- an arrival with this profile, whose bodies add up, in every value, to those of what is aboard
-pub record HasArrived (ship : ProfileRecord) (arrival : ArrivalRecord) : Type 0 where
-  pub of : IsOf ship arrival
-  pub few : length arrival.bodies ≤ 30400
-  pub adds_up : (f : Mass → ℤ) → total f arrival.bodies ≡ total f (bodies ship (cargo_on arrival))
-
--- a sequence made with this ship and this arrival: its list can be done from there, and its steps are what that does
-pub record IsMade (ship : ProfileRecord) (arrival : ArrivalRecord) (sequence : SequenceRecord) : Type 0 where
-  pub legal : sequence_fault ship (cargo_on arrival) sequence.ops ≡ None
-  pub steps : sequence.steps ≡ steps_of ship (cargo_on arrival) sequence.ops
-
 -- Inputs tell of this case: its ship, the items and the fills that are aboard on arrival, and its list of steps.
 pub record IsToldBy (inputs : Inputs) (case : Case) : Type 0 where
   pub ship : ship_in inputs ≡ Ok case.profile
   pub items : items_in inputs ≡ Ok case.arrival.items
   pub fills : case.arrival.fills ≡ case.profile.fills
   pub orders : orders_in inputs ≡ Ok case.sequence.ops
-
--- What was read of an input, by what it says where it is accepted and by its refusal; out of memory may stand for that.
-pub record IsRead {A : Type 0} (reading : Result A RunFault) (Says : A → Type 0) (Refuses : RunFault → Type 0) : Type 0 where
-  pub ok : IfOk reading Says
-  pub refused : IfErr reading (λ e. e ≢ NoMemory → Refuses e)
-  pub memory : IfErr reading TellsMemory
-  pub silent : is_write reading ≡ false
-  pub uncut : is_cut reading ≡ false
-
--- a bay plan that was read, and a movement instruction
-abbrev pub IsPlanRead : Result (Vec Item Global) RunFault → List ℕ → Type 0
-IsPlanRead plan text = IsRead plan (λ p. items_of text ≡ Ok p.items) (λ e. items_of text ≡ Err e)
-
-abbrev pub AreMovesRead : Result (Vec Lift Global) RunFault → List ℕ → Type 0
-AreMovesRead moves text = IsRead moves (λ m. (lifts_of text ≡ Ok m.items) × (length m.items ≤ 200000)) (λ e. lifts_of text ≡ Err e)
 
 -- The ship of the inputs with what is aboard of her on arrival, where none of the three is refused: what remains of the outcome, and what is known of
 -- them.

@@ -4,7 +4,7 @@ use Rattle.std.specs.List.{fold, range_with_len}
 use Rattle.std.specs.Option.{option_or}
 use Rattle.units_core.specs.Bodies.{Mass}
 use Rattle.ship_profile.specs.declared.frames.Frame.{Frame}
-use Rattle.lift_sequence.specs.declared.steps.Step.{Step}
+use Rattle.units_core.specs.declared.steps.Step.{Step}
 use Rattle.prefix_scan.specs.Cut.{start_of}
 use Rattle.moment_sums.specs.Sum.{Sum, changed_by, joined, nothing, sum_of}
 use Rattle.moment_sums.specs.Kept.{Kept, bodies_of, both_kept, kept_of, none_kept, size_of, values}

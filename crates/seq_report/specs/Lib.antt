@@ -4,6 +4,5 @@ pub mod Columns
 pub mod Firsts
 pub mod Lifts
 pub mod Plans
-pub mod Printed
 pub mod Refusal
 pub mod Report

@@ -1,23 +1,9 @@
 -- What a line says of the step that leads to it.
-use Rattle.std.specs.Prelude.{ℕ, ◌-◌, List, ◌++◌, length, map, replicate, Option, None, Some, if◌then◌else◌, codes}
-use Rattle.std.specs.Char.{is_ascii_graphic}
-use Rattle.std.specs.Fmt.{decimal}
-use Rattle.units_core.specs.declared.cells.Cell.{Cell}
+use Rattle.std.specs.Prelude.{ℕ, List, ◌++◌, map, Option, None, Some, codes}
 use Rattle.stow_messages.specs.declared.lifts.Lift.TheVariants.{Load, Discharge}
 use Rattle.lift_sequence.specs.declared.operations.Op as operation
 use Rattle.lift_sequence.specs.declared.operations.Op.TheVariants.{Lift, Fill, Restow}
-
--- a number in so many digits, with zeros (code 48) before it
-abbrev pub in_digits : ℕ → ℕ → List ℕ
-in_digits count n = replicate (count - length (decimal n)) 48 ++ decimal n
-
--- a cell in its seven digits
-abbrev pub cell_text : Cell → List ℕ
-cell_text cell = in_digits 3 cell.bay ++ (in_digits 2 cell.row ++ in_digits 2 cell.tier)
-
--- a byte as it can be printed: a question mark (code 63) for a blank, and for what is no visible character
-abbrev pub shown : ℕ → ℕ
-shown byte = if is_ascii_graphic byte then byte else 63
+use Rattle.run_inputs.specs.Shown.{cell_text, shown}
 
 -- a step: a letter for its kind, and the cell, the tank or both cells
 abbrev pub op_text : operation.Op → List ℕ

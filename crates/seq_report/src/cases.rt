@@ -1,15 +1,19 @@
 ghost use Rattle.std.specs.List.{AllByRecursion};
 ghost use Rattle.std.specs.Prelude.{◌≡◌, ◌≢◌, ◌+◌, ◌^◌, ◌≤◌, length, option_map, false, IfOk, IfErr, Ok, Err};
 ghost use Rattle.lift_sequence.specs.Arrival.{cargo_on};
-ghost use Rattle.seq_report.specs.Cases.{AreArrived, AreMovesRead, HasArrived, IsMade, IsPlanRead, IsRead, IsReady, IsToldBy, outcome_in, seen};
-ghost use Rattle.seq_report.specs.Refusal.{TellsMemory, arrival_in, orders_in, outcome_of, outcome_with, is_cut, is_write, ship_in};
+ghost use Rattle.run_inputs.specs.Readings.{AreMovesRead, HasArrived, IsMade, IsPlanRead, IsRead};
+ghost use Rattle.seq_report.specs.Cases.{AreArrived, IsReady, IsToldBy, outcome_in, seen};
+ghost use Rattle.run_inputs.specs.Inputs.{arrival_in, orders_in, ship_in};
+ghost use Rattle.run_inputs.specs.Refusals.{TellsMemory, is_cut, is_write};
+ghost use Rattle.seq_report.specs.Refusal.{outcome_of, outcome_with};
 ghost use Rattle.seq_report.specs.Report.{lift_to};
 
-use crate::faults::RunFault;
-use crate::inputs::{Inputs, arrival, items, lifts, orders_by, sequence, ship};
-use crate::weights::{items_are_light, ops_are_light};
 use claim_run::Workers;
 use lift_sequence::{Arrival, Op, Sequence};
+use run_inputs::{
+    Inputs, RunFault, arrival, items, items_are_light, lifts, ops_are_light, orders_by, sequence,
+    ship,
+};
 use ship_profile::Profile;
 use std::alloc::Global;
 use std::thread::{Threads, join};

@@ -1,21 +1,21 @@
 ghost use Rattle.std.specs.Prelude.{◌≡◌, ℕ, ◌≤◌, length, false, true, IfOk, IfErr, Ok, Err};
 ghost use Rattle.prefix_scan.specs.declared.divisions.CutFault.{CutFault as CutFaultValue};
-ghost use Rattle.seq_report.specs.Cases.{HasArrived, IsArrivalTotal, IsFirstStep, IsMade, IsReady, case_on, outcome_in, seen};
+ghost use Rattle.run_inputs.specs.Readings.{HasArrived, IsMade};
+ghost use Rattle.seq_report.specs.Cases.{IsArrivalTotal, IsFirstStep, IsReady, case_on, outcome_in, seen};
 ghost use Rattle.seq_report.specs.Plans.{Fits, IsPlanFault};
-ghost use Rattle.seq_report.specs.Refusal.{Outcome, TellsMemory, outcome_of, is_refusal, is_write};
+ghost use Rattle.run_inputs.specs.Refusals.{TellsMemory, is_refusal, is_write};
+ghost use Rattle.seq_report.specs.Refusal.{Outcome, outcome_of};
 
 use crate::cases::CaseView;
-use crate::faults::RunFault;
-use crate::inputs::Inputs;
 use crate::jobs::Lines;
 use crate::plans::Options;
 use crate::prepared::{Prepared, prepare};
 use crate::sections::{Chunk, first_failing};
-use crate::weights::{items_are_light, ops_are_light};
 use claim_run::{Gate, Workers, run_least};
 use criteria::Criterion;
 use lift_sequence::{Arrival, Sequence};
 use moment_sums::Totals;
+use run_inputs::{Inputs, RunFault, items_are_light, ops_are_light};
 use ship_profile::Profile;
 use std::alloc::{AllocError, Global};
 use std::sync::Wait;

@@ -1,27 +1,12 @@
 ghost use Rattle.std.specs.Prelude.{◌≡◌, ◌+◌, ◌≤◌, ◌++◌, length, map, option_map, codes};
-ghost use Rattle.seq_report.specs.Lifts.{cell_text, lift_text, op_text, shown};
+ghost use Rattle.run_inputs.specs.Shown.{cell_text, shown};
+ghost use Rattle.seq_report.specs.Lifts.{lift_text, op_text};
 
 use decimal_text::BackwardText;
 use lift_sequence::Op;
-use std::fmt;
+use run_inputs::shown;
 use stow_messages::Lift;
 use units_core::Cell;
-
-/// A cell that prints as its seven digits.
-#[derive(Clone, Copy)]
-pub struct CellText(pub Cell);
-
-impl fmt::Display for CellText {
-    ghost use Rattle.std.specs.Prelude.{Some};
-    ghost use Rattle.seq_report.specs.Lifts.{cell_text};
-
-    ghost output = { λ c. Some (cell_text c.0) };
-
-    fn fmt<W: fmt::Write>(&self, f: &mut fmt::Formatter<W>) -> fmt::Result {
-        let Cell { bay, row, tier } = self.0;
-        write!(f, "{bay:03}{row:02}{tier:02}")
-    }
-}
 
 /// Puts a cell in its seven digits before the line.
 fn put_cell(line: &mut BackwardText<'_>, cell: Cell)
@@ -32,13 +17,6 @@ fn put_cell(line: &mut BackwardText<'_>, cell: Cell)
     line.put_in_digits(u64::from(cell.tier), 2);
     line.put_in_digits(u64::from(cell.row), 2);
     line.put_in_digits(u64::from(cell.bay), 3);
-}
-
-/// A byte of a name as it can be printed: a question mark stands for a blank, and for what is no visible character.
-pub fn shown(byte: u8) -> u8
-    ensures { result ≡ shown byte }
-{
-    if byte.is_ascii_graphic() { byte } else { b'?' }
 }
 
 /// Puts the name of a tank before the line.

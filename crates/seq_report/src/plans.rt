@@ -2,12 +2,11 @@ ghost use Rattle.std.specs.Prelude.{◌≡◌, ◌≢◌, ◌<◌, IfOk, IfErr, 
 ghost use Rattle.prefix_scan.specs.Cut.{Divides};
 ghost use Rattle.prefix_scan.specs.declared.divisions.CutFault.{CutFault as CutFaultValue};
 ghost use Rattle.seq_report.specs.Plans.{Fits, IsPlanFault};
-ghost use Rattle.seq_report.specs.Refusal.{TellsMemory, is_refusal, is_write};
+ghost use Rattle.run_inputs.specs.Refusals.{TellsMemory, is_refusal, is_write};
 
-use crate::faults::RunFault;
-use crate::refusals::cuts_refusal;
 use claim_run::Workers;
 use prefix_scan::{CutFault, Cuts};
+use run_inputs::{RunFault, cuts_refusal};
 use std::alloc::Global;
 
 /// Where the lines of a report are cut into chunks. The report is the same for every plan.

@@ -4,17 +4,17 @@ ghost use Rattle.prefix_scan.specs.declared.divisions.CutFault.{CutFault as CutF
 ghost use Rattle.seq_report.specs.Cases.{IsReady, outcome_in, seen};
 ghost use Rattle.seq_report.specs.Chunks.{AreFirstSums};
 ghost use Rattle.seq_report.specs.Plans.{Fits, IsPlanFault};
-ghost use Rattle.seq_report.specs.Refusal.{Outcome, TellsMemory, outcome_of, is_refusal, is_write};
+ghost use Rattle.run_inputs.specs.Refusals.{TellsMemory, is_refusal, is_write};
+ghost use Rattle.seq_report.specs.Refusal.{Outcome, outcome_of};
 
 use crate::cases::{Case, CaseView, case_in};
 use crate::chunks::{arrival_total, joined_to_arrival};
-use crate::faults::RunFault;
-use crate::inputs::Inputs;
 use crate::jobs::Changes;
 use crate::plans::{Options, cuts_of};
 use claim_run::{Gate, Workers, run};
 use moment_sums::Totals;
 use prefix_scan::{Cuts, offsets};
+use run_inputs::{Inputs, RunFault};
 use std::alloc::{AllocError, Global};
 use std::sync::Wait;
 use std::thread::Threads;

@@ -5,3 +5,5 @@ pub mod Equality
 pub mod Interpolation
 pub mod Outcome
 pub mod Ratio
+pub mod Steps
+pub mod Totals

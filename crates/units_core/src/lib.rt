@@ -1,5 +1,5 @@
 //! The base of every crate: masses and lengths within their limits, exact fractions, readings of
-//! tables, angles of heel, the numbers of cells, and bodies aboard.
+//! tables, angles of heel, the numbers of cells, bodies aboard, and steps that change them.
 #![tactic(auto)]
 
 mod angles;
@@ -9,6 +9,7 @@ mod equality;
 mod fractions;
 mod measures;
 mod quotients;
+mod steps;
 mod tables;
 
 pub use angles::{Angle, cosine, sine};
@@ -18,4 +19,5 @@ pub use equality::{Exact, same_items, same_rows};
 pub use fractions::{Frac, at_least, at_most, floor, interp, interp_floor};
 pub use measures::{Kg, Mm};
 pub use quotients::{floor_near, is_rest, upper_half};
+pub use steps::Step;
 pub use tables::{enclosing, enclosing_near, gap, read};

@@ -8,7 +8,7 @@ use Rattle.std.proofs.lemmas.Option.{none-some}
 use Rattle.std.proofs.lemmas.List.Sums.{fold_more, sum_by-cons}
 use Rattle.ship_profile.specs.declared.frames.Frame.{Frame}
 use Rattle.lift_sequence.specs.declared.operations.Op.{Op}
-use Rattle.lift_sequence.specs.declared.steps.Step.{Step}
+use Rattle.units_core.specs.declared.steps.Step.{Step}
 use Rattle.lift_sequence.specs.Sequence.{SequenceRecord}
 use Rattle.lift_sequence.proofs.States.{as_many}
 use Rattle.prefix_scan.specs.Counted.{Counted}
@@ -21,7 +21,8 @@ use Rattle.moment_sums.specs.Kept.{Kept, both_kept, none_kept, size_of, values}
 use Rattle.moment_sums.specs.KeptLaws.{kept_laws}
 use Rattle.moment_sums.specs.Sum.{Sum, joined}
 use Rattle.moment_sums.proofs.Bounds.{values_both}
-use Rattle.seq_report.specs.Cases.{IsMade, IsReady, case_on, outcome_in}
+use Rattle.run_inputs.specs.Readings.{IsMade}
+use Rattle.seq_report.specs.Cases.{IsReady, case_on, outcome_in}
 use Rattle.seq_report.specs.Chunks.{AreFirstSums, change_behind, changes_behind, parts_to, sum_to}
 use Rattle.seq_report.specs.Report.{sum_at}
 use Rattle.seq_report.proofs.CaseLemmas.{can_be_done, ready}

@@ -7,12 +7,13 @@ use Rattle.units_core.specs.declared.cells.Cell.{Cell}
 use Rattle.stow_messages.specs.declared.lifts.Lift.TheVariants.{Load}
 use Rattle.lift_sequence.specs.declared.operations.Op.{Op}
 use Rattle.lift_sequence.specs.declared.operations.Op.TheVariants as operation
-use Rattle.lift_sequence.specs.declared.steps.Step.{Step}
-use Rattle.lift_sequence.specs.Follow.{AreReweighed, loaded_at, loaded_cell, moves, moves_in, next_cell, reweighed, step_weighed, steps_weighed, weighed_at, with_step}
+use Rattle.units_core.specs.declared.steps.Step.{Step}
+use Rattle.units_core.specs.Steps.{step_weighed}
+use Rattle.lift_sequence.specs.Follow.{AreReweighed, loaded_at, loaded_cell, moves, moves_in, next_cell, reweighed, steps_weighed, weighed_at, with_step}
 use Rattle.lift_sequence.proofs.FollowLemmas.{moves_few}
 use Rattle.ship_profile.specs.declared.frames.Frame.{Frame}
 use Rattle.std.specs.List.{AllByRecursion}
-use Rattle.moment_sums.specs.Bounded.{IsLight}
+use Rattle.bounded_sums.specs.Laws.{IsLight}
 use Rattle.moment_sums.specs.Kept.{Kept, none_kept, size_of}
 use Rattle.step_edits.specs.Edits.{place_of}
 use Rattle.what_if.specs.Bases.{change_of}

@@ -4,7 +4,7 @@ use Rattle.std.specs.List.{AllByRecursion, swap}
 use Rattle.std.proofs.lemmas.List.{length-map}
 use Rattle.std.proofs.lemmas.List.Edits.{swap_is}
 use Rattle.lift_sequence.specs.declared.operations.Op.{Op}
-use Rattle.moment_sums.specs.Bounded.{IsLight}
+use Rattle.bounded_sums.specs.Laws.{IsLight}
 use Rattle.moment_sums.specs.Kept.{Kept, none_kept}
 
 module _ {X : Type 0} where

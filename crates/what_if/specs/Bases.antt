@@ -6,7 +6,7 @@ use Rattle.ship_profile.specs.declared.frames.Frame.{Frame}
 use Rattle.ship_profile.specs.Record.{ProfileRecord}
 use Rattle.lift_sequence.specs.declared.faults.SeqFault.{SeqFault}
 use Rattle.lift_sequence.specs.declared.operations.Op.{Op}
-use Rattle.lift_sequence.specs.declared.steps.Step.{Step}
+use Rattle.units_core.specs.declared.steps.Step.{Step}
 use Rattle.lift_sequence.specs.Aboard.{Aboard}
 use Rattle.lift_sequence.specs.Arrival.{ArrivalRecord, cargo_on}
 use Rattle.lift_sequence.specs.Bodies.{steps_of}
@@ -14,7 +14,8 @@ use Rattle.lift_sequence.specs.Sequence.{sequence_fault}
 use Rattle.moment_sums.specs.Kept.{Kept, bodies_of, kept_of}
 use Rattle.moment_sums.specs.Sum.{changed_by}
 use Rattle.criteria.specs.Judgement.{Judgement, judgement_of}
-use Rattle.seq_report.specs.Cases.{HasArrived, IsArrivalTotal}
+use Rattle.run_inputs.specs.Readings.{HasArrived}
+use Rattle.seq_report.specs.Cases.{IsArrivalTotal}
 use Rattle.seq_report.specs.Refusal.{Outcome, outcome_on}
 use Rattle.seq_report.specs.Report.{lines_of, sum_at}
 

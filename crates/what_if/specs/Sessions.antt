@@ -6,11 +6,11 @@ use Rattle.circular_buffer.specs.Buffer.{Buffer}
 use Rattle.lift_sequence.specs.declared.operations.Op.{Op}
 use Rattle.lift_sequence.specs.Follow.{loaded_at, restows_in}
 use Rattle.lift_sequence.specs.Sequence.{SequenceRecord}
-use Rattle.moment_sums.specs.Bounded.{IsLight}
+use Rattle.bounded_sums.specs.Laws.{IsLight}
 use Rattle.moment_sums.specs.Kept.{Kept}
 use Rattle.prefix_scan.specs.Counted.{Counted}
-use Rattle.seq_report.specs.declared.inputs.Inputs.{Inputs}
-use Rattle.seq_report.specs.Refusal.{items_in, orders_in, ship_in}
+use Rattle.run_inputs.specs.declared.inputs.Inputs.{Inputs}
+use Rattle.run_inputs.specs.Inputs.{items_in, orders_in, ship_in}
 use Rattle.step_edits.specs.declared.edits.Edit.{Edit}
 use Rattle.step_edits.specs.declared.edits.Edit.TheVariants.{Reweigh, Swap}
 use Rattle.step_edits.specs.declared.faults.EditFault.{EditFault}

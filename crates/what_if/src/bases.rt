@@ -3,19 +3,18 @@ ghost use Rattle.std.specs.Io.KnownBytes.{Appends};
 ghost use Rattle.std.specs.List.{AllByRecursion};
 ghost use Rattle.prefix_scan.specs.Cut.{Divides};
 ghost use Rattle.lift_sequence.specs.Arrival.{TellsAt};
-ghost use Rattle.seq_report.specs.Cases.{HasArrived, IsArrivalTotal};
+ghost use Rattle.run_inputs.specs.Readings.{HasArrived};
+ghost use Rattle.seq_report.specs.Cases.{IsArrivalTotal};
 ghost use Rattle.seq_report.specs.Chunks.{AreFirstSums};
-ghost use Rattle.seq_report.specs.Refusal.{IsOfRun, is_write, is_write_fault};
+ghost use Rattle.run_inputs.specs.Refusals.{IsOfRun, is_write, is_write_fault};
 ghost use Rattle.what_if.specs.Bases.{IsBase, list_fault, report_on, steps_on};
 
 use claim_run::{Gate, Workers};
 use lift_sequence::{Arrival, Op, SeqCode, SeqFault, Sequence};
 use moment_sums::Totals;
 use prefix_scan::Cuts;
-use seq_report::{
-    Criterion, RunFault, Sink, Summary, arrival_total, first_fail_from, items_are_light,
-    report_from,
-};
+use run_inputs::items_are_light;
+use seq_report::{Criterion, RunFault, Sink, Summary, arrival_total, first_fail_from, report_from};
 use ship_profile::Profile;
 use std::alloc::Global;
 use std::marker::Model;

@@ -12,7 +12,7 @@ use crate::summed_lists::SummedList;
 use lift_sequence::{SeqCode, SeqFault, Sequence};
 use moment_sums::Totals;
 use prefix_scan::TotalsTree;
-use seq_report::ops_are_light;
+use run_inputs::ops_are_light;
 use step_edits::{Edit, EditFault, edited, fault_of};
 use units_core::Kg;
 

@@ -7,7 +7,7 @@ ghost use Rattle.lift_sequence.specs.Arrival.{TellsAt};
 ghost use Rattle.criteria.specs.Judgement.{told};
 ghost use Rattle.seq_report.specs.Chunks.{AreFirstSums};
 ghost use Rattle.seq_report.specs.Plans.{Fits, IsPlanFault};
-ghost use Rattle.seq_report.specs.Refusal.{TellsMemory, is_refusal, is_write, is_write_fault};
+ghost use Rattle.run_inputs.specs.Refusals.{TellsMemory, is_refusal, is_write, is_write_fault};
 ghost use Rattle.what_if.specs.Bases.{judged_at, list_fault, report_on, steps_on};
 
 use crate::bases::Ground;
@@ -17,9 +17,8 @@ use criteria::{Verdict, judge};
 use lift_sequence::{Op, SeqCode, SeqFault, Sequence};
 use moment_sums::Totals;
 use prefix_scan::{Cuts, Monoid, TotalsTree, offsets_tree};
-use seq_report::{
-    Criterion, Options, RunFault, Sink, Summary, cuts_of, joined_to_arrival, ops_are_light,
-};
+use run_inputs::ops_are_light;
+use seq_report::{Criterion, Options, RunFault, Sink, Summary, cuts_of, joined_to_arrival};
 use std::alloc::{AllocError, Global};
 use std::marker::Model;
 use std::sync::{Arc, Wait};

@@ -5,11 +5,11 @@ use super::orders::{ABCU, Order, mass, op, ops};
 use super::ships::{AFT, BESIDE, FORE, MIDDLE};
 use crate::checks::same;
 use box_ship::{Check, on_box_ship};
-use lift_sequence::{Arrival, Sequence, Step};
+use lift_sequence::{Arrival, Sequence};
 use ship_profile::Profile;
 use std::process::Abort;
 use std::test::Fail;
-use units_core::{Body, Kg};
+use units_core::{Body, Kg, Step};
 
 /// Four containers. The first is loaded, restowed twice and discharged; the third and the fourth come into cells that it left, and the
 /// third leaves the first of them for the second.

@@ -5,13 +5,13 @@ use super::orders::{ABCU, NO_MEMORY, Order, XYZU, items, op, ops};
 use super::ships::{AFT, ASHORE, BESIDE, FORE, LONG, MIDDLE};
 use crate::checks::same;
 use box_ship::{Check, on_box_ship};
-use lift_sequence::{Arrival, Op, SeqCode, SeqFault, Sequence, Step};
+use lift_sequence::{Arrival, Op, SeqCode, SeqFault, Sequence};
 use ship_profile::Profile;
 use std::alloc::{AllocError, Global};
 use std::ops::Range;
 use std::process::Abort;
 use std::test::Fail;
-use units_core::{Body, Cell};
+use units_core::{Body, Cell, Step};
 
 /// How many steps these orders are, or why they can't be carried out.
 fn length_from(

@@ -4,12 +4,12 @@ use super::ships::on_two_frames;
 use super::tables::{BOX, CONTAINER};
 use crate::checks::same;
 use box_ship::Check;
-use lift_sequence::Step;
 use moment_sums::Totals;
 use prefix_scan::Monoid;
 use ship_profile::{Frames, Profile};
 use std::process::Abort;
 use std::test::Fail;
+use units_core::Step;
 
 /// The container taken out again. The share aft is the one that was put in, -10,250: half of -20,501 rounded down would be -10,251. So is
 /// its moment, which would be -15,524,383.

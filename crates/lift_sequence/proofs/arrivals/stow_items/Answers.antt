@@ -1,7 +1,7 @@
 use Rattle.std.proofs.Common.{pos, Some, ap, sym, ◌∙◌, refl, arith, rules}
 use Rattle.lift_sequence.specs.Aboard.{Aboard, cargo_in, container_of}
 use Rattle.lift_sequence.specs.Arrival.{items_fault}
-use Rattle.lift_sequence.specs.Totals.{total}
+use Rattle.units_core.specs.Totals.{total}
 use Rattle.lift_sequence.specs.Bodies.{bodies_in_cells, item_body}
 use Rattle.lift_sequence.proofs.Listings.{stowed_more, stowed_few, nothing_stands}
 use Rattle.lift_sequence.proofs.States.{filter_more, items_pass, items_stop}

@@ -2,7 +2,7 @@ use Rattle.std.proofs.Common.{◌≡◌, ◌+◌, pos, take, drop}
 use Rattle.lift_sequence.specs.Aboard.{cargo_in, nothing}
 use Rattle.lift_sequence.specs.Arrival.{item_bodies, items_fault}
 use Rattle.lift_sequence.specs.Bodies.{bodies_in_cells}
-use Rattle.lift_sequence.specs.Totals.{total}
+use Rattle.units_core.specs.Totals.{total}
 use Rattle.lift_sequence.proofs.arrivals.stow_items.Given as goal
 
 abbrev pub invariant-loop-item : goal.invariant-loop-item

@@ -1,7 +1,8 @@
 use Rattle.std.proofs.Common.{◌≡◌, ◌∙◌, ◌+◌, ◌++◌, Some, ap, arith, drop, set, sym, take}
 use Rattle.std.specs.Prelude.{option_and_then}
 use Rattle.std.proofs.lemmas.Option.{slice_get-get_or}
-use Rattle.lift_sequence.specs.Follow.{loaded_at, loaded_cell, step_weighed, steps_weighed}
+use Rattle.units_core.specs.Steps.{step_weighed}
+use Rattle.lift_sequence.specs.Follow.{loaded_at, loaded_cell, steps_weighed}
 use Rattle.lift_sequence.proofs.WalkLemmas.{come_to}
 use Rattle.lift_sequence.proofs.sequences.weigh_steps.Goals as goal
 

@@ -1,6 +1,6 @@
 use Rattle.std.proofs.Common.{◌∙◌, subst, sym}
 use Rattle.std.specs.List.{AllByRecursion}
-use Rattle.moment_sums.specs.Bounded.{IsLight}
+use Rattle.bounded_sums.specs.Laws.{IsLight}
 use Rattle.seq_report.proofs.CaseLemmas.{ready}
 use Rattle.seq_report.proofs.cases.case_on_ops.Goals as goal
 

@@ -1,7 +1,7 @@
 use Rattle.std.proofs.Common.{◌^◌, ◌≤◌, subst}
 use Rattle.std.specs.List.{AllByRecursion}
 use Rattle.stow_messages.specs.declared.items.Item.{Item}
-use Rattle.moment_sums.specs.Bounded.{IsLight}
+use Rattle.bounded_sums.specs.Laws.{IsLight}
 use Rattle.seq_report.proofs.CaseLemmas.{ready}
 use Rattle.seq_report.proofs.failures.first_fail_from.Goals as goal
 

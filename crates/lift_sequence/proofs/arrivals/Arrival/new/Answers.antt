@@ -2,7 +2,7 @@ use Rattle.std.proofs.Common.{◌≡◌, ◌≤◌, ◌∙◌, ◌++◌, List, a
 use Rattle.stow_messages.specs.declared.items.Item.{Item}
 use Rattle.lift_sequence.specs.Arrival.{arrival_bodies, on_arrival}
 use Rattle.lift_sequence.specs.Bodies.{bodies}
-use Rattle.lift_sequence.specs.Totals.{total}
+use Rattle.units_core.specs.Totals.{total}
 use Rattle.lift_sequence.proofs.ArrivalSums.{arrival_sums}
 use Rattle.lift_sequence.proofs.States.{filter_few}
 use Rattle.lift_sequence.proofs.arrivals.Arrival.new.Goals as goal

@@ -5,7 +5,7 @@ use Rattle.std.proofs.lemmas.List.Edits.{length-swap}
 use Rattle.ship_profile.specs.Record.{ProfileRecord}
 use Rattle.lift_sequence.specs.declared.operations.Op.{Op}
 use Rattle.lift_sequence.proofs.States.{as_many}
-use Rattle.moment_sums.specs.Bounded.{IsLight}
+use Rattle.bounded_sums.specs.Laws.{IsLight}
 use Rattle.moment_sums.specs.Kept.{Kept}
 use Rattle.what_if.specs.Bases.{Base, aboard_first, change_of}
 use Rattle.what_if.specs.Sessions.{IsSummed, Summed}

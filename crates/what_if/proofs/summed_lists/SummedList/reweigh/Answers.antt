@@ -5,7 +5,7 @@ use Rattle.ship_profile.specs.Record.{ProfileRecord}
 use Rattle.lift_sequence.specs.Follow.{loaded_at}
 use Rattle.lift_sequence.proofs.FollowLemmas.{as_long}
 use Rattle.lift_sequence.proofs.States.{as_many}
-use Rattle.moment_sums.specs.Bounded.{IsLight}
+use Rattle.bounded_sums.specs.Laws.{IsLight}
 use Rattle.what_if.specs.Bases.{Base, aboard_first, change_of}
 use Rattle.what_if.specs.Changes.{IsNear}
 use Rattle.what_if.specs.Sessions.{Summed, restows_behind}

@@ -1,0 +1,3 @@
+pub mod AboardBounds
+pub mod BodyBounds
+pub mod StepBounds

@@ -1,0 +1,5 @@
+pub mod Inputs
+pub mod Printed
+pub mod Readings
+pub mod Refusals
+pub mod Shown
