@@ -37,15 +37,20 @@ const BOTH: &str =
 const TWO_LOADS: &[u8] =
     b"UNB+UNOA:2+PLAN+SHIP+250101:1200+8'UNH+1+MOVINS:D:95B:UN'HAN+LOA'LOC+147+0030782::5'MEA+WT++KGM:20500'EQD+CN+ABCU1234560'HAN+LOA'LOC+147+0050082::5'MEA+WT++KGM:20500'EQD+CN+ABCU7654321'UNT+10+1'UNZ+1+8'";
 
-/// A session on the box ship with no container aboard.
-fn session(alloc: Global, movins: &[u8]) -> Result<Session, RunFault> {
-    let inputs = Inputs {
+/// The box ship with a bay plan and a movement instruction. By itself, since a session that is read of texts which are written out costs its proof
+/// two minutes.
+fn inputs<'a>(baplie: &'a [u8], movins: &'a [u8]) -> Inputs<'a> {
+    Inputs {
         profile: files(),
-        baplie: EMPTY_PLAN,
+        baplie,
         movins,
         steps: None,
-    };
-    Session::read(alloc, &inputs)
+    }
+}
+
+/// A session on the box ship with no container aboard.
+fn session(alloc: Global, movins: &[u8]) -> Result<Session, RunFault> {
+    Session::read(alloc, &inputs(EMPTY_PLAN, movins))
 }
 
 /// The report of a session, as text, made by two workers in chunks of two lines.

@@ -1,7 +1,7 @@
 use crate::checks::{holds, holds_row, same, same_row};
 use std::alloc::{AllocError, Global};
 use units_core::{
-    Angle, Body, Cell, Frac, Kg, Mm, Place, at_least, at_most, conflicts, cosine, enclosing,
+    Angle, Body, Cell, Frac, Kg, Mm, Place, Step, at_least, at_most, conflicts, cosine, enclosing,
     enclosing_near, floor, floor_near, gap, interp, interp_floor, is_rest, read, same_items,
     same_rows, sine, span, upper_half,
 };
@@ -457,6 +457,24 @@ fn bodies_are_told_apart(rt: HostRuntime) {
         };
         let is_first = *kg == 21 && *x == 3 && *fsm == 34;
         same_row(&rt, other, same_items(&[first], &[other]), is_first);
+    }
+}
+
+// The mass alone changes, of what is taken out and of what is put in; where there is no body, there is none of another weight.
+#[test]
+fn steps_of_another_weight(rt: HostRuntime) {
+    let Some(kg) = Kg::new(55) else {
+        holds(&rt, false);
+        return;
+    };
+    for (out, heavier) in [(None, None), (body(21, 3, 34), body(55, 3, 34))] {
+        let step = Step {
+            out,
+            put: body(22, 4, 35),
+        };
+        let weighed = step.weighed(kg);
+        same(&rt, weighed.out, heavier);
+        same(&rt, weighed.put, body(55, 4, 35));
     }
 }
 

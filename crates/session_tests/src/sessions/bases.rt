@@ -1,8 +1,8 @@
 //! When two bases are equal.
-use super::{TWO_LOADS, session};
+use super::{TWO_LOADS, inputs, session};
 use crate::checks::{holds, same};
-use box_ship::{LOAD_TO_STARBOARD, NO_MOVES, files};
-use seq_report::{Inputs, RunFault};
+use box_ship::{LOAD_TO_STARBOARD, NO_MOVES};
+use seq_report::RunFault;
 use std::alloc::Global;
 use std::test::Fail;
 use what_if::Session;
@@ -13,13 +13,7 @@ const ONE_ABOARD: &[u8] =
 
 /// A session on the box ship with this container.
 fn loaded(alloc: Global) -> Result<Session, RunFault> {
-    let inputs = Inputs {
-        profile: files(),
-        baplie: ONE_ABOARD,
-        movins: NO_MOVES,
-        steps: None,
-    };
-    Session::read(alloc, &inputs)
+    Session::read(alloc, &inputs(ONE_ABOARD, NO_MOVES))
 }
 
 // Bases are equal whatever is ordered from there, and where they were read from the same files twice.

@@ -4,6 +4,7 @@ ghost use Rattle.what_if.specs.Desks.{IsOf, list_of};
 
 use super::{TWO_LOADS, session};
 use crate::checks::holds;
+use lift_sequence::Op;
 use std::alloc::{AllocError, Global};
 use std::sync::{Arc, Wait};
 use std::test::Fail;
@@ -11,15 +12,21 @@ use std::thread;
 use std::thread::Threads;
 use what_if::{Desk, Session, Ticket};
 
+/// The first of some steps alone.
+fn first_of(alloc: Global, ops: &[Op]) -> Result<Vec<Op>, AllocError> {
+    let mut list = Vec::new(alloc);
+    if let Some(op) = ops.first() {
+        list.push(op.copy())?;
+    }
+    Ok(list)
+}
+
 /// The first step of a session's list alone, in a session on the same base.
 fn first_step_of(alloc: Global, session: &Session) -> Result<Session, Fail>
     ensures { IfOk result (λ s. s.base ≡ session.now.base) }
 {
-    let mut list = Vec::new(alloc);
-    if let Some(op) = session.lifts().first() {
-        list.push(op.copy())?;
-    }
     let base = Arc::try_clone(session.base())?;
+    let list = first_of(alloc, session.lifts())?;
     Ok(Session::new(alloc, base, list)?)
 }
 

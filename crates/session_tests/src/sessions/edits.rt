@@ -3,21 +3,32 @@
 use super::{AFT, BOTH, STARBOARD, TWO_LOADS, check_report, session};
 use crate::checks::{holds, same};
 use criteria::Verdict;
+use std::process::Abort;
+use std::sync::Wait;
 use std::test::Fail;
-use what_if::Edit;
+use std::thread::Threads;
+use what_if::{Edit, Session};
+
+/// Both loads are swapped, and swapped back. The session is lent: its owner lets go of it at each `?`, which the proof pays for.
+fn swap_and_undo(
+    rt: &(impl Abort + AllocGlobal + Threads + Wait + Sync),
+    session: &mut Session,
+) -> Result<(), Fail> {
+    let given = format!(in rt.alloc(); "1 {STARBOARD}\n2 L0050082 {BOTH}\n")?;
+    let swapped = format!(in rt.alloc(); "1 {AFT}\n2 L0030782 {BOTH}\n")?;
+    check_report(rt, session, given.as_str())?;
+    same(rt, session.apply(Edit::Swap { a: 1, b: 2 }), Ok(()));
+    check_report(rt, session, swapped.as_str())?;
+    same(rt, session.undo(), Ok(true));
+    check_report(rt, session, given.as_str())?;
+    same(rt, session.undo(), Ok(false));
+    Ok(())
+}
 
 #[test]
 fn session_edits(rt: HostRuntime) -> Result<(), Fail> {
     let mut session = session(rt.alloc(), TWO_LOADS)?;
-    let given = format!(in rt.alloc(); "1 {STARBOARD}\n2 L0050082 {BOTH}\n")?;
-    let swapped = format!(in rt.alloc(); "1 {AFT}\n2 L0030782 {BOTH}\n")?;
-    check_report(&rt, &session, given.as_str())?;
-    same(&rt, session.apply(Edit::Swap { a: 1, b: 2 }), Ok(()));
-    check_report(&rt, &session, swapped.as_str())?;
-    same(&rt, session.undo(), Ok(true));
-    check_report(&rt, &session, given.as_str())?;
-    same(&rt, session.undo(), Ok(false));
-    Ok(())
+    swap_and_undo(&rt, &mut session)
 }
 
 #[test]
