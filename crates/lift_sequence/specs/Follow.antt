@@ -2,7 +2,6 @@
 use Rattle.std.specs.Prelude.{◌≡◌, ℕ, ◌+◌, ◌≤◌, List, [], ◌∷◌, take, drop, Option, None, Some, option_map, option_and_then, slice_get, slice_set, Bool, true, false, if◌then◌else◌}
 use Rattle.std.specs.Option.{is_some}
 use Rattle.units_core.specs.declared.cells.Cell.{Cell}
-use Rattle.units_core.specs.Bodies.{Mass}
 use Rattle.units_core.specs.Cells.{cell_eq}
 use Rattle.stow_messages.specs.declared.lifts.Lift.TheVariants.{Load, Discharge}
 use Rattle.ship_profile.specs.Record.{ProfileRecord}
