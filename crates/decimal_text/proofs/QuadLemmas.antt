@@ -44,6 +44,13 @@ behind_zeros n high =
     (λ low. let text = text_two n low two in so_many n 2 (grind (arith, nat_tests)) text (omega (arith, ap length text)))
     (λ one. let one = lt_of_not-le one in let text = text_one n one in so_many n 3 (grind (arith, nat_tests)) text (omega (arith, ap length text)))))
 
+-- so many zeros, and no others, are all that stand in front
+pub text_behind : (n z : ℕ) → n < 10000 → z + length (decimal n) ≡ 4 → drop z (quad n) ≡ decimal n
+text_behind n z high all =
+    let known = behind_zeros n high in
+    let e : z ≡ zeros n = omega (arith, all, known.1) in
+    ap (λ m. drop m (quad n)) e ∙ known.0
+
 -- behind the zeros stands the number
 pub after_zeros : (bytes rest : List ℕ) (n at zeros : ℕ) → drop at bytes ≡ quad n ++ rest → zeros ≤ 4 → drop zeros (quad n) ≡ decimal n
     → drop (at + zeros) bytes ≡ decimal n ++ rest

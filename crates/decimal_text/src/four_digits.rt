@@ -1,18 +1,22 @@
 ghost use Rattle.std.specs.Prelude.{◌≡◌, ◌+◌, ◌*◌, ◌≤◌, ◌<◌, ◌∷◌, ◌++◌, length, drop};
 ghost use Rattle.std.specs.Fmt.{decimal};
-ghost use Rattle.decimal_text.specs.Quads.{AreQuads, quad, sign_of};
+ghost use Rattle.decimal_text.specs.Quads.{AreQuads, AreZeros, quad, sign_of};
 
 use std::alloc::{AllocError, Global};
 
 /// How many numbers have at most four digits.
 const ALL: usize = 10_000;
 
-/// The four digits of each number below 10,000, zeros in front among them: numbers are written four digits at a time.
+/// The four digits of each number below 10,000, zeros in front among them, and how many these zeros are: numbers are written four digits at a
+/// time.
 #[derive(Drop)]
 pub struct FourDigits {
     table: Vec<[u8; 4]>,
+    zeros: Vec<u8>,
     ghost whole: { length table.items ≡ 10000 },
     ghost right: { AreQuads table.items 10000 },
+    ghost all: { length zeros.items ≡ 10000 },
+    ghost counted: { AreZeros zeros.items 10000 },
 }
 
 /// The four digits of a number.
@@ -29,15 +33,12 @@ fn digits_of(n: u64) -> [u8; 4]
     ]
 }
 
-/// How many zeros stand in front of a number among its four digits; of 0 the last one is its digit. It is added up without a branch, since no
-/// processor foretells how long the next number is.
-#[inline(always)]
-fn zeros_before(n: u64) -> usize
+/// How many zeros stand in front of a number among its four digits; of 0 the last one is its digit.
+fn zeros_before(n: u64) -> u8
     requires { n < 10000 }
-    ensures text { drop result (quad n) ≡ decimal n }
-    ensures rest { result + length (decimal n) ≡ 4 }
+    ensures { result + length (decimal n) ≡ 4 }
 {
-    usize::from(n < 1000) + usize::from(n < 100) + usize::from(n < 10)
+    u8::from(n < 1000) + u8::from(n < 100) + u8::from(n < 10)
 }
 
 /// Writes four bytes over four. They are written as one number: `copy_from_slice` also looks whether the two overlap.
@@ -50,6 +51,18 @@ fn write_over(bytes: &mut [u8], four: [u8; 4])
         unreachable!()
     };
     *all = four;
+}
+
+/// Writes four digits from `at` on, by the table of them.
+#[inline(always)]
+fn write_four(table: &[[u8; 4]], n: u64, bytes: &mut [u8], at: usize)
+    requires whole { length table.now ≡ 10000 }
+    requires right { AreQuads table.now 10000 }
+    requires low { n < 10000 }
+    requires room { at + 4 ≤ length bytes.old }
+    ensures { drop at bytes.new ≡ quad n ++ drop (at + 4) bytes.old }
+{
+    write_over(&mut bytes[at..at + 4], table[n as usize]);
 }
 
 /// Writes a byte that ends at `end`, and answers where it stands.
@@ -80,23 +93,24 @@ fn write_sign(bytes: &mut [u8], end: usize, is_negative: bool) -> usize
 }
 
 impl FourDigits {
-    /// Makes the table, of 40,000 bytes.
+    /// Makes the tables, of 50,000 bytes.
     pub fn new(alloc: Global) -> Result<FourDigits, AllocError> {
         let mut table = Vec::with_capacity(alloc, ALL)?;
+        let mut zeros = Vec::with_capacity(alloc, ALL)?;
         for n in 0..10_000u64 {
             table.push(digits_of(n))?;
+            zeros.push(zeros_before(n))?;
         }
-        Ok(FourDigits { table })
+        Ok(FourDigits { table, zeros })
     }
 
-    /// Writes four digits from `at` on.
+    /// How many zeros stand in front of a number among its four digits. They are looked up, since no processor foretells how long the next number is.
     #[inline(always)]
-    fn write_four(&self, n: u64, bytes: &mut [u8], at: usize)
-        requires low { n < 10000 }
-        requires room { at + 4 ≤ length bytes.old }
-        ensures { drop at bytes.new ≡ quad n ++ drop (at + 4) bytes.old }
+    fn zeros(&self, n: u64) -> usize
+        requires { n < 10000 }
+        ensures { result + length (decimal n) ≡ 4 }
     {
-        write_over(&mut bytes[at..at + 4], self.table[n as usize]);
+        usize::from(self.zeros[n as usize])
     }
 
     /// Writes the digits of a number below 10,000 so that they end at `end`, and answers where they begin.
@@ -108,8 +122,8 @@ impl FourDigits {
         ensures start { result + length (decimal n) ≡ end }
         ensures written { drop result bytes.new ≡ decimal n ++ drop end bytes.old }
     {
-        self.write_four(n, bytes, end - 4);
-        end - 4 + zeros_before(n)
+        write_four(&self.table, n, bytes, end - 4);
+        end - 4 + self.zeros(n)
     }
 
     /// Writes the digits of a number so that they end at `end`, and answers where they begin. Up to three bytes in front of them are lost.
@@ -120,10 +134,12 @@ impl FourDigits {
         ensures start { result + length (decimal n) ≡ end }
         ensures written { drop result bytes.new ≡ decimal n ++ drop end bytes.old }
     {
+        // Where the table begins is kept in a register, since each byte written might be part of its struct otherwise.
+        let table = self.table.as_slice();
         let mut left = n;
         let mut at = end;
         while left >= 10_000 {
-            self.write_four(left % 10_000, bytes, at - 4);
+            write_four(table, left % 10_000, bytes, at - 4);
             left /= 10_000;
             at -= 4;
         }

@@ -1,6 +1,6 @@
-ghost use Rattle.std.specs.Prelude.{◌≡◌, ◌++◌, ◌∷◌, ◌-◌, ◌+◌, ◌*◌, ◌<◌, ◌≤◌, OnOk, Some, length, slice_get, string_bytes};
+ghost use Rattle.std.specs.Prelude.{◌≡◌, ◌++◌, ◌∷◌, ◌-◌, ◌+◌, ◌*◌, ◌<◌, ◌≤◌, OnOk, Some, length, string_bytes};
 ghost use Rattle.criteria.specs.Judgement.{read};
-ghost use Rattle.seq_report.specs.Columns.{columns, figure_of, figures_text, frame_text, frames_text, heading_of, headings_text, number_text, numbers_text};
+ghost use Rattle.seq_report.specs.Columns.{figure_of, figures_text, frame_text, frames_text, heading_of, headings_text, number_text, numbers_text};
 
 use criteria::Figures;
 use decimal_text::BackwardText;
@@ -73,6 +73,7 @@ impl Column {
     }
 
     /// The figure of this column; `None` of the list of a ship whose metacentric height isn't positive.
+    #[inline(always)]
     fn figure(self, figures: &Figures) -> Option<i128>
         ensures { result ≡ figure_of (read figures.now) self }
     {
@@ -93,14 +94,6 @@ impl Column {
     }
 }
 
-/// The column of a number, the first being 0.
-fn column_at(i: usize) -> Column
-    requires { i < 12 }
-    ensures { slice_get columns i ≡ Some result }
-{
-    COLUMNS[i]
-}
-
 /// Writes the headings of the columns of figures, each behind a space.
 pub fn write_headings(text: &mut String) -> Result<(), AllocError>
     ensures { OnOk result (string_bytes text.new ≡ string_bytes text.old ++ headings_text) }
@@ -113,6 +106,7 @@ pub fn write_headings(text: &mut String) -> Result<(), AllocError>
 }
 
 /// Puts the figure of a column, or a dash where there is none, behind a space, before the line.
+#[inline(always)]
 fn put_figure(line: &mut BackwardText<'_>, figures: &Figures, column: Column)
     requires room { length line.old + 41 ≤ 2048 }
     ensures text { line.new ≡ (32 ∷ number_text (figure_of (read figures.now) column)) ++ line.old }
@@ -127,17 +121,25 @@ fn put_figure(line: &mut BackwardText<'_>, figures: &Figures, column: Column)
     }
 }
 
-/// Puts the figures of the columns, each behind a space, before the line.
+/// Puts the figures of the columns, each behind a space, before the line. They are written out, the last column first: in a loop each figure
+/// costs a jump by its column.
 fn put_numbers(line: &mut BackwardText<'_>, figures: &Figures)
     requires room { length line.old + 492 ≤ 2048 }
     ensures text { line.new ≡ numbers_text (read figures.now) ++ line.old }
     ensures short { length line.new ≤ length line.old + 492 }
 {
-    let mut left = 12;
-    while left > 0 {
-        left -= 1;
-        put_figure(line, figures, column_at(left));
-    }
+    put_figure(line, figures, Column::Closing);
+    put_figure(line, figures, Column::Angle);
+    put_figure(line, figures, Column::Lever);
+    put_figure(line, figures, Column::Area30To40);
+    put_figure(line, figures, Column::AreaTo40);
+    put_figure(line, figures, Column::AreaTo30);
+    put_figure(line, figures, Column::List);
+    put_figure(line, figures, Column::Trim);
+    put_figure(line, figures, Column::Fwd);
+    put_figure(line, figures, Column::Aft);
+    put_figure(line, figures, Column::Mean);
+    put_figure(line, figures, Column::Gm);
 }
 
 /// Puts the shear force and the bending moment at a frame before the line, and before them a byte.
