@@ -1,6 +1,6 @@
 ghost use Rattle.std.specs.Prelude.{◌<◌};
 
-use units_core::upper_half;
+use units_core::{reciprocal_near, upper_half};
 
 /// About the reciprocal of a divisor, by which quotients are guessed. Nothing is promised of it, since each guess is tested.
 #[derive(Clone, Copy)]
@@ -14,8 +14,8 @@ pub struct Reciprocal {
 
 /// About 2^64 over a number.
 fn reciprocal_of(leading: i128) -> u64 {
-    match u64::try_from(leading) {
-        Ok(leading) => u64::MAX.checked_div(leading).unwrap_or(0),
+    match i64::try_from(leading) {
+        Ok(leading) => reciprocal_near(leading),
         Err(_) => 0,
     }
 }

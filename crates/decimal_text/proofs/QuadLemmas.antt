@@ -1,5 +1,5 @@
 -- Four digits, and the number that they end.
-use Rattle.std.proofs.Common.{◌≡◌, Bool, true, false, ℕ, zero, suc, ◌+◌, ◌-◌, ◌/◌, ◌%◌, ◌^◌, ◌<◌, ◌≤◌, List, [], ◌∷◌, ◌++◌, drop, length, sym, ap, ◌∙◌, arith, append_assoc, lt_of_not-le}
+use Rattle.std.proofs.Common.{◌≡◌, ℕ, zero, suc, ◌+◌, ◌-◌, ◌/◌, ◌%◌, ◌^◌, ◌<◌, ◌≤◌, List, [], ◌∷◌, ◌++◌, drop, length, sym, ap, ◌∙◌, arith, append_assoc, lt_of_not-le}
 use Rattle.std.proofs.lemmas.Fmt.{decimal_digit, decimal_nonempty, length-decimal-le}
 use Rattle.std.proofs.lemmas.List.{drop-append-le, drop-drop}
 use Rattle.std.specs.Fmt.{decimal}
@@ -9,7 +9,7 @@ use mathlib.Core.Logic.{dite}
 use native.Mathlib.Decide.{dec_le}
 use mir.Val.{bool_byte}
 use Rattle.itoa.proofs.Decimal.{pair, decimal_two, decimal_pair, decimal_four}
-use Rattle.decimal_text.specs.Quads.{quad, sign_of}
+use Rattle.decimal_text.specs.Quads.{quad}
 
 -- a number of four, three, two digits and one
 pub text_four : (n : ℕ) → 1000 ≤ n → n < 10000 → quad n ≡ decimal n
@@ -70,11 +70,7 @@ room_left n left at end fits left_fits room below whole digits =
     let least = decimal_nonempty left left_fits in
     omega (arith, most, least, digits, whole, room, below)
 
--- a byte and a text, and a sign
+-- a byte and a text
 pub ascii_before : (b : ℕ) (bs : List ℕ) → b < 128 → IsAscii bs → IsAscii (b ∷ bs)
 ascii_before b bs h all zero = h
 ascii_before b bs h all (suc i) = all i
-
-pub sign_is_ascii : (b : Bool) → IsAscii (sign_of b)
-sign_is_ascii true = ascii_before 45 [] (omega arith) (λ i. omega arith)
-sign_is_ascii false = λ i. omega arith

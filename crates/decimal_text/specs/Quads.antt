@@ -1,5 +1,5 @@
 -- Bookkeeping: four digits of a number below 10,000, and a table of them.
-use Rattle.std.specs.Prelude.{◌≡◌, Bool, true, false, ℕ, ◌+◌, ◌/◌, ◌%◌, ◌<◌, List, [], ◌∷◌, length, slice_index_or}
+use Rattle.std.specs.Prelude.{◌≡◌, ℕ, ◌+◌, ◌/◌, ◌%◌, ◌<◌, List, [], ◌∷◌, length, slice_index_or}
 use Rattle.std.specs.Fmt.{decimal}
 
 abbrev pub quad : ℕ → List ℕ
@@ -12,8 +12,3 @@ AreQuads table many = (n : ℕ) → n < many → slice_index_or table n [] ≡ q
 -- how many zeros stand in front of each number among its four digits, for so many numbers
 abbrev pub AreZeros : List ℕ → ℕ → Type 0
 AreZeros zeros many = (n : ℕ) → n < many → slice_index_or zeros n 0 + length (decimal n) ≡ 4
-
--- the sign of a number, by whether it is negative
-abbrev pub sign_of : Bool → List ℕ
-sign_of true = 45 ∷ []
-sign_of false = []

@@ -1,9 +1,9 @@
-ghost use Rattle.std.specs.Prelude.{◌≡◌, ◌+◌, ◌-◌, ◌<◌, ◌≤◌, ◌∷◌, ◌++◌, [], length, replicate, IsAscii, is_ok, string_bytes, if◌then◌else◌};
+ghost use Rattle.std.specs.Prelude.{◌≡◌, ◌+◌, ◌-◌, ◌*◌, ◌<◌, ◌≤◌, ◌∷◌, ◌++◌, [], length, replicate, IsAscii, is_ok, string_bytes, if◌then◌else◌};
 ghost use Rattle.std.specs.Fmt.{decimal, signed_decimal};
-ghost use Rattle.decimal_text.specs.Quads.{sign_of};
+ghost use Rattle.decimal_text.specs.Numbers.{behind_each, entry, pairs_up_to};
 
+use crate::digit_writer::write_few_zeros;
 use crate::four_digits::FourDigits;
-use itoa::Buffer;
 use std::alloc::AllocError;
 use std::marker::Model;
 
@@ -85,12 +85,27 @@ impl<'a> BackwardText<'a> {
         ensures text { self.new ≡ decimal n ++ self.old }
         ensures short { length self.new ≤ length self.old + 20 }
     {
-        self.start = self.digits.write(n, &mut self.bytes, self.start);
+        self.start = self.digits.writer().write(n, &mut self.bytes, self.start);
     }
 
     /// Puts so many zeros before the text.
     #[inline]
     fn put_zeros(&mut self, count: usize)
+        requires { count + length self.old ≤ ROOM }
+        ensures { self.new ≡ replicate count 48 ++ self.old }
+    {
+        if count <= 4 {
+            if self.start >= 4 {
+                self.start = write_few_zeros(count, &mut self.bytes, self.start);
+                return;
+            }
+        }
+        self.put_many_zeros(count);
+    }
+
+    /// The same one by one, for more than four or where there is no room for four.
+    #[cold]
+    fn put_many_zeros(&mut self, count: usize)
         requires { count + length self.old ≤ ROOM }
         ensures { self.new ≡ replicate count 48 ++ self.old }
     {
@@ -123,38 +138,56 @@ impl<'a> BackwardText<'a> {
         ensures text { self.new ≡ (byte ∷ signed_decimal n) ++ self.old }
         ensures short { length self.new ≤ length self.old + 41 }
     {
-        let magnitude = n.unsigned_abs();
-        if magnitude > u64::MAX as u128 {
-            self.put_wide(n);
-            self.put_byte(byte);
-            return;
-        }
-        self.put_signed(byte, n < 0, magnitude as u64);
-    }
-
-    /// Puts a number of 64 bits with its sign before the text, and before it a byte.
-    #[inline]
-    fn put_signed(&mut self, byte: u8, is_negative: bool, n: u64)
-        requires ascii { byte < 128 }
-        requires room { length self.old + 22 ≤ ROOM }
-        ensures text { self.new ≡ (byte ∷ (sign_of is_negative ++ decimal n)) ++ self.old }
-        ensures short { length self.new ≤ length self.old + 22 }
-    {
-        // Where the text begins is kept in a register meanwhile, since each byte written might be part of it otherwise.
         self.start = self
             .digits
-            .write_parted(byte, is_negative, n, &mut self.bytes, self.start);
+            .writer()
+            .write_whole(byte, n, &mut self.bytes, self.start);
     }
 
-    /// Puts a whole number of any size before the text.
-    #[cold]
-    fn put_wide(&mut self, n: i128)
-        requires room { length self.old + 40 ≤ ROOM }
-        ensures text { self.new ≡ signed_decimal n ++ self.old }
-        ensures short { length self.new ≤ length self.old + 40 }
+    /// Puts whole numbers before the text, the last of them next to it, each with a minus sign if it is negative, and each behind a byte.
+    pub fn put_each(&mut self, byte: u8, numbers: &[i128])
+        requires ascii { byte < 128 }
+        requires room { length self.old + 41 * length numbers.now ≤ ROOM }
+        ensures text { self.new ≡ behind_each byte numbers.now ++ self.old }
+        ensures short { length self.new ≤ length self.old + 41 * length numbers.now }
     {
-        let mut digits = Buffer::new();
-        self.put_words(digits.format(n));
+        self.start = self
+            .digits
+            .writer()
+            .write_each(byte, numbers, &mut self.bytes, self.start);
+    }
+
+    /// Puts pairs of whole numbers before the text: the first numbers of two lists, the second of both, and so on up to those of the number `last`,
+    /// counted from 0. The two of a pair have `between` between them, the first pair stands behind `opening`, and each other one behind `parting`.
+    pub fn put_pairs(
+        &mut self,
+        opening: u8,
+        parting: u8,
+        between: u8,
+        firsts: &[i128],
+        seconds: &[i128],
+        last: usize,
+    )
+        requires ascii_opening { opening < 128 }
+        requires ascii_parting { parting < 128 }
+        requires ascii_between { between < 128 }
+        requires firsts { last < length firsts.now }
+        requires seconds { last < length seconds.now }
+        requires room { length self.old + (82 * last + 82) ≤ ROOM }
+        ensures text { self.new
+            ≡ (opening ∷ pairs_up_to parting between (entry firsts.now) (entry seconds.now) last) ++ self.old }
+        ensures short { length self.new ≤ length self.old + (82 * last + 82) }
+    {
+        self.start = self.digits.writer().write_pairs(
+            opening,
+            parting,
+            between,
+            firsts,
+            seconds,
+            last,
+            &mut self.bytes,
+            self.start,
+        );
     }
 
     /// Appends the text to another in one piece.

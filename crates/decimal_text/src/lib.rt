@@ -5,6 +5,7 @@
 #![tactic(auto)]
 
 mod backward_text;
+mod digit_writer;
 mod four_digits;
 
 pub use backward_text::{BackwardText, ROOM};

@@ -7,7 +7,7 @@ ghost use Rattle.hydrostat.specs.Leading.{IsInUnits, IsLedBy, IsSure, line_step}
 use crate::draughts::{draught, draught_by};
 use crate::numerators::trim_top;
 use crate::particulars::Afloat;
-use units_core::{Mm, floor, is_rest, upper_half};
+use units_core::{Mm, floor, is_rest, reciprocal_near, upper_half};
 
 /// What units leave away of a numerator, of a million times the step and of a million times the divisor is less than so many units.
 const SLACK: i64 = 2_000_002;
@@ -88,7 +88,7 @@ fn fitted(unit: i128, base: i64, step: i64, divisor: i64) -> Option<Leading>
         base,
         step,
         divisor,
-        reciprocal: u64::MAX / divisor as u64,
+        reciprocal: reciprocal_near(divisor),
     })
 }
 

@@ -1,6 +1,6 @@
 ghost use Rattle.std.specs.Prelude.{◌≡◌, ◌++◌, ◌∷◌, ◌-◌, ◌+◌, ◌*◌, ◌<◌, ◌≤◌, OnOk, Some, length, string_bytes};
 ghost use Rattle.criteria.specs.Judgement.{read};
-ghost use Rattle.seq_report.specs.Columns.{figure_of, figures_text, frame_text, frames_text, heading_of, headings_text, number_text, numbers_text};
+ghost use Rattle.seq_report.specs.Columns.{figures_text, frames_text, heading_of, headings_text, number_text, numbers_text};
 
 use criteria::Figures;
 use decimal_text::BackwardText;
@@ -71,27 +71,6 @@ impl Column {
             Column::Closing => "CLOSE",
         }
     }
-
-    /// The figure of this column; `None` of the list of a ship whose metacentric height isn't positive.
-    #[inline(always)]
-    fn figure(self, figures: &Figures) -> Option<i128>
-        ensures { result ≡ figure_of (read figures.now) self }
-    {
-        match self {
-            Column::Gm => Some(figures.gm),
-            Column::Mean => Some(figures.mean),
-            Column::Aft => Some(figures.aft),
-            Column::Fwd => Some(figures.fwd),
-            Column::Trim => Some(figures.trim),
-            Column::List => figures.list,
-            Column::AreaTo30 => Some(figures.area_30),
-            Column::AreaTo40 => Some(figures.area_40),
-            Column::Area30To40 => Some(figures.area_30_40),
-            Column::Lever => Some(figures.lever),
-            Column::Angle => Some(figures.angle as i128),
-            Column::Closing => Some(figures.strains.closing),
-        }
-    }
 }
 
 /// Writes the headings of the columns of figures, each behind a space.
@@ -105,14 +84,13 @@ pub fn write_headings(text: &mut String) -> Result<(), AllocError>
     Ok(())
 }
 
-/// Puts the figure of a column, or a dash where there is none, behind a space, before the line.
-#[inline(always)]
-fn put_figure(line: &mut BackwardText<'_>, figures: &Figures, column: Column)
+/// Puts the list, or a dash where there is none, behind a space, before the line.
+fn put_list(line: &mut BackwardText<'_>, list: Option<i128>)
     requires room { length line.old + 41 ≤ 2048 }
-    ensures text { line.new ≡ (32 ∷ number_text (figure_of (read figures.now) column)) ++ line.old }
+    ensures text { line.new ≡ (32 ∷ number_text list) ++ line.old }
     ensures short { length line.new ≤ length line.old + 41 }
 {
-    match column.figure(figures) {
+    match list {
         Some(number) => line.put_parted(b' ', number),
         None => {
             line.put_byte(b'-');
@@ -121,37 +99,30 @@ fn put_figure(line: &mut BackwardText<'_>, figures: &Figures, column: Column)
     }
 }
 
-/// Puts the figures of the columns, each behind a space, before the line. They are written out, the last column first: in a loop each figure
-/// costs a jump by its column.
+/// Puts the figures of the columns, each behind a space, before the line: those behind the list, the list, which may lack, and those before it.
 fn put_numbers(line: &mut BackwardText<'_>, figures: &Figures)
     requires room { length line.old + 492 ≤ 2048 }
     ensures text { line.new ≡ numbers_text (read figures.now) ++ line.old }
     ensures short { length line.new ≤ length line.old + 492 }
 {
-    put_figure(line, figures, Column::Closing);
-    put_figure(line, figures, Column::Angle);
-    put_figure(line, figures, Column::Lever);
-    put_figure(line, figures, Column::Area30To40);
-    put_figure(line, figures, Column::AreaTo40);
-    put_figure(line, figures, Column::AreaTo30);
-    put_figure(line, figures, Column::List);
-    put_figure(line, figures, Column::Trim);
-    put_figure(line, figures, Column::Fwd);
-    put_figure(line, figures, Column::Aft);
-    put_figure(line, figures, Column::Mean);
-    put_figure(line, figures, Column::Gm);
-}
-
-/// Puts the shear force and the bending moment at a frame before the line, and before them a byte.
-fn put_frame(line: &mut BackwardText<'_>, figures: &Figures, i: usize, byte: u8)
-    requires frame { i < 16 }
-    requires ascii { byte < 128 }
-    requires room { length line.old + 82 ≤ 2048 }
-    ensures text { line.new ≡ (byte ∷ frame_text (read figures.now) i) ++ line.old }
-    ensures short { length line.new ≤ length line.old + 82 }
-{
-    line.put_parted(b'/', figures.strains.loads.bending[i]);
-    line.put_parted(byte, figures.strains.loads.shear[i]);
+    let behind = [
+        figures.area_30,
+        figures.area_40,
+        figures.area_30_40,
+        figures.lever,
+        figures.angle as i128,
+        figures.strains.closing,
+    ];
+    line.put_each(b' ', &behind);
+    put_list(line, figures.list);
+    let before = [
+        figures.gm,
+        figures.mean,
+        figures.aft,
+        figures.fwd,
+        figures.trim,
+    ];
+    line.put_each(b' ', &before);
 }
 
 /// Puts the shear forces and bending moments at so many frames, behind a space, before the line.
@@ -162,12 +133,8 @@ fn put_frames(line: &mut BackwardText<'_>, figures: &Figures, frames: usize)
     ensures text { line.new ≡ frames_text (read figures.now) frames ++ line.old }
     ensures short { length line.new ≤ length line.old + 1312 }
 {
-    let mut left = frames - 1;
-    while left > 0 {
-        put_frame(line, figures, left, b';');
-        left -= 1;
-    }
-    put_frame(line, figures, 0, b' ');
+    let loads = &figures.strains.loads;
+    line.put_pairs(b' ', b';', b'/', &loads.shear, &loads.bending, frames - 1);
 }
 
 /// Puts all figures of a line, each behind a space, before what follows them.

@@ -99,6 +99,40 @@ fn numbers_in_digits(rt: HostRuntime) {
     same(&rt, text.as_str(), "123 82 007 00");
 }
 
+/// More zeros than are written at once.
+#[test]
+fn a_number_in_nine_digits(rt: HostRuntime) {
+    let Ok(digits) = FourDigits::new(rt.alloc()) else {
+        panic!(&rt; "no memory")
+    };
+    let mut line = BackwardText::new(&digits);
+    line.put_in_digits(6_050, 9);
+    let Ok(text) = appended(rt.alloc(), &line) else {
+        panic!(&rt; "no memory")
+    };
+    same(&rt, text.as_str(), "000006050");
+}
+
+/// The last pair isn't asked for.
+#[test]
+fn numbers_in_a_row(rt: HostRuntime) {
+    let Ok(digits) = FourDigits::new(rt.alloc()) else {
+        panic!(&rt; "no memory")
+    };
+    let mut line = BackwardText::new(&digits);
+    line.put_byte(b'!');
+    line.put_pairs(b' ', b';', b'/', &[-7, 82_000, 5], &[600, -1, 3], 1);
+    line.put_each(b',', &[41, -30_000_000_000, 0, i128::MIN]);
+    let Ok(text) = appended(rt.alloc(), &line) else {
+        panic!(&rt; "no memory")
+    };
+    same(
+        &rt,
+        text.as_str(),
+        ",41,-30000000000,0,-170141183460469231731687303715884105728 -7/600;82000/-1!",
+    );
+}
+
 #[test]
 fn a_line_behind_another(rt: HostRuntime) {
     let Ok(digits) = FourDigits::new(rt.alloc()) else {

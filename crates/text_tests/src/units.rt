@@ -2,8 +2,8 @@ use crate::checks::{holds, holds_row, same, same_row};
 use std::alloc::{AllocError, Global};
 use units_core::{
     Angle, Body, Cell, Frac, Kg, Mm, Place, Step, at_least, at_most, conflicts, cosine, enclosing,
-    enclosing_near, floor, floor_near, gap, interp, interp_floor, is_rest, read, same_items,
-    same_rows, sine, span, upper_half,
+    enclosing_near, floor, floor_near, gap, interp, interp_floor, is_rest, read, reciprocal_near,
+    same_items, same_rows, sine, span, upper_half,
 };
 
 /// Masses in kg, and whether each is one of a container.
@@ -490,4 +490,11 @@ fn quotients_by_a_guess(rt: HostRuntime) {
     }
     // 7 * 2^63 over 2^64 is 3.5
     same(&rt, upper_half(1 << 63, 7), 3);
+}
+
+// 2^64 over 4 is 2^62, and over 10^9 it is 18,446,744,073.7; the last bits are open.
+#[test]
+fn reciprocals_of_divisors(rt: HostRuntime) {
+    same(&rt, reciprocal_near(4), 1 << 62);
+    same(&rt, reciprocal_near(1_000_000_000), 18_446_744_073);
 }

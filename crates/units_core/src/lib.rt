@@ -18,6 +18,6 @@ pub use cells::{Cell, conflicts, span};
 pub use equality::{Exact, same_items, same_rows};
 pub use fractions::{Frac, at_least, at_most, floor, interp, interp_floor};
 pub use measures::{Kg, Mm};
-pub use quotients::{floor_near, is_rest, upper_half};
+pub use quotients::{floor_near, is_rest, reciprocal_near, upper_half};
 pub use steps::Step;
 pub use tables::{enclosing, enclosing_near, gap, read};

@@ -2,11 +2,16 @@ ghost use Rattle.std.specs.Prelude.{◌≡◌, ◌*◌, ◌/◌, ◌^◌, ◌<�
 ghost use Rattle.units_core.specs.Ratio.{◌over◌, floor_of};
 
 use crate::fractions::{Frac, floor};
+use std::num::{nearest_i64_to_f64, saturating_f64_to_i64, saturating_f64_to_u64};
 
 /// The greatest divisor under which a guess is tested, and the greatest guess: so their product fits.
 const MOST_DIVISOR: i128 = 1 << 103;
 
 const MOST_GUESS: u64 = 1 << 23;
+
+/// The greatest guess and 2^-26. With it no quotient is negative, so that to leave out the fraction is to round down. The small part makes up for what
+/// a quotient without a rest may lose in floating point.
+const LIFT: f64 = 8_388_608.000_000_014_901_161_193_847_656_25;
 
 /// The upper half of the product of two numbers. Where one of them is about 2^64 over a divisor, this is about the quotient of the other.
 #[inline(always)]
@@ -29,7 +34,8 @@ pub fn is_rest(rest: i128, divisor: i128) -> bool
     rest < divisor
 }
 
-/// About the quotient of two numbers, by their leading 63 bits. It is right for nearly all; any number would do, since it is tested.
+/// About the quotient of two numbers, by their leading 53 bits, in floating point: a processor divides whole numbers of 64 bits in several times as long. It is
+/// right for nearly all; any number would do, since it is tested.
 #[inline(always)]
 pub fn guess(num: i128, den: i128) -> i64 {
     let shift = 65u32.saturating_sub(num.unsigned_abs().leading_zeros());
@@ -39,10 +45,15 @@ pub fn guess(num: i128, den: i128) -> i64 {
     let Ok(bottom) = i64::try_from(den >> shift) else {
         return 0;
     };
-    match top.checked_div_euclid(bottom) {
-        Some(quotient) => quotient,
-        None => 0,
-    }
+    let quotient = nearest_i64_to_f64(top) / nearest_i64_to_f64(bottom);
+    saturating_f64_to_i64(quotient + LIFT).wrapping_sub(1 << 23)
+}
+
+/// About 2^64 over a divisor, right to 50 bits or so. Quotients are guessed by it (see [`upper_half`]), so nothing is promised of it.
+#[inline(always)]
+pub fn reciprocal_near(divisor: i64) -> u64 {
+    // 2^64
+    saturating_f64_to_u64(18_446_744_073_709_551_616.0 / nearest_i64_to_f64(divisor))
 }
 
 /// What a fraction leaves over a guess; `None` where the numbers are so great that it might not fit.

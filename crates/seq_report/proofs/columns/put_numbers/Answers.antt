@@ -1,37 +1,37 @@
-use Rattle.std.proofs.Common.{List, [], ◌∷◌, ℕ, refl}
-use Rattle.criteria.specs.Judgement.{read}
-use Rattle.seq_report.specs.declared.columns.Column.{Column}
-use Rattle.seq_report.specs.declared.columns.Column.TheVariants as column
-use Rattle.seq_report.specs.Columns.{figure_of, number_text}
-use Rattle.seq_report.proofs.Words.{one_before}
+use Rattle.std.proofs.Common.{rules, ◌∙◌, List, [], ◌∷◌, ◌++◌, ℕ, ℤ, pos, FitsSigned, to_z-of_z, ap}
+use Rattle.std.specs.Int.{w128}
+use Rattle.std.specs.Fmt.{signed_decimal}
+use Rattle.decimal_text.specs.Numbers.{behind_each}
+use Rattle.seq_report.specs.Columns.{number_text}
+use Rattle.seq_report.proofs.Words.{around_one}
 use Rattle.seq_report.proofs.columns.put_numbers.Goals as goal
 
--- figure by figure, the last column first: behind-k are the last k columns, and put-k says that they stand at the end of the line
+-- the figures before the list, and those behind it
 pub returns-clause-text : goal.returns-clause-text
 returns-clause-text c =
-    let word : Column → List ℕ = λ x. number_text (figure_of (read c.args.figures.now) x) in
-    let end = c.args.line.now in
-    let behind-0 : List Column = [] in
-    let behind-1 : List Column = column.Closing ∷ behind-0 in
-    let behind-2 : List Column = column.Angle ∷ behind-1 in
-    let behind-3 : List Column = column.Lever ∷ behind-2 in
-    let behind-4 : List Column = column.Area30To40 ∷ behind-3 in
-    let behind-5 : List Column = column.AreaTo40 ∷ behind-4 in
-    let behind-6 : List Column = column.AreaTo30 ∷ behind-5 in
-    let behind-7 : List Column = column.List ∷ behind-6 in
-    let behind-8 : List Column = column.Trim ∷ behind-7 in
-    let behind-9 : List Column = column.Fwd ∷ behind-8 in
-    let behind-10 : List Column = column.Aft ∷ behind-9 in
-    let behind-11 : List Column = column.Mean ∷ behind-10 in
-    let put-1 = one_before word column.Closing behind-0 end c.put_figure.new.line end c.put_figure.ensures.text refl in
-    let put-2 = one_before word column.Angle behind-1 c.put_figure.new.line c.put_figure-2.new.line end c.put_figure-2.ensures.text put-1 in
-    let put-3 = one_before word column.Lever behind-2 c.put_figure-2.new.line c.put_figure-3.new.line end c.put_figure-3.ensures.text put-2 in
-    let put-4 = one_before word column.Area30To40 behind-3 c.put_figure-3.new.line c.put_figure-4.new.line end c.put_figure-4.ensures.text put-3 in
-    let put-5 = one_before word column.AreaTo40 behind-4 c.put_figure-4.new.line c.put_figure-5.new.line end c.put_figure-5.ensures.text put-4 in
-    let put-6 = one_before word column.AreaTo30 behind-5 c.put_figure-5.new.line c.put_figure-6.new.line end c.put_figure-6.ensures.text put-5 in
-    let put-7 = one_before word column.List behind-6 c.put_figure-6.new.line c.put_figure-7.new.line end c.put_figure-7.ensures.text put-6 in
-    let put-8 = one_before word column.Trim behind-7 c.put_figure-7.new.line c.put_figure-8.new.line end c.put_figure-8.ensures.text put-7 in
-    let put-9 = one_before word column.Fwd behind-8 c.put_figure-8.new.line c.put_figure-9.new.line end c.put_figure-9.ensures.text put-8 in
-    let put-10 = one_before word column.Aft behind-9 c.put_figure-9.new.line c.put_figure-10.new.line end c.put_figure-10.ensures.text put-9 in
-    let put-11 = one_before word column.Mean behind-10 c.put_figure-10.new.line c.put_figure-11.new.line end c.put_figure-11.ensures.text put-10 in
-    one_before word column.Gm behind-11 c.put_figure-11.new.line c.put_figure-12.new.line end c.put_figure-12.ensures.text put-11
+    let f = c.args.figures.now in
+    let line = c.args.line.now in
+    let angle = pos f.angle in
+    let closing = f.strains.closing in
+    let gm-fits : FitsSigned w128 f.gm = search rules in
+    let mean-fits : FitsSigned w128 f.mean = search rules in
+    let aft-fits : FitsSigned w128 f.aft = search rules in
+    let fwd-fits : FitsSigned w128 f.fwd = search rules in
+    let trim-fits : FitsSigned w128 f.trim = search rules in
+    let area_30-fits : FitsSigned w128 f.area_30 = search rules in
+    let area_40-fits : FitsSigned w128 f.area_40 = search rules in
+    let area_30_40-fits : FitsSigned w128 f.area_30_40 = search rules in
+    let lever-fits : FitsSigned w128 f.lever = search rules in
+    let angle-fits : FitsSigned w128 angle = search rules in
+    let closing-fits : FitsSigned w128 closing = search rules in
+    let front : List (List ℕ) = signed_decimal f.gm ∷ signed_decimal f.mean ∷ signed_decimal f.aft ∷ signed_decimal f.fwd ∷ signed_decimal f.trim ∷ [] in
+    let back : List (List ℕ) =
+    signed_decimal f.area_30 ∷ signed_decimal f.area_40 ∷ signed_decimal f.area_30_40 ∷ signed_decimal f.lever ∷ signed_decimal angle
+    ∷ signed_decimal closing ∷ [] in
+    let put-back = c.put_each.ensures.text
+    ∙ (λ j. behind_each 32 (to_z-of_z area_30-fits j ∷ to_z-of_z area_40-fits j ∷ to_z-of_z area_30_40-fits j ∷ to_z-of_z lever-fits j
+    ∷ to_z-of_z angle-fits j ∷ to_z-of_z closing-fits j ∷ []) ++ line) in
+    let put-front = c.put_each-2.ensures.text
+    ∙ (λ j. behind_each 32 (to_z-of_z gm-fits j ∷ to_z-of_z mean-fits j ∷ to_z-of_z aft-fits j ∷ to_z-of_z fwd-fits j
+    ∷ to_z-of_z trim-fits j ∷ []) ++ c.put_list.new.line) in
+    around_one front (number_text f.list) back line c.put_each.new.self c.put_list.new.line c.put_each-2.new.self put-back c.put_list.ensures.text put-front

@@ -1,7 +1,7 @@
 use Rattle.std.proofs.Common.{◌+◌, ◌-◌, ◌≡◌, ◌++◌, drop, ◌∙◌, ap, arith}
 use Rattle.decimal_text.proofs.QuadLemmas.{after_zeros, text_behind}
 use Rattle.decimal_text.specs.Quads.{quad}
-use Rattle.decimal_text.proofs.four_digits.FourDigits.write_short.Goals as goal
+use Rattle.decimal_text.proofs.digit_writer.DigitWriter.write_short.Goals as goal
 
 pub returns-clause-written : goal.returns-clause-written
 returns-clause-written c =

@@ -1,6 +1,6 @@
 use Rattle.std.proofs.Common.{◌≡◌, ◌+◌, ◌-◌, ◌%◌, ◌≤◌, ◌++◌, length, drop}
 use Rattle.std.specs.Fmt.{decimal}
-use Rattle.decimal_text.proofs.four_digits.FourDigits.write.Given as goal
+use Rattle.decimal_text.proofs.digit_writer.DigitWriter.write.Given as goal
 
 abbrev pub invariant-loop-left : goal.invariant-loop-left
 invariant-loop-left l = record {

@@ -1,9 +1,10 @@
 use Rattle.std.proofs.Common.{◌≡◌, ◌+◌, ◌-◌, ◌/◌, ◌%◌, ◌≤◌, ◌++◌, drop, ap, ◌∙◌, arith}
+use Rattle.std.proofs.lemmas.Fmt.{length-decimal-le}
 use Rattle.std.specs.Fmt.{decimal}
 use Rattle.itoa.proofs.Decimal.{length_four}
 use Rattle.decimal_text.proofs.QuadLemmas.{four_more, room_left}
 use Rattle.decimal_text.specs.Quads.{quad}
-use Rattle.decimal_text.proofs.four_digits.FourDigits.write.Goals as goal
+use Rattle.decimal_text.proofs.digit_writer.DigitWriter.write.Goals as goal
 
 pub loop-left-preserved : goal.loop-left-preserved
 loop-left-preserved c =
@@ -36,3 +37,8 @@ write_short-requires-clause-room c =
     let l = c.loop-left in
     let i = l.invariant in
     room_left c.args.n l.left l.at c.args.end c.ranges.n.fits l.auto.left-fits.fits c.requires.room i.below i.whole i.digits
+
+pub returns-clause-short : goal.returns-clause-short
+returns-clause-short c =
+    let most = length-decimal-le 20 c.args.n (omega arith) (omega arith) c.ranges.n.fits in
+    omega (arith, most)

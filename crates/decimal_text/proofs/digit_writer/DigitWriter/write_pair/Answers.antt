@@ -1,0 +1,15 @@
+use Rattle.std.proofs.Common.{rules, ◌∙◌, ◌∷◌, ◌++◌, List, ℕ, FitsSigned, to_z-of_z, ap, sym, append_assoc, drop}
+use Rattle.std.specs.Int.{w128}
+use Rattle.std.specs.Fmt.{signed_decimal}
+use Rattle.decimal_text.proofs.digit_writer.DigitWriter.write_pair.Goals as goal
+
+pub returns-clause-written : goal.returns-clause-written
+returns-clause-written c =
+    let first-fits : FitsSigned w128 c.args.first = search rules in
+    let second-fits : FitsSigned w128 c.args.second = search rules in
+    let first = c.args.byte ∷ signed_decimal c.args.first in
+    let second = c.args.between ∷ signed_decimal c.args.second in
+    let rest = drop c.args.end c.args.bytes.now in
+    c.write_whole.ensures.written ∙ ap (λ z. (c.args.byte ∷ signed_decimal z) ++ drop c.write_whole-start.result c.write_whole-start.new.bytes) (to_z-of_z first-fits)
+    ∙ ap (λ (t : List ℕ). first ++ t) (c.write_whole-start.ensures.written ∙ ap (λ z. (c.args.between ∷ signed_decimal z) ++ rest) (to_z-of_z second-fits))
+    ∙ sym (append_assoc first second rest)
