@@ -1,8 +1,7 @@
 use Rattle.std.proofs.Common.{◌≡◌, ◌∙◌, ◌≤◌, length, ap, arith}
 use Rattle.moment_sums.specs.Kept.{size_of, values}
-use Rattle.moment_sums.specs.KeptLaws.{kept_laws}
 use Rattle.moment_sums.specs.Sum.{of_body, sum_of}
-use Rattle.moment_sums.proofs.Bounds.{values_both, values_nothing}
+use Rattle.moment_sums.proofs.Bounds.{values_nothing}
 use Rattle.seq_report.proofs.Totals.{body_more, take_past}
 use Rattle.seq_report.proofs.chunks.arrival_total.Goals as goal
 

@@ -1,7 +1,7 @@
 use Rattle.std.proofs.Common.{◌≡◌, ◌∙◌, ◌+◌, ◌-◌, ◌≤◌, Option, None, Some, length, slice_get, ap, sym, arith}
 use Rattle.prefix_scan.specs.Laws.{most_parts}
 use Rattle.units_core.specs.declared.steps.Step.{Step}
-use Rattle.moment_sums.specs.Kept.{bodies_of, both_kept, kept_of, none_kept, size_of}
+use Rattle.moment_sums.specs.Kept.{bodies_of, both_kept, kept_of, size_of}
 use Rattle.moment_sums.specs.KeptLaws.{kept_laws}
 use Rattle.moment_sums.specs.Sum.{changed_by}
 use Rattle.seq_report.specs.Chunks.{bodies_in, changed_in}

@@ -1,5 +1,4 @@
-use Rattle.std.proofs.Common.{rules, ◌≡◌, ◌∙◌, ◌++◌, ◌+◌, ◌≤◌, suc, [], length, take, drop, ap, sym, subst, arith}
-use Rattle.std.specs.Io.KnownBytes.{Appends}
+use Rattle.std.proofs.Common.{◌∙◌, ◌++◌, ◌≤◌, length, drop, ap, arith}
 use Rattle.seq_report.specs.Chunks.{text_in}
 use Rattle.seq_report.proofs.PartLemmas.{behind_part, last_part, next_section, part_begun, part_put, whole_length}
 use Rattle.seq_report.proofs.complete.put_parts.Goals as goal

@@ -1,4 +1,4 @@
-use Rattle.std.proofs.Common.{◌≡◌, ◌∙◌, ◌-◌, ℕ, suc, length, map, ap, arith}
+use Rattle.std.proofs.Common.{◌≡◌, ◌∙◌, ◌-◌, suc, length, map, ap, arith}
 use Rattle.std.specs.List.{range_with_len}
 use Rattle.seq_report.specs.Cases.{line_in, seen}
 use Rattle.seq_report.specs.Report.{first_of}
