@@ -190,11 +190,20 @@ impl<'a> BackwardText<'a> {
         );
     }
 
+    /// The text.
+    pub fn as_bytes(&self) -> &[u8]
+        ensures value { result.now ≡ self.now }
+        ensures short { length result.now ≤ ROOM }
+        ensures ascii { IsAscii result.now }
+    {
+        &self.bytes[self.start..]
+    }
+
     /// Appends the text to another in one piece.
     pub fn append_to(&self, text: &mut String) -> Result<(), AllocError>
         ensures { string_bytes text.new
             ≡ (if is_ok result then string_bytes text.old ++ self.now else string_bytes text.old) }
     {
-        text.push_str(unsafe { std::str::from_utf8_unchecked(&self.bytes[self.start..]) })
+        text.push_str(unsafe { std::str::from_utf8_unchecked(self.as_bytes()) })
     }
 }

@@ -3,6 +3,7 @@ pub mod ChunkLemmas
 pub mod FirstLemmas
 pub mod OffsetLemmas
 pub mod PartLemmas
+pub mod PieceLemmas
 pub mod PlanLemmas
 pub mod RunLemmas
 pub mod SumLemmas

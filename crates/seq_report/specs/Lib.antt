@@ -3,6 +3,8 @@ pub mod Chunks
 pub mod Columns
 pub mod Firsts
 pub mod Lifts
+pub mod Pieces
 pub mod Plans
+pub mod Readings
 pub mod Refusal
 pub mod Report

@@ -4,10 +4,13 @@ ghost use Rattle.lift_sequence.specs.Arrival.{cargo_on};
 ghost use Rattle.run_inputs.specs.Readings.{AreMovesRead, HasArrived, IsMade, IsPlanRead, IsRead};
 ghost use Rattle.seq_report.specs.Cases.{AreArrived, IsReady, IsToldBy, outcome_in, seen};
 ghost use Rattle.run_inputs.specs.Inputs.{arrival_in, orders_in, ship_in};
+ghost use Rattle.ship_profile.specs.Record.{texts_of};
+ghost use Rattle.seq_report.specs.Readings.{IsShipRead};
 ghost use Rattle.run_inputs.specs.Refusals.{TellsMemory, is_cut, is_write};
 ghost use Rattle.seq_report.specs.Refusal.{outcome_of, outcome_with};
 ghost use Rattle.seq_report.specs.Report.{lift_to};
 
+use crate::readings::read_in_two;
 use claim_run::Workers;
 use lift_sequence::{Arrival, Op, Sequence};
 use run_inputs::{
@@ -16,7 +19,7 @@ use run_inputs::{
 };
 use ship_profile::Profile;
 use std::alloc::Global;
-use std::thread::{Threads, join};
+use std::thread::Threads;
 use stow_messages::{Item, Lift};
 
 /// A ship, what is aboard of her on arrival, and the steps from there, each of which can be done.
@@ -177,13 +180,15 @@ fn case_by(
     }
 }
 
-/// The case that the inputs tell of, or the first refusal, both messages as they were read.
+/// The case that the inputs tell of, or the first refusal, the profile and both messages as they were read.
 fn case_read(
     alloc: Global,
     inputs: &Inputs<'_>,
+    profile: Result<Profile, RunFault>,
     plan: Result<Vec<Item>, RunFault>,
     moves: Result<Vec<Lift>, RunFault>,
 ) -> Result<Case, RunFault>
+    requires ship { IsShipRead profile (texts_of inputs.now.profile) }
     requires plan { IsPlanRead plan inputs.now.baplie.now }
     requires moves { AreMovesRead moves inputs.now.movins.now }
     ensures ok { IfOk result (λ case. outcome_of inputs.now ≡ Ok (outcome_in case)) }
@@ -196,7 +201,6 @@ fn case_read(
     ensures silent { is_write result ≡ false }
     ensures uncut { is_cut result ≡ false }
 {
-    let profile = ship(alloc, inputs);
     let arrived = arrived_by(alloc, inputs, profile, plan);
     let orders = orders_by(alloc, inputs, moves);
     case_by(alloc, inputs, arrived, orders)
@@ -216,32 +220,11 @@ pub fn case_of(alloc: Global, inputs: &Inputs<'_>) -> Result<Case, RunFault>
 {
     let plan = items(alloc, inputs.baplie);
     let moves = lifts(alloc, inputs.movins);
-    case_read(alloc, inputs, plan, moves)
+    let profile = ship(alloc, inputs);
+    case_read(alloc, inputs, profile, plan, moves)
 }
 
-/// Both messages, each read in a thread of its own. They don't depend on one another. The closures take plain slices, since nothing is known of what
-/// one answers that takes a value with a lifetime in its type.
-fn messages_in_two<R: Threads>(
-    rt: &R,
-    alloc: Global,
-    plan: &[u8],
-    moves: &[u8],
-) -> (Result<Vec<Item>, RunFault>, Result<Vec<Lift>, RunFault>)
-    ensures plan { IsPlanRead result.0 plan.now }
-    ensures moves { AreMovesRead result.1 moves.now }
-{
-    join(
-        rt,
-        move || -> Result<Vec<Item>, RunFault>
-            ensures { IsPlanRead result plan.entry.now }
-        { items(alloc, plan) },
-        move || -> Result<Vec<Lift>, RunFault>
-            ensures { AreMovesRead result moves.entry.now }
-        { lifts(alloc, moves) },
-    )
-}
-
-/// The same case, the messages read in two threads where there are two workers: of several refusals the first in the order of the inputs is told
+/// The same case, the inputs read in two threads where there are two workers: of several refusals the first in the order of the inputs is told
 /// all the same.
 pub fn case_in<R: Threads>(
     rt: &R,
@@ -262,6 +245,6 @@ pub fn case_in<R: Threads>(
     if workers.get() == 1 {
         return case_of(alloc, inputs);
     }
-    let (plan, moves) = messages_in_two(rt, alloc, inputs.baplie, inputs.movins);
-    case_read(alloc, inputs, plan, moves)
+    let ((profile, plan), moves) = read_in_two(rt, alloc, inputs);
+    case_read(alloc, inputs, profile, plan, moves)
 }

@@ -5,7 +5,7 @@ ghost use Rattle.seq_report.specs.Report.{header_of, last_line};
 
 use crate::lines::{write_header, write_last_line};
 use crate::sections::Section;
-use crate::sink::{Sink, put_all};
+use crate::sink::{Sink, put_part};
 use criteria::Criterion;
 use std::alloc::{AllocError, Global};
 use std::marker::Model;
@@ -73,23 +73,6 @@ fn is_countable(heading: usize, sections: &[Section], last: usize) -> bool
         return false;
     };
     heading.checked_add(rest).is_some()
-}
-
-/// Puts a part of a text behind the `before` bytes of it that are put already, and says how many these are then; or, where the sink fails, how
-/// many it took.
-fn put_part<S: Sink>(sink: &mut S, before: usize, part: &[u8]) -> Result<usize, usize>
-    requires sound { S.has_failed sink.old ≡ false }
-    requires room { before + length part.now ≤ 18446744073709551615 }
-    ensures ok { IfOk result (λ put. put ≡ before + length part.now) }
-    ensures all { IfOk result (λ put. Appends (S.contents sink.old) (S.contents sink.new) part.now) }
-    ensures err { IfErr result (λ put. (m : ℕ) × (put ≡ before + m) × (m < length part.now)
-        × Appends (S.contents sink.old) (S.contents sink.new) (take m part.now)) }
-    ensures failed { S.has_failed sink.new ≡ is_err result }
-{
-    match put_all(sink, part) {
-        Ok(()) => Ok(before + part.len()),
-        Err(taken) => Err(before + taken),
-    }
 }
 
 /// Puts a heading, the texts of sections in their order and a last line, or says how many bytes of all these the sink took before it failed.

@@ -2,6 +2,7 @@
 //! line to a sink, with the first step that fails and every refusal in a fixed order.
 #![tactic(auto)]
 
+mod alone;
 mod cases;
 mod causes;
 mod chunks;
@@ -11,8 +12,10 @@ mod failures;
 mod jobs;
 mod lifts;
 mod lines;
+mod pieces;
 mod plans;
 mod prepared;
+mod readings;
 mod runs;
 mod sections;
 mod sink;

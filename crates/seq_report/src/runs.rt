@@ -9,6 +9,7 @@ ghost use Rattle.seq_report.specs.Plans.{Fits, IsPlanFault};
 ghost use Rattle.run_inputs.specs.Refusals.{IsOfRun, TellsMemory, is_refusal, is_write, is_write_fault};
 ghost use Rattle.seq_report.specs.Refusal.{Outcome, outcome_of};
 
+use crate::alone::report_alone;
 use crate::cases::CaseView;
 use crate::complete::{CompleteReport, Summary};
 use crate::jobs::{Lines, Texts};
@@ -102,6 +103,9 @@ fn report_ready<'a, G: Gate, R: Threads + Wait + Sync, S: Sink>(
         cuts,
         sums,
     };
+    if workers.get() == 1 {
+        return report_alone(alloc, &lines, sink);
+    }
     match report_in_chunks(rt, alloc, gate, workers, &lines) {
         Ok(made) => put_report(&made, sink),
         Err(AllocError) => Err(RunFault::NoMemory),

@@ -1,4 +1,4 @@
-ghost use Rattle.std.specs.Prelude.{◌≡◌, ℕ, ◌<◌, ◌≤◌, length, take, List, Bool, Option, true, false, IfOk, IfErr, OnOk, is_err};
+ghost use Rattle.std.specs.Prelude.{◌≡◌, ℕ, ◌+◌, ◌<◌, ◌≤◌, length, take, List, Bool, Option, true, false, IfOk, IfErr, OnOk, is_err};
 ghost use Rattle.std.specs.Io.KnownBytes.{Appends, WriteAppends};
 
 use std::io::Write;
@@ -86,4 +86,21 @@ pub fn put_all<S: Sink>(sink: &mut S, bytes: &[u8]) -> Result<(), usize>
         }
     }
     Ok(())
+}
+
+/// Puts a part of a text behind the `before` bytes of it that are put already, and says how many these are then; or, where the sink fails, how
+/// many it took.
+pub fn put_part<S: Sink>(sink: &mut S, before: usize, part: &[u8]) -> Result<usize, usize>
+    requires sound { S.has_failed sink.old ≡ false }
+    requires room { before + length part.now ≤ 18446744073709551615 }
+    ensures ok { IfOk result (λ put. put ≡ before + length part.now) }
+    ensures all { IfOk result (λ put. Appends (S.contents sink.old) (S.contents sink.new) part.now) }
+    ensures err { IfErr result (λ put. (m : ℕ) × (put ≡ before + m) × (m < length part.now)
+        × Appends (S.contents sink.old) (S.contents sink.new) (take m part.now)) }
+    ensures failed { S.has_failed sink.new ≡ is_err result }
+{
+    match put_all(sink, part) {
+        Ok(()) => Ok(before + part.len()),
+        Err(taken) => Err(before + taken),
+    }
 }

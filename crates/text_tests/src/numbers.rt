@@ -97,6 +97,7 @@ fn numbers_in_digits(rt: HostRuntime) {
         panic!(&rt; "no memory")
     };
     same(&rt, text.as_str(), "123 82 007 00");
+    same(&rt, line.as_bytes(), b"123 82 007 00".as_slice());
 }
 
 /// More zeros than are written at once.
