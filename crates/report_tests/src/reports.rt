@@ -12,6 +12,7 @@ use std::thread::Threads;
 
 mod cuts;
 mod faults;
+mod readings;
 mod sinks;
 
 /// The inputs of a run of the box ship with nothing aboard.

@@ -7,7 +7,7 @@ use std::alloc::{AllocError, Global};
 use std::marker::Model;
 
 /// How many bytes a sink is given at once: each piece costs a call of the system.
-pub const PIECE: usize = 16_384;
+pub const PIECE: usize = 65_536;
 
 /// A text that is put in pieces: how many bytes of it are put, and those that wait until they fill a piece. Once it is there it asks for no memory.
 #[derive(Drop)]
@@ -26,7 +26,7 @@ impl Model for Pieces {
 
     ghost view = { λ p. record { put = p.put; waiting = take p.filled p.bytes.items } };
 
-    ghost invariant = { λ p. (length p.bytes.items ≡ 16384) × (p.filled ≤ 16384) };
+    ghost invariant = { λ p. (length p.bytes.items ≡ 65536) × (p.filled ≤ 65536) };
 }
 
 impl Pieces {

@@ -129,20 +129,20 @@ fn sink_over_a_writer(rt: HostRuntime) {
     same(&rt, taken.as_slice(), b"abcde".as_slice());
 }
 
-/// A container of 20,500 kg goes aboard to starboard and ashore again, 150 times.
+/// A container of 20,500 kg goes aboard to starboard and ashore again, 400 times.
 fn there_and_back(alloc: Global) -> Result<String, AllocError> {
     let mut text = String::new(alloc);
     text.push_str("UNB+UNOA:2+PLAN+SHIP+250101:1200+8'UNH+1+MOVINS:D:95B:UN'")?;
-    for _ in 0..150 {
+    for _ in 0..400 {
         text.push_str("HAN+LOA'LOC+147+0030782::5'MEA+WT++KGM:20500'EQD+CN+ABCU1234560'")?;
         text.push_str("HAN+DIS'LOC+147+0030782'EQD+CN+ABCU1234560'")?;
     }
     // Seven segments each time, and the first and the last of the message.
-    text.push_str("UNT+1052+1'UNZ+1+8'")?;
+    text.push_str("UNT+2802+1'UNZ+1+8'")?;
     Ok(text)
 }
 
-/// The report on it: the lines of one such lift and of the empty ship again and again, 34 KB in all.
+/// The report on it: the lines of one such lift and of the empty ship again and again, 92 KB in all.
 fn report_on_them(alloc: Global) -> Result<String, AllocError> {
     let mut text = String::new(alloc);
     text.push_str(
@@ -151,7 +151,7 @@ fn report_on_them(alloc: Global) -> Result<String, AllocError> {
     text.push_str(
         "0 - 8200000 4333 4000 4000 4000 0 0 31509 50888 19379 1958 35 0 0/0;0/0;0/0;0/0;0/0 PASS\n",
     )?;
-    for k in 0..150u32 {
+    for k in 0..400u32 {
         let (aboard, ashore) = (2 * k + 1, 2 * k + 2);
         writeln!(
             text,
@@ -175,10 +175,10 @@ fn report_in_pieces(rt: HostRuntime) -> Result<(), Fail> {
         for left in [
             0,
             82,
-            16_300,
-            16_384,
-            20_000,
-            32_768,
+            65_400,
+            65_536,
+            70_000,
+            80_000,
             whole.len().saturating_sub(1),
             whole.len(),
         ] {
@@ -195,7 +195,7 @@ fn report_in_pieces(rt: HostRuntime) -> Result<(), Fail> {
                 Err(RunFault::Write(left))
             } else {
                 Ok(Summary {
-                    lines: 301,
+                    lines: 801,
                     first: None,
                 })
             };
