@@ -2,10 +2,11 @@
 use Rattle.std.specs.Prelude.{◌≡◌, ℕ, Bool, true, false, List, Option, None, Some, Vec, Result, Ok, Err}
 use Rattle.std.specs.declared.alloc.Global.{Global}
 use Rattle.stow_messages.specs.declared.items.Item.{Item}
+use Rattle.stow_messages.specs.declared.lifts.Lift.{Lift}
 use Rattle.ship_profile.specs.Record.{ProfileRecord, Texts, record_of}
 use Rattle.run_inputs.specs.declared.faults.RunFault.{RunFault}
 use Rattle.run_inputs.specs.declared.faults.RunFault.TheVariants.{Profile}
-use Rattle.run_inputs.specs.Readings.{IsPlanRead, IsRead}
+use Rattle.run_inputs.specs.Readings.{AreMovesRead, IsPlanRead, IsRead}
 use Rattle.run_inputs.specs.Refusals.{refused_as}
 
 -- a text where there is one
@@ -27,3 +28,7 @@ IsShipRead profile texts = IsRead profile (λ p. refused_as Profile (record_of t
 -- a profile and a bay plan
 abbrev pub AreBothRead : Result ProfileRecord RunFault × Result (Vec Item Global) RunFault → Texts → List ℕ → Type 0
 AreBothRead both texts plan = IsShipRead both.0 texts × IsPlanRead both.1 plan
+
+-- both messages
+abbrev pub AreMessagesRead : Result (Vec Item Global) RunFault × Result (Vec Lift Global) RunFault → List ℕ → List ℕ → Type 0
+AreMessagesRead both plan moves = IsPlanRead both.0 plan × AreMovesRead both.1 moves

@@ -10,7 +10,7 @@ ghost use Rattle.run_inputs.specs.Refusals.{TellsMemory, is_cut, is_write};
 ghost use Rattle.seq_report.specs.Refusal.{outcome_of, outcome_with};
 ghost use Rattle.seq_report.specs.Report.{lift_to};
 
-use crate::readings::read_in_two;
+use crate::readings::{read_in_three, read_in_two};
 use claim_run::Workers;
 use lift_sequence::{Arrival, Op, Sequence};
 use run_inputs::{
@@ -224,7 +224,7 @@ pub fn case_of(alloc: Global, inputs: &Inputs<'_>) -> Result<Case, RunFault>
     case_read(alloc, inputs, profile, plan, moves)
 }
 
-/// The same case, the inputs read in two threads where there are two workers: of several refusals the first in the order of the inputs is told
+/// The same case, the inputs read in as many threads as there are workers, three at most: of several refusals the first in the order of the inputs is told
 /// all the same.
 pub fn case_in<R: Threads>(
     rt: &R,
@@ -242,9 +242,10 @@ pub fn case_in<R: Threads>(
     ensures silent { is_write result ≡ false }
     ensures uncut { is_cut result ≡ false }
 {
-    if workers.get() == 1 {
-        return case_of(alloc, inputs);
-    }
-    let ((profile, plan), moves) = read_in_two(rt, alloc, inputs);
+    let (profile, plan, moves) = match workers.get() {
+        1 => return case_of(alloc, inputs),
+        2 => read_in_two(rt, alloc, inputs),
+        _ => read_in_three(rt, alloc, inputs),
+    };
     case_read(alloc, inputs, profile, plan, moves)
 }
