@@ -57,11 +57,14 @@ impl World {
     {
         let room = begins.len() + usize::from(workers) + 1;
         let workers = idle_workers(alloc, workers, room)?;
-        let begins = begins.iter().copied().collect(alloc)?;
-        let found = found.iter().copied().collect(alloc)?;
+        // not by `collect`, which asks again for less where its first growth is refused
+        let mut firsts = Vec::new(alloc);
+        firsts.extend_from_slice(begins)?;
+        let mut finds = Vec::new(alloc);
+        finds.extend_from_slice(found)?;
         Ok(World {
-            begins,
-            found,
+            begins: firsts,
+            found: finds,
             next: 0,
             least: None,
             workers,

@@ -1,4 +1,4 @@
-ghost use Rattle.std.specs.Prelude.{◌≡◌, ℕ, ◌+◌, ◌-◌, ◌++◌, ◌<◌, ◌≤◌, [], ◌∷◌, IfOk, IfSome, None};
+ghost use Rattle.std.specs.Prelude.{◌≡◌, ℕ, ◌+◌, ◌-◌, ◌++◌, ◌<◌, ◌≤◌, [], ◌∷◌, IfOk, IfSome, None, OnErr, OnOk};
 ghost use Rattle.claim_board.specs.Entries.{numbers, posts};
 ghost use Rattle.claim_board.specs.Claims.{IsFair, IsLeastPosted};
 ghost use Rattle.claim_run.specs.Hands.{TookTurn, DrewLate, LooksBack};
@@ -29,19 +29,21 @@ impl<'a, S: Scout> Board<'a, S> {
         Ok((Board { inner, scout }, hand))
     }
 
-    /// A new hand for one of the workers of a hand, which keeps the others and its entries. It takes no memory.
-    pub fn split(&self, hand: &mut Hand) -> Hand
+    /// A new hand for one of the workers of a hand, which keeps the others and its entries. It takes no memory today; a caller is ready for a
+    /// board that does, and then the hand is as it was.
+    pub fn split(&self, hand: &mut Hand) -> Result<Hand, AllocError>
         requires hand { IsHandOf S.begins S.finds S.pieces self.now hand.old }
         requires workers { 2 ≤ workers_of hand.old }
         requires may { MayTurn self.now hand.old }
         ensures hand { IsHandOf S.begins S.finds S.pieces self.now hand.new }
-        ensures same { (entries_of hand.new ≡ entries_of hand.old)
-            × (workers_of hand.new ≡ workers_of hand.old - 1) }
-        ensures given { IsHandOf S.begins S.finds S.pieces self.now result
-            × MayTurn self.now result }
-        ensures empty { (entries_of result ≡ []) × (workers_of result ≡ 1) }
+        ensures same { entries_of hand.new ≡ entries_of hand.old }
+        ensures gave { OnOk result (workers_of hand.new ≡ workers_of hand.old - 1) }
+        ensures refused { OnErr result (workers_of hand.new ≡ workers_of hand.old) }
+        ensures given { IfOk result (λ given. IsHandOf S.begins S.finds S.pieces self.now given
+            × MayTurn self.now given) }
+        ensures empty { IfOk result (λ given. (entries_of given ≡ []) × (workers_of given ≡ 1)) }
     {
-        self.inner.split(hand)
+        Ok(self.inner.split(hand))
     }
 
     /// One chunk from its draw to its end: `Some` of its number, with one entry more in the hand, which is skipped where its look was a step before

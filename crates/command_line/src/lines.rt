@@ -56,8 +56,7 @@ pub enum LineFault {
 }
 
 /// The usage text where the first word is no command.
-const USAGE: &str =
-    "usage: loadseq check|first FOLDER BAPLIE MOVINS [--steps FILE] [--workers N] [--chunk N]\n       loadseq whatif FOLDER BAPLIE MOVINS EDITS [--steps FILE] [--workers N] [--chunk N]";
+const USAGE: &str = "usage: loadseq check|first|whatif";
 
 /// What help says of the commands, of each of their words, and of their options.
 const ABOUT_CHECK: &str =

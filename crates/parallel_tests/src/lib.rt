@@ -6,7 +6,10 @@
 mod boards;
 #[cfg(test)]
 mod checks;
+mod chunks;
 #[cfg(test)]
 mod runs;
 #[cfg(test)]
 mod scans;
+
+pub use chunks::{ThreeChunks, three_chunks};

@@ -25,7 +25,10 @@ fn row_above<M: Monoid + Drop>(alloc: Global, row: &[M]) -> Result<Vec<M>, Alloc
 pub fn copied<M: Monoid + Drop>(alloc: Global, values: &[M]) -> Result<Vec<M>, AllocError>
     ensures { IfOk result (λ v. v.items ≡ values.now) }
 {
-    values.iter().copied().collect(alloc)
+    // not by `collect`, which asks again for less where its first growth is refused
+    let mut copy = Vec::new(alloc);
+    copy.extend_from_slice(values)?;
+    Ok(copy)
 }
 
 /// All rows over a list, the list itself first. None for the empty list. The joins aren't counted.

@@ -46,6 +46,8 @@ enum Content {
     Bytes(&'static [u8]),
     /// Opens, and fails when it is read.
     Broken,
+    /// Gives this many spaces, and fails then.
+    Torn(usize),
     /// Gives this many spaces.
     Spaces(usize),
     /// Spaces without an end.
@@ -91,7 +93,8 @@ impl Opened {
             Content::Bytes(bytes) => bytes_left(bytes, self.read, buffer),
             Content::Spaces(all) => Ok(spaces(buffer, all.saturating_sub(self.read))),
             Content::Endless => Ok(spaces(buffer, usize::MAX)),
-            Content::Broken | Content::Closed(_) => {
+            Content::Torn(all) if self.read < all => Ok(spaces(buffer, all - self.read)),
+            Content::Broken | Content::Torn(_) | Content::Closed(_) => {
                 Err(io::Error::from(ErrorKind::PermissionDenied))
             }
         }
@@ -256,8 +259,7 @@ fn refusals(rt: HostRuntime) {
 #[test]
 fn words(rt: HostRuntime) {
     let files = with("box/ship.toml", Content::Bytes(SHIP));
-    let usage =
-        "usage: loadseq check|first FOLDER BAPLIE MOVINS [--steps FILE] [--workers N] [--chunk N]\n       loadseq whatif FOLDER BAPLIE MOVINS EDITS [--steps FILE] [--workers N] [--chunk N]\n";
+    let usage = "usage: loadseq check|first|whatif\n";
     check(&rt, &files, &[], 3, "", usage);
     check(&rt, &files, &["report"], 3, "", usage);
     check(&rt, &files, &["--help"], 3, "", usage);
@@ -299,11 +301,19 @@ static FILES: [(&str, &str); 9] = [
     ("moves.edi", "read fault moves.edi\n"),
 ];
 
+/// Files that fail: when they are opened, at their first byte, behind some bytes, and behind more than one read takes.
+const FAILING: [Content; 4] = [
+    Content::Closed(Unopened::Failed),
+    Content::Broken,
+    Content::Torn(7),
+    Content::Torn(100_000),
+];
+
 // The files are read in their order before anything is checked; the first that isn't read ends the run.
 #[test]
 fn unread_files(rt: HostRuntime) {
     for (name, line) in &FILES {
-        for content in [Content::Broken, Content::Closed(Unopened::Failed)] {
+        for content in FAILING {
             check(&rt, &with(name, content), &WORDS, 5, "", line);
         }
         check(
@@ -354,6 +364,10 @@ fn steps_file(rt: HostRuntime) {
         "",
         "read fault steps.csv\n",
     );
+    for content in FAILING {
+        let files = with("steps.csv", content);
+        check(&rt, &files, &WITH_STEPS, 5, "", "read fault steps.csv\n");
+    }
     let steps = Content::Bytes(b"kind,a,b,c\nlift,1,,\n");
     check(
         &rt,
@@ -376,19 +390,31 @@ fn steps_file(rt: HostRuntime) {
 /// The words of a run with a file of edits.
 const WITH_EDITS: [&str; 5] = ["whatif", "box", "plan.edi", "moves.edi", "edits.txt"];
 
-// A tank is filled and emptied again, and no other edit can be made: there is no step, a filling has no weight, and the cell is empty.
+// A file of edits that fails is told as every other file is.
+#[test]
+fn unread_edits(rt: HostRuntime) {
+    for content in FAILING {
+        let files = with("edits.txt", content);
+        check(&rt, &files, &WITH_EDITS, 5, "", "read fault edits.txt\n");
+    }
+}
+
+/// A tank is filled and emptied again, and no other edit can be made: there is no step, a filling has no weight, and the cell is empty.
+const EDITS: &[u8] =
+    b"insert 1 T DB1 500\nreweigh 1 7\nundo\nundo\nremove 1\ninsert 1 D 0010082 -\n";
+
+/// What is written of that.
+const TRIED: &str =
+    "EDIT 1 OK\nEDIT 2 X2\nEDIT 3 OK\nEDIT 4 NONE\nEDIT 5 X1\nEDIT 6 X3\nSTEP LIFT KG GM MEAN AFT FWD TRIM LIST A30 A40 A3040 GZ ANGLE CLOSE FRAMES VERDICT\n0 - 8200000 4333 4000 4000 4000 0 0 31509 50888 19379 1958 35 0 0/0 PASS\nALL PASS\n";
+
 #[test]
 fn edits_tried(rt: HostRuntime) {
-    let edits: &[u8] =
-        b"insert 1 T DB1 500\nreweigh 1 7\nundo\nundo\nremove 1\ninsert 1 D 0010082 -\n";
-    let answers =
-        "EDIT 1 OK\nEDIT 2 X2\nEDIT 3 OK\nEDIT 4 NONE\nEDIT 5 X1\nEDIT 6 X3\nSTEP LIFT KG GM MEAN AFT FWD TRIM LIST A30 A40 A3040 GZ ANGLE CLOSE FRAMES VERDICT\n0 - 8200000 4333 4000 4000 4000 0 0 31509 50888 19379 1958 35 0 0/0 PASS\nALL PASS\n";
     check(
         &rt,
-        &with("edits.txt", Content::Bytes(edits)),
+        &with("edits.txt", Content::Bytes(EDITS)),
         &WITH_EDITS,
         0,
-        answers,
+        TRIED,
         "",
     );
     check(
@@ -461,6 +487,76 @@ fn failing_outputs(rt: HostRuntime) {
     );
     same(&rt, status, 5);
     holds(&rt, out.is_empty());
+}
+
+/// A writer that takes `left` bytes, `most` of them a call, and then fails.
+#[derive(Drop)]
+struct Failing {
+    taken: Vec<u8>,
+    left: usize,
+    most: usize,
+}
+
+impl Write for Failing {
+    fn write(&mut self, bytes: &[u8]) -> io::Result<usize> {
+        let taken = bytes.len().min(self.left).min(self.most);
+        if taken == 0 {
+            return Err(io::Error::from(ErrorKind::WriteZero));
+        }
+        self.taken.extend_from_slice(&bytes[..taken])?;
+        self.left -= taken;
+        Ok(taken)
+    }
+
+    fn flush(&mut self) -> io::Result<()> {
+        Ok(())
+    }
+}
+
+/// A run whose output takes so many bytes, so many a call, writes the front of this text, and says that it failed where that isn't all of it.
+fn check_front(
+    rt: &(impl Abort + AllocGlobal + Threads + Wait + Sync),
+    words: &[&str],
+    text: &[u8],
+    left: usize,
+    most: usize,
+) {
+    let files = with("edits.txt", Content::Bytes(EDITS));
+    let taken = Vec::new(rt.alloc());
+    let mut out = Failing { taken, left, most };
+    let mut err = Vec::new(rt.alloc());
+    let status = serve(
+        rt,
+        rt.alloc(),
+        &Open,
+        &mut Memory { files: &files },
+        words,
+        &mut out,
+        &mut err,
+    );
+    let whole = text.len() <= left;
+    same(rt, status, if whole { 0 } else { 5 });
+    same(rt, out.taken.as_slice(), &text[..left.min(text.len())]);
+    same(rt, err.is_empty(), whole);
+}
+
+/// What each command writes here.
+static WRITTEN: [(&[&str], &str); 3] = [
+    (&WORDS, REPORT),
+    (&["first", "box", "plan.edi", "moves.edi"], "ALL PASS\n"),
+    (&WITH_EDITS, TRIED),
+];
+
+// An output that fails behind any number of bytes, whether it takes one a call or all that it is given: what it took is the front of the text.
+#[test]
+fn outputs_that_fail_later(rt: HostRuntime) {
+    for (words, text) in &WRITTEN {
+        for left in 0..text.len() + 1 {
+            for most in [1, 1000] {
+                check_front(&rt, words, text.as_bytes(), left, most);
+            }
+        }
+    }
 }
 
 /// Files that all hold one text, which contracts see.

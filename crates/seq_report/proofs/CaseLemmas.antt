@@ -40,6 +40,7 @@ ready ship arrival sequence arrived made items ops =
     record {
       frames = arrived.of.sound.ship.frames.few;
       few = can.few;
+      long = long;
       last = slice_get_past sequence.steps (length sequence.ops) (omega (arith, long));
       arrived = arrived.few;
       adds_up = λ f k. sums f k ∙ ap (λ z. z +ℤ total (change f) (take k sequence.steps)) (sym (arrived.adds_up f));

@@ -93,15 +93,6 @@ module _ (case : Case) (ends : List ℕ) where
       let count : n ≡ length lines = many ∙ len ∙ sym (length-map-range_with_len (line_in case) 0 (suc (length case.sequence.ops))) in
       λ j. record { text = header_of ++ (text j ++ last_line (first j)); summary = record { lines = count j; first = first j } }
 
--- the texts of the lines up to k, and of those from k on
-pub texts_join : (case : Case) (start k e : ℕ) → start ≤ k → k ≤ e
-    → flat_map text_of (map (line_in case) (range_with_len start (e - start)))
-    ≡ flat_map text_of (map (line_in case) (range_with_len start (k - start))) ++ flat_map text_of (map (line_in case) (range_with_len k (e - k)))
-texts_join case start k e from to =
-    ap (λ (l : List ℕ). flat_map text_of (map (line_in case) l)) (sym (range_join start (k - start) k (e - k) (e - start) (omega (arith, from)) (omega (arith, from, to))))
-    ∙ ap (flat_map text_of) (map-append (line_in case) (range_with_len start (k - start)) (range_with_len k (e - k)))
-    ∙ flat_map-append text_of (map (line_in case) (range_with_len start (k - start))) (map (line_in case) (range_with_len k (e - k)))
-
 -- the first failing line of those from k on is line k, or the first behind it
 pub first_here : (case : Case) (k e : ℕ) → k < e → first_of (map (line_in case) (range_with_len k (e - k)))
     ≡ option_or (failure_of (line_in case k).step) (first_of (map (line_in case) (range_with_len (k + 1) (e - (k + 1)))))

@@ -1,9 +1,9 @@
 pub mod CaseLemmas
 pub mod ChunkLemmas
 pub mod FirstLemmas
+pub mod LawLemmas
 pub mod OffsetLemmas
 pub mod PartLemmas
-pub mod PieceLemmas
 pub mod PlanLemmas
 pub mod RunLemmas
 pub mod SumLemmas

@@ -16,11 +16,11 @@ use Rattle.moment_sums.specs.Kept.{Kept, both_kept, none_kept, size_of, values}
 use Rattle.moment_sums.specs.KeptLaws.{kept_laws}
 use Rattle.moment_sums.proofs.Bounds.{values_both, values_nothing}
 use Rattle.seq_report.specs.Chunks.{AreFirstSums, changes_behind, chunk_of, sum_to}
-use Rattle.seq_report.proofs.SumLemmas.{changes_size, changes_sum, joined_assoc, joined_nothing}
+use Rattle.seq_report.proofs.SumLemmas.{changes_size, changes_sum, joined_assoc, joined_nothing, room_behind}
 use Rattle.seq_report.proofs.Totals.{take_past}
 
 module _ (frames : List Frame) (arrival : List Mass) (steps : List Step) (ends : List ℕ) (len : ℕ) (totals : List Kept)
-    (few_frames : length frames ≤ 16) (d : Divides ends len) (few : len ≤ 120001)
+    (few_frames : length frames ≤ 16) (d : Divides ends len) (few : len ≤ 120001) (long : len ≡ length steps + 1)
     (are : totals ≡ map (λ c. changes_behind frames steps (chunk_of ends c)) (range_with_len 0 (length ends))) where
   abbrev folded_to : ℕ → Kept
   folded_to k = fold both_kept none_kept (take k totals)
@@ -106,6 +106,20 @@ module _ (frames : List Frame) (arrival : List Mass) (steps : List Step) (ends :
   pub offset_count : length (offset_list none_kept both_kept totals) ≡ length ends
   offset_count = length-offsets both_kept none_kept totals ∙ count
 
+  -- what is aboard on arrival with the offset of a chunk and what changes inside it up to a line
+  pub offset_sum : (arrived : Kept) → values arrived ≡ sum_of frames arrival → (c k : ℕ) (e : Kept) → c < length ends → start_of ends c ≤ k → k < get_or ends c 0
+      → values (both_kept (both_kept arrived (get_or (offset_list none_kept both_kept totals) c e)) (changes_behind frames steps (range_with_len (start_of ends c) (k - start_of ends c))))
+      ≡ sum_to frames arrival steps k
+  offset_sum arrived aboard c k e low from to =
+      let s = start_of ends c in
+      let offset = get_or (offset_list none_kept both_kept totals) c e in
+      let inside = changes_behind frames steps (range_with_len s (k - s)) in
+      let before = offset_at both_kept none_kept totals c e (omega (arith, count, low)) in
+      values_both (both_kept arrived offset) inside
+      ∙ ap (λ (t : Sum). joined t (values inside))
+      (values_both arrived offset ∙ (λ j. joined (aboard j) (values (before j))) ∙ folded_sum c (omega (arith, low)))
+      ∙ changes_sum frames steps few_frames arrival s (k - s) k (omega (arith, from))
+
   pub are_first_sums : (arrived : Kept) → size_of arrived ≤ 30400 → values arrived ≡ sum_of frames arrival
       → (sums : List Kept) → sums ≡ map (both_kept arrived) (offset_list none_kept both_kept totals) → AreFirstSums frames arrival steps ends sums
   are_first_sums arrived few_aboard aboard sums is =
@@ -120,6 +134,9 @@ module _ (frames : List Frame) (arrival : List Mass) (steps : List Step) (ends :
         size = λ c e low.
             let so_far = folded_size c (omega arith) in
             let within = start_within ends len c d (omega arith) in
+            let rises : start_of ends c < get_or ends c 0 = d.rising c low in
+            let end = end_within c low in
             let both = kept_laws.op_weight arrived (folded_to c) (omega (arith, few_aboard, so_far, within, few)) in
-            omega (arith, ap size_of (at c e low), both, few_aboard, so_far);
+            room_behind steps (start_of ends c) (size_of (get_or sums c e)) (omega (arith, few, long)) (omega (arith, rises, end, long))
+            (omega (arith, ap size_of (at c e low), both, few_aboard, so_far));
       }

@@ -1,24 +1,25 @@
 -- Running sums: what is aboard on arrival with what the first k steps change is what is aboard at line k.
-use Rattle.std.proofs.Common.{◌≡◌, ℕ, zero, suc, ◌+◌, ◌*◌, ◌^◌, ◌≤◌, List, [], ◌∷◌, length, map, take, slice_get, Option, None, Some, ℤ, pos, ◌+ℤ◌, refl, sym, ap, ◌∙◌, arith}
+use Rattle.std.proofs.Common.{◌≡◌, ℕ, zero, suc, ◌+◌, ◌*◌, ◌^◌, ◌≤◌, List, [], ◌∷◌, length, map, take, drop, sum_by, slice_get, Option, None, Some, ℤ, pos, ◌+ℤ◌, refl, sym, ap, ◌∙◌, arith}
 use Rattle.std.specs.List.{fold, range_with_len}
 use Rattle.std.specs.Option.{option_to_list}
 use Rattle.std.proofs.lemmas.Int.{ints}
 use Rattle.std.proofs.lemmas.List.FromFn.{map-range_with_len_more}
-use Rattle.std.proofs.lemmas.List.Sums.{fold-append}
+use Rattle.std.proofs.lemmas.List.Sums.{fold-append, sum_by-cons}
 use Rattle.std.proofs.lemmas.Option.{slice_get_past}
 use Rattle.units_core.specs.Bodies.{Mass}
 use Rattle.ship_profile.specs.declared.frames.Frame.{Frame}
 use Rattle.units_core.specs.declared.steps.Step.{Step}
 use Rattle.units_core.specs.Steps.{change}
 use Rattle.units_core.specs.Totals.{total}
+use Rattle.prefix_scan.specs.Laws.{most_parts}
 use Rattle.moment_sums.specs.Sum.{Column, WeightAft, MomentAft, Sum, at_frame, joined, nothing, value}
-use Rattle.moment_sums.specs.Kept.{Kept, both_kept, none_kept, size_of, values}
+use Rattle.moment_sums.specs.Kept.{Kept, bodies_of, both_kept, none_kept, size_of, values}
 use Rattle.moment_sums.specs.KeptLaws.{kept_laws}
 use Rattle.moment_sums.proofs.Bounds.{values_both, values_nothing}
 use Rattle.moment_sums.proofs.KeptLemmas.{kept_size, kept_values}
 use Rattle.seq_report.specs.declared.cases.Case.{Case}
 use Rattle.seq_report.specs.Cases.{IsReady, aboard_first, line_in, sum_in}
-use Rattle.seq_report.specs.Chunks.{bodies_in, change_behind, changed_in, changes_behind, parts_to, sum_to}
+use Rattle.seq_report.specs.Chunks.{bodies_in, change_behind, changed_in, changes_behind, parts_behind, parts_to, sum_to}
 use Rattle.criteria.specs.declared.criterion.Criterion.{Criterion}
 use Rattle.seq_report.specs.Report.{Said, failure_of, lift_to, step_line, sum_at}
 use Rattle.seq_report.proofs.Totals.{total_next}
@@ -69,9 +70,6 @@ pub line_told : (case : Case) → IsReady case → (k : ℕ) (s : Sum) (said : S
 line_told case ready k s said f here is told = told ∙ ap failure_of (is ∙ ap (step_line case.profile k) (here ∙ sum_here case ready k))
 
 -- sizes
-pub parts_few : (k : ℕ) → k ≤ 120001 → parts_to k ≤ 2 ^ 19
-parts_few k h = omega arith
-
 pub few_bodies : (o : Option Step) → bodies_in o ≤ 2
 few_bodies None = omega arith
 few_bodies (Some step) = by step.out step.put where
@@ -80,6 +78,29 @@ few_bodies (Some step) = by step.out step.put where
   by None (Some b) = omega arith
   by (Some a) None = omega arith
   by (Some a) (Some b) = omega arith
+
+-- the bodies of the steps behind a line are those of the next step and of the steps behind that
+pub parts_split : (steps : List Step) (k : ℕ) → parts_behind steps k ≡ bodies_in (slice_get steps k) + parts_behind steps (suc k)
+parts_split [] zero = omega arith
+parts_split [] (suc k) = omega arith
+parts_split (step ∷ more) zero = sum_by-cons bodies_of step more
+parts_split (step ∷ more) (suc k) = parts_split more k
+
+parts_all : (steps : List Step) → sum_by bodies_of steps ≤ 2 * length steps
+parts_all [] = omega arith
+parts_all (step ∷ more) = omega (arith, sum_by-cons bodies_of step more, few_bodies (Some step), parts_all more)
+
+parts_rest : (steps : List Step) (k : ℕ) → k ≤ length steps → parts_behind steps k + 2 * k ≤ 2 * length steps
+parts_rest steps zero h = omega (arith, parts_all steps)
+parts_rest [] (suc k) h = absurd (omega (arith, h))
+parts_rest (step ∷ more) (suc k) h = let rest = parts_rest more k (omega (arith, h)) in omega (arith, rest)
+
+-- a sum of what is aboard on arrival and of the steps to a line has room for those behind it
+pub room_behind : (steps : List Step) (k n : ℕ) → length steps ≤ 120000 → k ≤ length steps → n ≤ parts_to k → n + parts_behind steps k ≤ most_parts
+room_behind steps k n few within fits = let rest = parts_rest steps k within in omega (arith, rest, few, fits)
+
+pub change_parts : (frames : List Frame) (steps : List Step) (k : ℕ) → size_of (change_behind frames steps k) ≡ bodies_in (slice_get steps k)
+change_parts frames steps k = kept_size (changed_in frames (slice_get steps k)) (bodies_in (slice_get steps k))
 
 pub change_size : (frames : List Frame) (steps : List Step) (k : ℕ) → size_of (change_behind frames steps k) ≤ 2
 change_size frames steps k =
@@ -97,7 +118,7 @@ module _ (frames : List Frame) (few : length frames ≤ 16) where
     by (Some a) None = refl
     by (Some a) (Some b) = refl
 
-  at_none : (share : ℤ → Mass → ℤ) (o : Option Frame) → o ≡ None → (b : Mass) → at_frame share o b ≡ pos 0
+  pub at_none : (share : ℤ → Mass → ℤ) (o : Option Frame) → o ≡ None → (b : Mass) → at_frame share o b ≡ pos 0
   at_none share o none b = ap (λ o. at_frame share o b) none
 
   weight_past : (o : Option Step) (i : ℕ) → 16 ≤ i → changed_in frames o (WeightAft i) ≡ pos 0
@@ -153,14 +174,15 @@ module _ (frames : List Frame) (steps : List Step) where
 
 -- the sum at a line with what changes behind it is the sum at the next line
 module _ (case : Case) (ready : IsReady case) (k : ℕ) where
-  pub room_for_next : k ≤ 120000 → (s t : Kept) → size_of s ≤ parts_to k → t ≡ change_behind case.profile.ship.frames case.sequence.steps k → size_of s + size_of t ≤ 2 ^ 19
-  room_for_next few s t fits is = omega (arith, few, fits, ap size_of is, change_size case.profile.ship.frames case.sequence.steps k)
-
-  pub next_size : k ≤ 120000 → (s t r : Kept) → size_of s ≤ parts_to k → t ≡ change_behind case.profile.ship.frames case.sequence.steps k → r ≡ both_kept s t
-      → size_of r ≤ parts_to (k + 1)
-  next_size few s t r fits is joins =
-      let both = kept_laws.op_weight s t (room_for_next few s t fits is) in
-      omega (arith, ap size_of joins, both, fits, ap size_of is, change_size case.profile.ship.frames case.sequence.steps k)
+  pub next_size : (s t r : Kept) → size_of s + parts_behind case.sequence.steps k ≤ most_parts → t ≡ change_behind case.profile.ship.frames case.sequence.steps k
+      → r ≡ both_kept s t → size_of r + parts_behind case.sequence.steps (k + 1) ≤ most_parts
+  next_size s t r fits is joins =
+      let next : suc k ≡ k + 1 = omega arith in
+      let steps = case.sequence.steps in
+      let split = parts_split steps k in
+      let change : size_of t ≡ bodies_in (slice_get steps k) = ap size_of is ∙ change_parts case.profile.ship.frames steps k in
+      let both = kept_laws.op_weight s t (omega (arith, fits, split, change)) in
+      omega (arith, ap size_of joins, both, fits, split, change, ap (parts_behind steps) next)
 
   pub next_sum : (s t r : Kept) → values s ≡ sum_in case k → t ≡ change_behind case.profile.ship.frames case.sequence.steps k → r ≡ both_kept s t
       → values r ≡ sum_in case (k + 1)

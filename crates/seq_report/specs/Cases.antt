@@ -10,6 +10,7 @@ use Rattle.lift_sequence.specs.Bodies.{bodies}
 use Rattle.lift_sequence.specs.Sequence.{SequenceRecord}
 use Rattle.units_core.specs.Steps.{change}
 use Rattle.units_core.specs.Totals.{total}
+use Rattle.prefix_scan.specs.Laws.{most_parts}
 use Rattle.moment_sums.specs.Bounded.{IsBounded}
 use Rattle.moment_sums.specs.Kept.{Kept, size_of, values}
 use Rattle.moment_sums.specs.Sum.{Sum, sum_of}
@@ -17,7 +18,7 @@ use Rattle.seq_report.specs.declared.cases.Case.{Case}
 use Rattle.seq_report.specs.declared.cases.CaseView.{CaseView}
 use Rattle.claim_board.specs.Claims.{IsLeastFound}
 use Rattle.seq_report.specs.declared.sections.Chunk.{Chunk}
-use Rattle.seq_report.specs.Chunks.{chunk_of, parts_to, step_of_first, sum_to}
+use Rattle.seq_report.specs.Chunks.{chunk_of, parts_behind, step_of_first, sum_to}
 use Rattle.run_inputs.specs.declared.inputs.Inputs.{Inputs}
 use Rattle.run_inputs.specs.Inputs.{items_in, orders_in, ship_in}
 use Rattle.run_inputs.specs.Readings.{HasArrived}
@@ -79,6 +80,7 @@ pub record IsArrivalTotal (ship : ProfileRecord) (arrival : ArrivalRecord) (tota
 pub record IsReady (case : Case) : Type 0 where
   pub frames : length case.profile.ship.frames ≤ 16
   pub few : length case.sequence.ops ≤ 120000
+  pub long : length case.sequence.steps ≡ length case.sequence.ops
   pub last : slice_get case.sequence.steps (length case.sequence.ops) ≡ None
   pub arrived : length case.arrival.bodies ≤ 30400
   pub adds_up : (f : Mass → ℤ) (k : ℕ)
@@ -95,4 +97,4 @@ pub record IsChunk (case : Case) (chunk : Chunk) : Type 0 where
   pub some : chunk.start < chunk.end
   pub inside : chunk.end ≤ length case.sequence.ops + 1
   pub sum : values chunk.first ≡ sum_in case chunk.start
-  pub size : size_of chunk.first ≤ parts_to chunk.start
+  pub size : size_of chunk.first + parts_behind case.sequence.steps chunk.start ≤ most_parts

@@ -2,8 +2,8 @@ pub mod Cases
 pub mod Chunks
 pub mod Columns
 pub mod Firsts
+pub mod Laws
 pub mod Lifts
-pub mod Pieces
 pub mod Plans
 pub mod Readings
 pub mod Refusal

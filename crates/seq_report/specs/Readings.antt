@@ -25,10 +25,6 @@ texts_by ship cells hydro levers bonjean tanks gm has_gm = record {
 abbrev pub IsShipRead : Result ProfileRecord RunFault → Texts → Type 0
 IsShipRead profile texts = IsRead profile (λ p. refused_as Profile (record_of texts) ≡ Ok p) (λ e. refused_as Profile (record_of texts) ≡ Err e)
 
--- a profile and a bay plan
-abbrev pub AreBothRead : Result ProfileRecord RunFault × Result (Vec Item Global) RunFault → Texts → List ℕ → Type 0
-AreBothRead both texts plan = IsShipRead both.0 texts × IsPlanRead both.1 plan
-
--- both messages
-abbrev pub AreMessagesRead : Result (Vec Item Global) RunFault × Result (Vec Lift Global) RunFault → List ℕ → List ℕ → Type 0
-AreMessagesRead both plan moves = IsPlanRead both.0 plan × AreMovesRead both.1 moves
+-- a profile, a bay plan and a movement instruction that were read of these texts
+abbrev pub AreAllRead : (Result ProfileRecord RunFault × Result (Vec Item Global) RunFault × Result (Vec Lift Global) RunFault) → Texts → (plan moves : List ℕ) → Type 0
+AreAllRead read texts plan moves = IsShipRead read.0 texts × IsPlanRead read.1 plan × AreMovesRead read.2 moves

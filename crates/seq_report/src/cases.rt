@@ -10,7 +10,7 @@ ghost use Rattle.run_inputs.specs.Refusals.{TellsMemory, is_cut, is_write};
 ghost use Rattle.seq_report.specs.Refusal.{outcome_of, outcome_with};
 ghost use Rattle.seq_report.specs.Report.{lift_to};
 
-use crate::readings::{read_in_three, read_in_two};
+use crate::readings::read_beside;
 use claim_run::Workers;
 use lift_sequence::{Arrival, Op, Sequence};
 use run_inputs::{
@@ -18,7 +18,8 @@ use run_inputs::{
     ship,
 };
 use ship_profile::Profile;
-use std::alloc::Global;
+use std::alloc::{AllocError, Global};
+use std::sync::Wait;
 use std::thread::Threads;
 use stow_messages::{Item, Lift};
 
@@ -180,6 +181,11 @@ fn case_by(
     }
 }
 
+/// Whether an input couldn't be read for want of memory.
+fn ran_out<T>(reading: &Result<T, RunFault>) -> bool {
+    matches!(reading, Err(RunFault::NoMemory))
+}
+
 /// The case that the inputs tell of, or the first refusal, the profile and both messages as they were read.
 fn case_read(
     alloc: Global,
@@ -201,9 +207,15 @@ fn case_read(
     ensures silent { is_write result ≡ false }
     ensures uncut { is_cut result ≡ false }
 {
+    let short = ran_out(&profile) || ran_out(&plan) || ran_out(&moves);
     let arrived = arrived_by(alloc, inputs, profile, plan);
     let orders = orders_by(alloc, inputs, moves);
-    case_by(alloc, inputs, arrived, orders)
+    match case_by(alloc, inputs, arrived, orders) {
+        Ok(case) => Ok(case),
+        // a reader that ran out of memory is told, also behind the refusal of another input
+        Err(_) if short => Err(RunFault::NoMemory),
+        Err(fault) => Err(fault),
+    }
 }
 
 /// The case that the inputs tell of, or the first refusal, in the order of [`crate::report`]. Out of memory may stand for any refusal.
@@ -225,8 +237,8 @@ pub fn case_of(alloc: Global, inputs: &Inputs<'_>) -> Result<Case, RunFault>
 }
 
 /// The same case, the inputs read in as many threads as there are workers, three at most: of several refusals the first in the order of the inputs is told
-/// all the same.
-pub fn case_in<R: Threads>(
+/// all the same. A thread that isn't started is told as out of memory.
+pub fn case_in<R: Threads + Wait + Sync>(
     rt: &R,
     alloc: Global,
     workers: Workers,
@@ -242,10 +254,12 @@ pub fn case_in<R: Threads>(
     ensures silent { is_write result ≡ false }
     ensures uncut { is_cut result ≡ false }
 {
-    let (profile, plan, moves) = match workers.get() {
-        1 => return case_of(alloc, inputs),
-        2 => read_in_two(rt, alloc, inputs),
-        _ => read_in_three(rt, alloc, inputs),
-    };
-    case_read(alloc, inputs, profile, plan, moves)
+    if workers.get() == 1 {
+        return case_of(alloc, inputs);
+    }
+    let apart = workers.get() > 2;
+    match read_beside(rt, alloc, inputs, apart) {
+        Ok((profile, plan, moves)) => case_read(alloc, inputs, profile, plan, moves),
+        Err(AllocError) => Err(RunFault::NoMemory),
+    }
 }

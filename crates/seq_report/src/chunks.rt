@@ -1,10 +1,10 @@
-ghost use Rattle.std.specs.Prelude.{◌≡◌, ◌+◌, ◌-◌, ◌^◌, ◌<◌, ◌≤◌, ℕ, length, map, slice_index_or, IfOk};
+ghost use Rattle.std.specs.Prelude.{◌≡◌, ◌+◌, ◌-◌, ◌^◌, ◌<◌, ◌≤◌, ℕ, length, map, slice_get, slice_index_or, IfOk};
 ghost use Rattle.std.specs.List.{range_with_len};
 ghost use Rattle.prefix_scan.specs.Laws.{most_parts};
 ghost use Rattle.moment_sums.specs.Kept.{Kept, both_kept, size_of, values};
 ghost use Rattle.moment_sums.specs.Sum.{sum_of};
 ghost use Rattle.seq_report.specs.Cases.{IsReady, seen};
-ghost use Rattle.seq_report.specs.Chunks.{change_behind, changes_behind};
+ghost use Rattle.seq_report.specs.Chunks.{bodies_in, change_behind, changes_behind};
 
 use crate::cases::CaseView;
 use lift_sequence::Arrival;
@@ -32,7 +32,8 @@ pub fn arrival_total(profile: &Profile, arrival: &Arrival) -> Totals
 pub fn pass_line(case: CaseView<'_>, k: u32, sum: &mut Totals)
     requires ready { IsReady (seen case) }
     requires there { k ≤ length case.sequence.now.ops }
-    requires room { size_of sum.old + 2 ≤ most_parts }
+    requires room { size_of sum.old + bodies_in (slice_get case.sequence.now.steps k)
+        ≤ most_parts }
     ensures { sum.new ≡ both_kept sum.old
         (change_behind case.entry.profile.now.ship.frames case.entry.sequence.now.steps k) }
 {

@@ -128,19 +128,6 @@ impl<'a> Lines<'a> {
         }
     }
 
-    /// All lines, as one chunk.
-    pub fn all(&self) -> Chunk
-        ensures start { result.start ≡ 0 }
-        ensures end { result.end ≡ length self.now.case.sequence.now.ops + 1 }
-        ensures chunk { IsChunk (seen self.now.case) result }
-    {
-        Chunk {
-            start: 0,
-            end: self.case.lines(),
-            first: self.sums[0],
-        }
-    }
-
     /// The first line of chunk `k` that fails, with its first criterion.
     pub fn first_in(&self, k: u32) -> Option<(u32, Criterion)>
         requires { k < length self.now.cuts.now }

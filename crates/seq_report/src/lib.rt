@@ -2,7 +2,6 @@
 //! line to a sink, with the first step that fails and every refusal in a fixed order.
 #![tactic(auto)]
 
-mod alone;
 mod cases;
 mod causes;
 mod chunks;
@@ -10,9 +9,9 @@ mod columns;
 mod complete;
 mod failures;
 mod jobs;
+mod laws;
 mod lifts;
 mod lines;
-mod pieces;
 mod plans;
 mod prepared;
 mod readings;
@@ -26,6 +25,7 @@ pub use chunks::{arrival_total, joined_to_arrival};
 pub use complete::Summary;
 pub use criteria::Criterion;
 pub use failures::{first_fail, first_fail_from};
+pub use laws::sums_are_folds;
 pub use lines::write_last_line;
 pub use plans::{CutPlan, Options, cuts_of};
 pub use run_inputs::{Inputs, RunFault};

@@ -139,7 +139,7 @@ fn put_judged(end: &mut BackwardText<'_>, line: &StepLine)
 }
 
 /// Puts together the line of a step, with the lift that leads to it, in place of what `end` held before.
-pub fn put_line(end: &mut BackwardText<'_>, lift: Option<&Op>, line: &StepLine)
+fn put_line(end: &mut BackwardText<'_>, lift: Option<&Op>, line: &StepLine)
     ensures { end.new ≡ line_of (option_map (λ op. op.now) lift.entry) (said line.now) }
 {
     end.clear();
@@ -161,23 +161,6 @@ pub fn write_line(
 {
     put_line(end, lift, line);
     end.append_to(text)
-}
-
-/// Puts together the last line, as [`write_last_line`] writes it, in place of what `end` held before.
-pub fn put_last_line(end: &mut BackwardText<'_>, first: Option<(u32, Criterion)>)
-    ensures { end.new ≡ last_line first }
-{
-    end.clear();
-    match first {
-        None => end.put_words("ALL PASS\n"),
-        Some((step, criterion)) => {
-            end.put_byte(b'\n');
-            end.put_words(criterion.code());
-            end.put_byte(b' ');
-            end.put_natural(u64::from(step));
-            end.put_words("FIRST FAIL ");
-        }
-    }
 }
 
 /// Writes the last line: the first step that fails, with its criterion, where one does.

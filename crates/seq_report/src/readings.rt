@@ -1,12 +1,81 @@
+//! The inputs, read beside one another in threads.
+ghost use Rattle.std.specs.Prelude.{◌≡◌, IfOk};
 ghost use Rattle.ship_profile.specs.Record.{texts_of};
 ghost use Rattle.run_inputs.specs.Readings.{AreMovesRead, IsPlanRead};
-ghost use Rattle.seq_report.specs.Readings.{AreBothRead, AreMessagesRead, IsShipRead, texts_by};
+ghost use Rattle.seq_report.specs.Readings.{AreAllRead, IsShipRead, texts_by};
 
 use run_inputs::{Inputs, RunFault, items, lifts, ship};
 use ship_profile::{Profile, ProfileBytes};
-use std::alloc::Global;
-use std::thread::{Threads, join};
+use std::alloc::{AllocError, Global};
+use std::sync::Wait;
+use std::thread;
+use std::thread::{Promise, PromisedHandle, Scope, Threads};
 use stow_messages::{Item, Lift};
+
+/// What was read of a profile, a bay plan and a movement instruction.
+pub type Readings = (
+    Result<Profile, RunFault>,
+    Result<Vec<Item>, RunFault>,
+    Result<Vec<Lift>, RunFault>,
+);
+
+/// What a thread that reads a bay plan promises: what it gives was read of this text.
+#[derive(Clone, Copy)]
+struct PlanOf<'a> {
+    text: &'a [u8],
+}
+
+impl<'a> Promise<Result<Vec<Item>, RunFault>> for PlanOf<'a> {
+    ghost use Rattle.run_inputs.specs.Readings.{IsPlanRead};
+
+    ghost kept_by = { λ plan given. IsPlanRead given plan.text.now };
+}
+
+/// The same of a movement instruction.
+#[derive(Clone, Copy)]
+struct MovesOf<'a> {
+    text: &'a [u8],
+}
+
+impl<'a> Promise<Result<Vec<Lift>, RunFault>> for MovesOf<'a> {
+    ghost use Rattle.run_inputs.specs.Readings.{AreMovesRead};
+
+    ghost kept_by = { λ moves given. AreMovesRead given moves.text.now };
+}
+
+/// Starts a thread that reads a bay plan.
+fn start_plan<'s, E>(
+    scope: &Scope<'s, E>,
+    alloc: Global,
+    text: &'s [u8],
+) -> Result<PromisedHandle<Result<Vec<Item>, RunFault>, PlanOf<'s>>, AllocError>
+    ensures { IfOk result (λ h. h.promise.text.now ≡ text.entry.now) }
+{
+    let started = scope.spawn_with(
+        PlanOf { text },
+        move || -> Result<Vec<Item>, RunFault>
+            ensures { IsPlanRead result text.entry.now }
+        { items(alloc, text) },
+    );
+    Ok(started?)
+}
+
+/// Starts a thread that reads a movement instruction.
+fn start_moves<'s, E>(
+    scope: &Scope<'s, E>,
+    alloc: Global,
+    text: &'s [u8],
+) -> Result<PromisedHandle<Result<Vec<Lift>, RunFault>, MovesOf<'s>>, AllocError>
+    ensures { IfOk result (λ h. h.promise.text.now ≡ text.entry.now) }
+{
+    let started = scope.spawn_with(
+        MovesOf { text },
+        move || -> Result<Vec<Lift>, RunFault>
+            ensures { AreMovesRead result text.entry.now }
+        { lifts(alloc, text) },
+    );
+    Ok(started?)
+}
 
 /// The profile that the texts of these files write, in the order of [`ProfileBytes`]; the last counts where there is such a file.
 fn ship_by(
@@ -41,77 +110,66 @@ fn ship_by(
     ship(alloc, &inputs)
 }
 
-/// What was read of a profile, a bay plan and a movement instruction.
-pub type Readings = (
-    Result<Profile, RunFault>,
-    Result<Vec<Item>, RunFault>,
-    Result<Vec<Lift>, RunFault>,
-);
-
-/// The inputs, read in two threads: the profile and the bay plan one after the other, beside the movement instruction, which takes about as long as
-/// both. None of them depends on another. The closures take plain slices, since nothing is known of what one answers that takes a value with
-/// a lifetime in its type.
-pub fn read_in_two<R: Threads>(rt: &R, alloc: Global, inputs: &Inputs<'_>) -> Readings
-    ensures ship { IsShipRead result.0 (texts_of inputs.now.profile) }
-    ensures plan { IsPlanRead result.1 inputs.now.baplie.now }
-    ensures moves { AreMovesRead result.2 inputs.now.movins.now }
+/// The texts of a profile's files, of a bay plan and of a movement instruction, read beside one another. The closure takes plain slices, which this
+/// function has by themselves: of what a closure answers that takes a value with a lifetime in its type nothing is known.
+fn read_texts<R: Threads + Wait + Sync>(
+    rt: &R,
+    alloc: Global,
+    ship_text: &[u8],
+    cells: &[u8],
+    hydro: &[u8],
+    kn: &[u8],
+    bonjean: &[u8],
+    tanks: &[u8],
+    gm: &[u8],
+    has_gm: bool,
+    plan: &[u8],
+    moves: &[u8],
+    apart: bool,
+) -> Result<Readings, AllocError>
+    ensures { IfOk result (λ read. AreAllRead read (texts_by ship_text.now cells.now hydro.now
+        kn.now bonjean.now tanks.now gm.now has_gm) plan.now moves.now) }
 {
-    let ProfileBytes {
-        ship: ship_text,
-        cells,
-        hydro,
-        kn,
-        bonjean,
-        tanks,
-        gm,
-    } = inputs.profile;
-    let has_gm = gm.is_some();
-    let gm = gm.unwrap_or(&[]);
-    let plan = inputs.baplie;
-    let moves = inputs.movins;
-    let ((profile, plan), moves) = join(
+    thread::scope(
+        thread::scope_env(),
         rt,
-        move || -> (Result<Profile, RunFault>, Result<Vec<Item>, RunFault>)
-            ensures { AreBothRead result (texts_by ship_text.entry.now cells.entry.now hydro.entry.now
-                kn.entry.now bonjean.entry.now tanks.entry.now gm.entry.now has_gm) plan.entry.now }
+        |scope| -> Result<Readings, AllocError>
+            ensures { IfOk result (λ read. AreAllRead read (texts_by ship_text.entry.now cells.entry.now
+                hydro.entry.now kn.entry.now bonjean.entry.now tanks.entry.now gm.entry.now has_gm)
+                plan.entry.now moves.entry.now) }
         {
+            let moves = start_moves(scope, alloc, moves)?;
+            if !apart {
+                let profile = ship_by(
+                    alloc, ship_text, cells, hydro, kn, bonjean, tanks, gm, has_gm,
+                );
+                let plan = items(alloc, plan);
+                return Ok((profile, plan, moves.join(rt)));
+            }
+            let Ok(plan) = start_plan(scope, alloc, plan) else {
+                // joined, so that what it read is let go
+                drop(moves.join(rt));
+                return Err(AllocError);
+            };
             let profile = ship_by(
                 alloc, ship_text, cells, hydro, kn, bonjean, tanks, gm, has_gm,
             );
-            (profile, items(alloc, plan))
+            Ok((profile, plan.join(rt), moves.join(rt)))
         },
-        move || -> Result<Vec<Lift>, RunFault>
-            ensures { AreMovesRead result moves.entry.now }
-        { lifts(alloc, moves) },
-    );
-    (profile, plan, moves)
-}
-
-/// Both messages, read in two threads.
-fn messages_in_two<R: Threads>(
-    rt: &R,
-    alloc: Global,
-    plan: &[u8],
-    moves: &[u8],
-) -> (Result<Vec<Item>, RunFault>, Result<Vec<Lift>, RunFault>)
-    ensures { AreMessagesRead result plan.now moves.now }
-{
-    join(
-        rt,
-        move || -> Result<Vec<Item>, RunFault>
-            ensures { IsPlanRead result plan.entry.now }
-        { items(alloc, plan) },
-        move || -> Result<Vec<Lift>, RunFault>
-            ensures { AreMovesRead result moves.entry.now }
-        { lifts(alloc, moves) },
     )
 }
 
-/// The inputs, read in three threads, each by itself.
-pub fn read_in_three<R: Threads>(rt: &R, alloc: Global, inputs: &Inputs<'_>) -> Readings
-    ensures ship { IsShipRead result.0 (texts_of inputs.now.profile) }
-    ensures plan { IsPlanRead result.1 inputs.now.baplie.now }
-    ensures moves { AreMovesRead result.2 inputs.now.movins.now }
+/// The inputs, read in two threads: the movement instruction, which takes about as long as the others together, beside the profile and then the bay
+/// plan, which are read in this thread; with `apart` in three, the bay plan in a thread of its own too. None of them depends on another. An error where
+/// a thread isn't started.
+pub fn read_beside<R: Threads + Wait + Sync>(
+    rt: &R,
+    alloc: Global,
+    inputs: &Inputs<'_>,
+    apart: bool,
+) -> Result<Readings, AllocError>
+    ensures { IfOk result (λ read. AreAllRead read (texts_of inputs.now.profile)
+        inputs.now.baplie.now inputs.now.movins.now) }
 {
     let ProfileBytes {
         ship: ship_text,
@@ -122,23 +180,19 @@ pub fn read_in_three<R: Threads>(rt: &R, alloc: Global, inputs: &Inputs<'_>) -> 
         tanks,
         gm,
     } = inputs.profile;
-    let has_gm = gm.is_some();
-    let gm = gm.unwrap_or(&[]);
-    let plan = inputs.baplie;
-    let moves = inputs.movins;
-    let (profile, (plan, moves)) = join(
+    read_texts(
         rt,
-        move || -> Result<Profile, RunFault>
-            ensures { IsShipRead result (texts_by ship_text.entry.now cells.entry.now hydro.entry.now
-                kn.entry.now bonjean.entry.now tanks.entry.now gm.entry.now has_gm) }
-        {
-            ship_by(
-                alloc, ship_text, cells, hydro, kn, bonjean, tanks, gm, has_gm,
-            )
-        },
-        move || -> (Result<Vec<Item>, RunFault>, Result<Vec<Lift>, RunFault>)
-            ensures { AreMessagesRead result plan.entry.now moves.entry.now }
-        { messages_in_two(rt, alloc, plan, moves) },
-    );
-    (profile, plan, moves)
+        alloc,
+        ship_text,
+        cells,
+        hydro,
+        kn,
+        bonjean,
+        tanks,
+        gm.unwrap_or(&[]),
+        gm.is_some(),
+        inputs.baplie,
+        inputs.movins,
+        apart,
+    )
 }

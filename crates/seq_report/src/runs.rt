@@ -9,7 +9,6 @@ ghost use Rattle.seq_report.specs.Plans.{Fits, IsPlanFault};
 ghost use Rattle.run_inputs.specs.Refusals.{IsOfRun, TellsMemory, is_refusal, is_write, is_write_fault};
 ghost use Rattle.seq_report.specs.Refusal.{Outcome, outcome_of};
 
-use crate::alone::report_alone;
 use crate::cases::CaseView;
 use crate::complete::{CompleteReport, Summary};
 use crate::jobs::{Lines, Texts};
@@ -103,9 +102,6 @@ fn report_ready<'a, G: Gate, R: Threads + Wait + Sync, S: Sink>(
         cuts,
         sums,
     };
-    if workers.get() == 1 {
-        return report_alone(alloc, &lines, sink);
-    }
     match report_in_chunks(rt, alloc, gate, workers, &lines) {
         Ok(made) => put_report(&made, sink),
         Err(AllocError) => Err(RunFault::NoMemory),
@@ -222,6 +218,7 @@ pub fn report<G: Gate, R: Threads + Wait + Sync, S: Sink>(
     ensures failed { S.has_failed sink.new ≡ is_write result }
     ensures cut_short { IfErr result (λ e. (m : ℕ) → e ≡ RunFault.Write m → (outcome : Outcome)
         × (outcome_of inputs.now ≡ Ok outcome)
+        × Fits options.now.cuts outcome.summary.lines
         × (m < length outcome.text)
         × Appends (S.contents sink.old) (S.contents sink.new) (take m outcome.text)) }
     ensures memory { IfErr result TellsMemory }

@@ -1,15 +1,16 @@
 -- What an edit makes of a list of steps, why it can't be done, and the edit that takes it back. Steps are numbered from 1.
-use Rattle.std.specs.Prelude.{◌≡◌, ℕ, zero, suc, ◌+◌, ◌≤◌, List, length, Option, None, Some, slice_get, nat_le, Bool, ◌&&◌, if◌then◌else◌}
+use Rattle.std.specs.Prelude.{◌≡◌, ◌≢◌, ⊤, ℕ, zero, suc, ◌+◌, ◌≤◌, List, length, Option, None, Some, slice_get, nat_le, Bool, ◌&&◌, if◌then◌else◌}
 use Rattle.std.specs.List.{swap, insert, remove}
 use Rattle.std.specs.Option.{is_some}
 use Rattle.stow_messages.specs.declared.lifts.Lift.TheVariants.{Load}
 use Rattle.lift_sequence.specs.declared.operations.Op as operation
 use Rattle.lift_sequence.specs.declared.operations.Op.TheVariants.{Lift}
 use Rattle.lift_sequence.specs.Follow.{loaded_cell, weighed_at}
+use Rattle.lift_sequence.specs.declared.faults.SeqCode.TheVariants.{NoMemory}
 use Rattle.step_edits.specs.declared.edits.Edit.{Edit}
 use Rattle.step_edits.specs.declared.edits.Edit.TheVariants.{Swap, Move, Remove, Insert, Reweigh}
 use Rattle.step_edits.specs.declared.faults.EditFault.{EditFault}
-use Rattle.step_edits.specs.declared.faults.EditFault.TheVariants.{NoStep, NotLoad}
+use Rattle.step_edits.specs.declared.faults.EditFault.TheVariants.{NoStep, NotLoad, Sequence}
 
 -- the place of a number, the first place being 0, and the step of a number
 abbrev pub place_of : ℕ → ℕ
@@ -53,6 +54,11 @@ edit_fault ops (Move from to) = number_fault (is_number (length ops) from && is_
 edit_fault ops (Remove at) = number_fault (is_number (length ops) at)
 edit_fault ops (Insert at op) = number_fault (is_number (length ops + 1) at)
 edit_fault ops (Reweigh at kg) = weigh_fault (step_at ops at)
+
+-- out of memory stands for itself, and never inside the refusal of the edited list
+abbrev pub TellsMemory : EditFault → Type 0
+TellsMemory (Sequence fault) = fault.code ≢ NoMemory
+TellsMemory fault = ⊤
 
 -- the same as facts of the numbers
 abbrev pub IsNumber : ℕ → ℕ → Type 0

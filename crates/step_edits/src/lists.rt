@@ -1,6 +1,6 @@
-ghost use Rattle.std.specs.Prelude.{◌≡◌, ◌≤◌, ◌<◌, ◌+◌, length, slice_get, option_copied, IfOk, None};
+ghost use Rattle.std.specs.Prelude.{◌≡◌, ◌≤◌, ◌<◌, ◌+◌, length, slice_get, option_copied, IfOk, IfSome, None};
 ghost use Rattle.std.specs.Vec.{vec_capacity};
-ghost use Rattle.step_edits.specs.Edits.{CanBeDone, edited, edit_fault, inverse, is_number, moved_to, number_fault, place_of, put_back, step_at, weigh_back, weigh_fault};
+ghost use Rattle.step_edits.specs.Edits.{CanBeDone, TellsMemory, edited, edit_fault, inverse, is_number, moved_to, number_fault, place_of, put_back, step_at, weigh_back, weigh_fault};
 
 use crate::edits::Edit;
 use crate::faults::EditFault;
@@ -26,14 +26,16 @@ fn step_at(ops: &[Op], number: u32) -> Option<&Op>
 
 /// The fault of numbers of which not each is that of a step.
 fn number_fault(found: bool) -> Option<EditFault>
-    ensures { result ≡ number_fault found }
+    ensures exact { result ≡ number_fault found }
+    ensures memory { IfSome result TellsMemory }
 {
     if found { None } else { Some(EditFault::NoStep) }
 }
 
 /// The fault of a step that is to be weighed: it isn't there, or it is no load.
 fn weigh_fault(op: Option<&Op>) -> Option<EditFault>
-    ensures { result ≡ weigh_fault (option_copied op.entry) }
+    ensures exact { result ≡ weigh_fault (option_copied op.entry) }
+    ensures memory { IfSome result TellsMemory }
 {
     match op {
         None => Some(EditFault::NoStep),
@@ -45,7 +47,8 @@ fn weigh_fault(op: Option<&Op>) -> Option<EditFault>
 /// Why an edit of a list can't be done, whatever the list then does aboard: [`EditFault::NoStep`] where a number isn't that of a step,
 /// and for `Reweigh` then `NotLoad`; `None` where it can. A step may be inserted at any number from 1 to one more than there are steps.
 pub fn fault_of(ops: &[Op], edit: &Edit) -> Option<EditFault>
-    ensures { result ≡ edit_fault ops.now edit.now }
+    ensures exact { result ≡ edit_fault ops.now edit.now }
+    ensures memory { IfSome result TellsMemory }
 {
     let count = ops.len();
     match edit {

@@ -83,7 +83,7 @@ fn release_and_verified_weight(rt: HostRuntime) -> Result<(), Fail> {
 }
 
 /// Weights and their units, each with the item or the fault.
-static WEIGHTS: [(&str, &str); 19] = [
+static WEIGHTS: [(&str, &str); 20] = [
     (
         "LOC+147+030082 MEA+WT++KGM:1 MEA+VGM++KGM:999999.0",
         "@0030082=999999 ",
@@ -95,6 +95,10 @@ static WEIGHTS: [(&str, &str); 19] = [
     (
         "LOC+147+030082 MEA+VGM++LBR:45000 MEA+WT++KGM:1",
         "M5 segment 3",
+    ),
+    (
+        "LOC+147+030082 MEA+WT++KGM:20000 MEA+VGM++LBR:45000 EQD+CN+AB",
+        "M5 segment 4",
     ),
     ("LOC+147+03A082 MEA+WT++KGM:1", "M2 segment 2"),
     ("LOC+147+030082 MEA+WT++KGM:5.", "@0030082=5 "),
@@ -231,7 +235,7 @@ fn texts_are_copied(rt: HostRuntime) -> Result<(), Fail> {
 }
 
 /// 17 bytes are taken, 18 aren't.
-static IDENTIFICATIONS: [(&str, &str); 4] = [
+static IDENTIFICATIONS: [(&str, &str); 5] = [
     (
         "LOC+147+0030082 EQD+CN+ABCDEFGHIJKLMNOPQ MEA+WT++KGM:7",
         "ABCDEFGHIJKLMNOPQ@0030082=7 ",
@@ -239,6 +243,10 @@ static IDENTIFICATIONS: [(&str, &str); 4] = [
     (
         "LOC+147+0030082 MEA+WT++KGM:7 EQD+CN+ABCDEFGHIJKLMNOPQR",
         "M3 segment 4",
+    ),
+    (
+        "LOC+147+030082::5 MEA+WT++KGM:20000 MEA+VGM++KGM:20499.2 EQD+CN+ABCDEFGHIJKLMNOPQR",
+        "M3 segment 5",
     ),
     (
         "LOC+147+0030082 EQD+CN+ABCDEFGHIJKLMNOPQRSTUVWXYZABCDEFGHIJK MEA+WT++KGM:7",

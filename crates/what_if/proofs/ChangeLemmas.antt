@@ -23,10 +23,10 @@ use Rattle.moment_sums.specs.Sum.{Sum, joined}
 use Rattle.moment_sums.proofs.Bounds.{values_both}
 use Rattle.run_inputs.specs.Readings.{IsMade}
 use Rattle.seq_report.specs.Cases.{IsReady, case_on, outcome_in}
-use Rattle.seq_report.specs.Chunks.{AreFirstSums, change_behind, changes_behind, parts_to, sum_to}
+use Rattle.seq_report.specs.Chunks.{AreFirstSums, change_behind, changes_behind, parts_behind, sum_to}
 use Rattle.seq_report.specs.Report.{sum_at}
 use Rattle.seq_report.proofs.CaseLemmas.{can_be_done, ready}
-use Rattle.seq_report.proofs.SumLemmas.{change_size, changes_more, changes_size, changes_sum, sum_here}
+use Rattle.seq_report.proofs.SumLemmas.{change_size, changes_more, changes_size, changes_sum, room_behind, sum_here}
 use Rattle.what_if.specs.Bases.{Base, IsBase, aboard_first, change_of, changes_on, judged_at, judgement_at, report_on, steps_on}
 use Rattle.what_if.specs.Changes.{AreSmall}
 use Rattle.what_if.specs.Sessions.{IsSummed}
@@ -114,10 +114,11 @@ module _ (base : Base) (sequence : SequenceRecord) (tree : Counted Kept) (total 
       ∙ (λ j. joined (is_base.adds_up.sum j) (values (together j)))
       ∙ changes_sum base.ship.ship.frames sequence.steps is_ready.frames base.arrival.bodies 0 k k (omega arith)
 
-  pub size_after : (r : Kept) → r ≡ both_kept total change → size_of r ≤ parts_to k
-  size_after r joins =
+  pub room_after : (r : Kept) → r ≡ both_kept total change → size_of r + parts_behind sequence.steps k ≤ 2 ^ 19
+  room_after r joins =
       let both = kept_laws.op_weight total change joined_fits in
-      omega (arith, ap size_of joins, both, is_base.adds_up.size, change_fits)
+      room_behind sequence.steps k (size_of r) (omega (arith, is_ready.few, is_ready.long)) (omega (arith, is_ready.long, within))
+      (omega (arith, ap size_of joins, both, is_base.adds_up.size, change_fits))
 
   pub sum_after : (r : Kept) → r ≡ both_kept total change → values r ≡ sum_at base.ship (aboard_first base) sequence.ops k
   sum_after r joins = sum_to_line r joins ∙ sum_here (case_on base.ship base.arrival sequence) is_ready k
@@ -164,7 +165,7 @@ module _ (base : Base) (sequence : SequenceRecord) (tree : Counted Kept) (summed
         record {
           count = ap (λ l. length l) is ∙ length-map changes (both_kept total) ∙ count;
           sum = λ c e low. sum_to_line base sequence tree total is_base summed (start_of ends c) (within c low) (get_or changes c none_kept) (each c none_kept low) (get_or sums c e) (at c e low);
-          size = λ c e low. size_after base sequence tree total is_base summed (start_of ends c) (within c low) (get_or changes c none_kept) (each c none_kept low) (get_or sums c e) (at c e low);
+          size = λ c e low. room_after base sequence tree total is_base summed (start_of ends c) (within c low) (get_or changes c none_kept) (each c none_kept low) (get_or sums c e) (at c e low);
         }
 
 -- the judgement of a step that the list has

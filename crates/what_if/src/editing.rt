@@ -2,7 +2,7 @@ ghost use Rattle.std.specs.Prelude.{◌≡◌, ◌≢◌, ℕ, ◌+◌, ◌*◌,
 ghost use Rattle.std.specs.List.{swap};
 ghost use Rattle.std.specs.Bool.{OnTrue, OnFalse};
 ghost use Rattle.lift_sequence.specs.Follow.{IsLoad, weighed_at};
-ghost use Rattle.step_edits.specs.Edits.{edited, edit_fault};
+ghost use Rattle.step_edits.specs.Edits.{TellsMemory, edited, edit_fault};
 ghost use Rattle.what_if.specs.Bases.{list_fault};
 ghost use Rattle.what_if.specs.Sessions.{IsSummed, refusal, restows_behind, CostsLittle};
 
@@ -20,6 +20,7 @@ use units_core::Kg;
 fn list_refusal(fault: SeqFault) -> EditFault
     ensures memory { fault.code ≡ SeqCode.NoMemory → result ≡ EditFault.NoMemory }
     ensures told { fault.code ≢ SeqCode.NoMemory → result ≡ EditFault.Sequence fault }
+    ensures plain { TellsMemory result }
 {
     match fault.code {
         SeqCode::NoMemory => EditFault::NoMemory,
@@ -38,6 +39,7 @@ impl SummedList {
         ensures refused { IfErr result (λ e. e ≢ EditFault.NoMemory
             → refusal self.old.base self.old.ops edit.now ≡ Some e) }
         ensures before { OnErr result (self.new ≡ self.old) }
+        ensures memory { IfErr result TellsMemory }
         ensures grows { self.old.joins ≤ self.new.joins }
         ensures cost { CostsLittle edit.now self.old.ops self.old.joins self.new.joins }
     {
@@ -115,6 +117,7 @@ impl SummedList {
         ensures legal { OnOk result (refusal self.now.base self.now.ops edit.now ≡ None) }
         ensures refused { IfErr result (λ e. e ≢ EditFault.NoMemory
             → refusal self.now.base self.now.ops edit.now ≡ Some e) }
+        ensures memory { IfErr result TellsMemory }
     {
         let Ok(ops) = edited(self.alloc, self.sequence.ops(), edit) else {
             return Err(EditFault::NoMemory);
@@ -142,6 +145,7 @@ impl SummedList {
         ensures refused { IfErr result (λ e. e ≢ EditFault.NoMemory
             → refusal self.old.base self.old.ops edit.now ≡ Some e) }
         ensures before { OnErr result (self.new ≡ self.old) }
+        ensures memory { IfErr result TellsMemory }
         ensures joins { self.new.joins ≡ self.old.joins }
     {
         let (sequence, tree) = self.rearranged(edit)?;

@@ -8,7 +8,7 @@ ghost use Rattle.run_inputs.specs.Readings.{HasArrived, IsMade};
 ghost use Rattle.seq_report.specs.Plans.{Fits, IsPlanFault};
 ghost use Rattle.run_inputs.specs.Refusals.{TellsMemory, is_refusal, is_write, is_write_fault};
 ghost use Rattle.seq_report.specs.Refusal.{outcome_of};
-ghost use Rattle.step_edits.specs.Edits.{edited};
+ghost use Rattle.step_edits.specs.Edits.{TellsMemory as TellsEditMemory, edited};
 ghost use Rattle.what_if.specs.Bases.{judged_at, list_fault, report_on};
 ghost use Rattle.what_if.specs.Sessions.{AreTold, CostsLittle, refusal};
 
@@ -122,7 +122,7 @@ impl Session {
     }
 
     /// Makes an edit. It is refused where the list hasn't a step that it names (X1), where it reweighs a step that is no load (X2), and where a step of the edited
-    /// list can't be done (X3, with the first such step and why); out of memory (X4) may stand for that. Then everything is as before.
+    /// list can't be done (X3, with the first such step and why); out of memory (X4) may stand for that, and never stands inside X3. Then everything is as before.
     ///
     /// Another weight of a load whose container is restowed r times takes at most (r + 2) (l + 1) joins, where the list has at most 2^l steps; an
     /// exchange of two steps takes at most 2 (l + 1).
@@ -134,6 +134,7 @@ impl Session {
         ensures refused { IfErr result (λ e. e ≢ EditFault.NoMemory
             → refusal self.old.base self.old.ops edit ≡ Some e) }
         ensures before { OnErr result (self.new ≡ self.old) }
+        ensures memory { IfErr result TellsEditMemory }
         ensures grows { self.old.joins ≤ self.new.joins }
         ensures cost { CostsLittle edit self.old.ops self.old.joins self.new.joins }
     {
@@ -208,7 +209,8 @@ impl Session {
             (λ e. is_write_fault e ≡ false → S.contents sink.new ≡ S.contents sink.old) }
         ensures failed { S.has_failed sink.new ≡ is_write result }
         ensures cut_short { IfErr result (λ e. (m : ℕ) → e ≡ RunFault.Write m
-            → (m < length (report_on self.now.base self.now.ops).text)
+            → Fits options.now.cuts (length self.now.ops + 1)
+            × (m < length (report_on self.now.base self.now.ops).text)
             × Appends (S.contents sink.old) (S.contents sink.new)
             (take m (report_on self.now.base self.now.ops).text)) }
         ensures memory { IfErr result TellsMemory }

@@ -163,7 +163,8 @@ impl SummedList {
             (λ e. is_write_fault e ≡ false → S.contents sink.new ≡ S.contents sink.old) }
         ensures failed { S.has_failed sink.new ≡ is_write result }
         ensures cut_short { IfErr result (λ e. (m : ℕ) → e ≡ RunFault.Write m
-            → (m < length (report_on self.now.base self.now.ops).text)
+            → Fits options.now.cuts (length self.now.ops + 1)
+            × (m < length (report_on self.now.base self.now.ops).text)
             × Appends (S.contents sink.old) (S.contents sink.new)
             (take m (report_on self.now.base self.now.ops).text)) }
         ensures memory { IfErr result TellsMemory }

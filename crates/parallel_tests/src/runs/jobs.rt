@@ -87,7 +87,10 @@ fn values_in_order(rt: HostRuntime) -> Result<(), Fail> {
     Ok(())
 }
 
-/// A job whose piece 1 finds no memory, with the pieces counted that have begun and ended.
+/// How long a piece lasts at least, in looks at a number.
+const LOOKS: u32 = 3_000_000;
+
+/// A job whose piece 1 finds no memory, and whose other pieces last a while, with the pieces counted that have begun and ended.
 #[derive(Drop)]
 struct NoMemoryAtOne {
     begun: AtomicU64,
@@ -105,15 +108,21 @@ impl Job for NoMemoryAtOne {
 
     fn piece(&self, _alloc: Global, k: u32) -> Result<u64, AllocError> {
         self.begun.fetch_add(1, SeqCst);
-        self.ended.fetch_add(1, SeqCst);
         if k == 1 {
+            self.ended.fetch_add(1, SeqCst);
             return Err(AllocError);
         }
+        for _ in 0..LOOKS {
+            if self.begun.load(SeqCst) > 3 {
+                break;
+            }
+        }
+        self.ended.fetch_add(1, SeqCst);
         Ok(u64::from(k))
     }
 }
 
-/// Whether a run of three pieces answers an error, and no worker is left in a piece then.
+/// Whether a run of three pieces answers an error, and no worker is left in a piece then: one that wasn't joined would still be in its own.
 fn refuses<R: Threads + Wait + Sync>(rt: &R, alloc: Global, n: u8) -> bool {
     let job = NoMemoryAtOne {
         begun: AtomicU64::new(0),

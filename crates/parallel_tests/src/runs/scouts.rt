@@ -2,6 +2,7 @@
 ghost use Rattle.std.specs.Prelude.{◌≤◌};
 
 use crate::checks::holds;
+use crate::chunks::three_chunks;
 use crate::runs::waits::{holds_until, wait_for};
 use claim_run::{Board, FindsNothing, Gate, Open, Scout, Workers, every_state_is_right, run_least};
 use std::alloc::{AllocError, Global};
@@ -10,51 +11,6 @@ use std::sync::atomic::AtomicBool;
 use std::sync::atomic::Ordering::SeqCst;
 use std::test::Fail;
 use std::thread::Threads;
-
-/// Three chunks of five steps each, which begin at 0, 5 and 10. Step 3 fails, and step 9. It notes the looks at the second and the third.
-#[derive(Drop)]
-struct ThreeChunks {
-    second: AtomicBool,
-    third: AtomicBool,
-}
-
-impl Scout for ThreeChunks {
-    ghost use Rattle.parallel_tests.specs.ThreeChunks.{three_begin, three_find, three_within};
-    ghost use Rattle.std.specs.Prelude.{ℕ};
-
-    ghost begins = { λ _. three_begin };
-
-    ghost finds = { λ _. three_find };
-
-    ghost pieces = { λ _. 3 };
-
-    ghost within = { λ _. three_within };
-
-    fn begin(&self, k: u32) -> u32 {
-        5 * k
-    }
-
-    fn look(&self, k: u32) -> Option<u32> {
-        match k {
-            0 => Some(3),
-            1 => {
-                self.second.store(true, SeqCst);
-                Some(9)
-            }
-            _ => {
-                self.third.store(true, SeqCst);
-                None
-            }
-        }
-    }
-}
-
-fn three_chunks() -> ThreeChunks {
-    ThreeChunks {
-        second: AtomicBool::new(false),
-        third: AtomicBool::new(false),
-    }
-}
 
 /// The least step that two workers find.
 fn least_by_two<S: Scout, G: Gate, R: Threads + Wait + Sync>(
@@ -169,7 +125,7 @@ fn two_hands_one_thread(rt: HostRuntime) -> Result<(), Fail> {
         unreachable!()
     };
     let (board, mut first) = Board::new(rt.alloc(), two, 3, &scout)?;
-    let mut second = board.split(&mut first);
+    let mut second = board.split(&mut first)?;
     let a = board.turn(&Open, 1, &mut second);
     assert!(rt; a == Some(0));
     let b = board.turn(&Open, 0, &mut first);

@@ -106,13 +106,13 @@ fn first_values(alloc: Global, n: u32) -> Result<Vec<Last>, AllocError>
     Ok(values)
 }
 
-// 60,000 values are at most 2^16, so that no call makes more than 17 joins. The places go from 0 to 59,999.
+// 60,000 values are at most 2^16, so that no call makes more than 17 joins, at any of the places.
 #[test]
 fn counted_joins(rt: HostRuntime) -> Result<(), Fail> {
     let values = first_values(rt.alloc(), 60_000)?;
     let mut tree = TotalsTree::build(rt.alloc(), &values)?;
-    for k in 0..101 {
-        let (by_set, by_prefix) = rises(&mut tree, k * 59_999 / 100);
+    for k in 0..60_000 {
+        let (by_set, by_prefix) = rises(&mut tree, k);
         holds(&rt, by_set <= 17);
         holds(&rt, by_prefix <= 17);
     }

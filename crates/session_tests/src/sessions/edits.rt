@@ -1,12 +1,15 @@
 //! Edits of a short list of the box ship, with every figure from the worked reports of the same loads. What else edits do, and which are refused,
 //! is tested by runs of the program (`tests/program.d/trials`).
-use super::{AFT, BOTH, STARBOARD, TWO_LOADS, check_report, session};
+use super::{AFT, BOTH, STARBOARD, TWO_LOADS, check_report, report_of, session};
 use crate::checks::{holds, same};
 use criteria::Verdict;
+use lift_sequence::{SeqCode, SeqFault};
 use std::process::Abort;
 use std::sync::Wait;
 use std::test::Fail;
 use std::thread::Threads;
+use step_edits::{EditFault, copies};
+use units_core::Kg;
 use what_if::{Edit, Session};
 
 /// Both loads are swapped, and swapped back. The session is lent: its owner lets go of it at each `?`, which the proof pays for.
@@ -29,6 +32,49 @@ fn swap_and_undo(
 fn session_edits(rt: HostRuntime) -> Result<(), Fail> {
     let mut session = session(rt.alloc(), TWO_LOADS)?;
     swap_and_undo(&rt, &mut session)
+}
+
+/// Loads a container and discharges it again.
+const IN_AND_ASHORE: &[u8] =
+    b"UNB+UNOA:2+PLAN+SHIP+250101:1200+8'UNH+1+MOVINS:D:95B:UN'HAN+LOA'LOC+147+0030782::5'MEA+WT++KGM:20500'EQD+CN+ABCU1234560'HAN+DIS'LOC+147+0030782::5'EQD+CN+ABCU1234560'UNT+9+1'UNZ+1+8'";
+
+/// An edit is refused so, and leaves the list and its report as they were, with nothing to take back.
+fn check_refused(
+    rt: &(impl Abort + AllocGlobal + Threads + Wait + Sync),
+    session: &mut Session,
+    edit: Edit,
+    fault: EditFault,
+) -> Result<(), Fail> {
+    let before = copies(rt.alloc(), session.lifts())?;
+    let report = report_of(rt, session);
+    same(rt, session.apply(edit), Err(fault));
+    holds(rt, session.lifts() == before.as_slice());
+    same(rt, report_of(rt, session).as_slice(), report.as_slice());
+    same(rt, session.undo(), Ok(false));
+    Ok(())
+}
+
+// There are two steps, of which the second has no weight of its own, and can't be done without the first.
+#[test]
+fn refused_edits(rt: HostRuntime) -> Result<(), Fail> {
+    let mut session = session(rt.alloc(), IN_AND_ASHORE)?;
+    let empty = EditFault::Sequence(SeqFault {
+        code: SeqCode::CellEmpty,
+        at: 1,
+    });
+    let Some(heavy) = Kg::new(20_501) else {
+        unreachable!()
+    };
+    let reweigh = Edit::Reweigh { at: 2, kg: heavy };
+    check_refused(
+        &rt,
+        &mut session,
+        Edit::Swap { a: 1, b: 3 },
+        EditFault::NoStep,
+    )?;
+    check_refused(&rt, &mut session, reweigh, EditFault::NotLoad)?;
+    check_refused(&rt, &mut session, Edit::Remove { at: 1 }, empty)?;
+    Ok(())
 }
 
 #[test]

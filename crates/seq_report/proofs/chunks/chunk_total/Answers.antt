@@ -1,8 +1,8 @@
-use Rattle.std.proofs.Common.{◌≡◌, ◌∙◌, ◌+◌, ◌-◌, ap, sym, arith}
+use Rattle.std.proofs.Common.{◌≡◌, ◌∙◌, ◌+◌, ◌-◌, slice_get, ap, sym, arith}
 use Rattle.std.specs.List.{range_with_len}
 use Rattle.moment_sums.specs.Kept.{both_kept, size_of}
 use Rattle.seq_report.specs.Chunks.{change_behind, changes_behind}
-use Rattle.seq_report.proofs.SumLemmas.{changes_more, changes_size}
+use Rattle.seq_report.proofs.SumLemmas.{changes_more, changes_size, few_bodies}
 use Rattle.seq_report.proofs.chunks.chunk_total.Goals as goal
 
 pub loop-k-init : goal.loop-k-init
@@ -20,7 +20,7 @@ pass_line-requires-clause-room c =
     let start = c.args.start in
     let k = c.loop-k.k in
     let so_far = changes_size frames steps start (k - start) (omega (arith, c.loop-k-test.true, c.requires.there, c.requires.ready.few)) in
-    omega (arith, c.loop-k-test.true, c.requires.there, c.requires.ready.few, ap size_of c.loop-k.invariant, so_far)
+    omega (arith, c.loop-k-test.true, c.requires.there, c.requires.ready.few, ap size_of c.loop-k.invariant, so_far, few_bodies (slice_get steps k))
 
 pub loop-k-preserved : goal.loop-k-preserved
 loop-k-preserved c =

@@ -5,7 +5,6 @@ use Rattle.moment_sums.specs.Kept.{bodies_of, both_kept, kept_of, size_of}
 use Rattle.moment_sums.specs.KeptLaws.{kept_laws}
 use Rattle.moment_sums.specs.Sum.{changed_by}
 use Rattle.seq_report.specs.Chunks.{bodies_in, changed_in}
-use Rattle.seq_report.proofs.SumLemmas.{few_bodies}
 use Rattle.seq_report.proofs.chunks.pass_line.Goals as goal
 
 pub returns-then-k-len : goal.returns-then-k-len
@@ -20,7 +19,12 @@ returns-then-k-len c =
     ∙ ap (λ (o : Option Step). both_kept sum (kept_of (changed_in frames o) (bodies_in o))) (sym none)
 
 pub add_step-requires : goal.add_step-requires
-add_step-requires c = omega (arith, c.requires.room, few_bodies (Some c.step.result))
+add_step-requires c =
+    let steps = c.args.case.sequence.now.steps in
+    let k = c.args.k in
+    let same : k + 1 - 1 ≡ k = omega arith in
+    let there : slice_get steps k ≡ Some c.step.result = ap (slice_get steps) (sym same) ∙ c.step.ensures in
+    omega (arith, c.requires.room, ap bodies_in there)
 
 pub returns : goal.returns
 returns c =

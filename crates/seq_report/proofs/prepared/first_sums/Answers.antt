@@ -14,7 +14,7 @@ offsets-requires g c =
     let steps = s.case.sequence.now.steps in
     let ends = s.cuts.now in
     let are = c.in_ok-totals.ensures ∙ ap (λ n. map (λ k. changes_behind frames steps (chunk_of ends k)) (range_with_len 0 n)) c.chunks.ensures in
-    let fit = sizes_fit frames s.case.arrival.now.bodies steps ends (length s.case.sequence.now.ops + 1) c.in_ok-totals.totals.items s.ready.frames s.cut (omega (arith, s.ready.few)) are in
+    let fit = sizes_fit frames s.case.arrival.now.bodies steps ends (length s.case.sequence.now.ops + 1) c.in_ok-totals.totals.items s.ready.frames s.cut (omega (arith, s.ready.few)) (omega (arith, s.ready.long)) are in
     omega (arith, ap (sum_by size_of) c.deref.ensures.value, fit)
 
 pub joined_to_arrival-requires-clause-sizes : goal.joined_to_arrival-requires-clause-sizes
@@ -26,12 +26,13 @@ joined_to_arrival-requires-clause-sizes g c =
     let arrival = s.case.arrival.now.bodies in
     let totals = c.in_ok-totals.totals.items in
     let few : length s.case.sequence.now.ops + 1 ≤ 120001 = omega (arith, s.ready.few) in
+    let long : length s.case.sequence.now.ops + 1 ≡ length s.case.sequence.now.steps + 1 = omega (arith, s.ready.long) in
     let are = c.in_ok-totals.ensures ∙ ap (λ n. map (λ k. changes_behind frames steps (chunk_of ends k)) (range_with_len 0 n)) c.chunks.ensures in
     let is : c.deref-2.result.now ≡ offset_list none_kept both_kept totals = c.deref-2.ensures.value ∙ c.in_ok-before.ensures ∙ ap (offset_list none_kept both_kept) c.deref.ensures.value in
     λ k d low.
-    let count = offset_count frames arrival steps ends (length s.case.sequence.now.ops + 1) totals s.ready.frames s.cut few are in
+    let count = offset_count frames arrival steps ends (length s.case.sequence.now.ops + 1) totals s.ready.frames s.cut few long are in
     subst (λ (l : List Kept). size_of (get_or l k d) ≤ 2 ^ 18) (sym is)
-    (offsets_fit frames arrival steps ends (length s.case.sequence.now.ops + 1) totals s.ready.frames s.cut few are k d (omega (arith, low, ap length is, count)))
+    (offsets_fit frames arrival steps ends (length s.case.sequence.now.ops + 1) totals s.ready.frames s.cut few long are k d (omega (arith, low, ap length is, count)))
 
 pub returns : goal.returns
 returns g c =
@@ -44,6 +45,6 @@ returns g c =
     let are = c.in_ok-totals.ensures ∙ ap (λ n. map (λ k. changes_behind frames steps (chunk_of ends k)) (range_with_len 0 n)) c.chunks.ensures in
     let is : c.deref-2.result.now ≡ offset_list none_kept both_kept totals = c.deref-2.ensures.value ∙ c.in_ok-before.ensures ∙ ap (offset_list none_kept both_kept) c.deref.ensures.value in
     IfOk-weaker c.joined_to_arrival.result _ _
-    (λ sums made. are_first_sums frames arrival steps ends (length s.case.sequence.now.ops + 1) totals s.ready.frames s.cut (omega (arith, s.ready.few)) are
+    (λ sums made. are_first_sums frames arrival steps ends (length s.case.sequence.now.ops + 1) totals s.ready.frames s.cut (omega (arith, s.ready.few)) (omega (arith, s.ready.long)) are
     c.arrival_total.result c.arrival_total.ensures.size c.arrival_total.ensures.sum sums.items (made ∙ ap (map (both_kept c.arrival_total.result)) is))
     c.joined_to_arrival.ensures

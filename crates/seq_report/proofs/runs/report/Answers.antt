@@ -23,7 +23,7 @@ returns-clause-unfit g c = IfErr-weaker c.report_prepared.result _ _ (λ e of fa
 
 pub returns-clause-cut_short : goal.returns-clause-cut_short
 returns-clause-cut_short g c =
-    IfErr-weaker c.report_prepared.result _ _ (λ e h m is. (outcome_in c.in-Ok.made.case, c.in-Ok.ensures.ok, (h m is).0, (h m is).1)) c.report_prepared.ensures.cut_short
+    IfErr-weaker c.report_prepared.result _ _ (λ e h m is. (outcome_in c.in-Ok.made.case, c.in-Ok.ensures.ok, c.in-Ok.ensures.fits, (h m is).0, (h m is).1)) c.report_prepared.ensures.cut_short
 
 pub returns-clause-memory : goal.returns-clause-memory
 returns-clause-memory g c = IfErr-weaker c.report_prepared.result _ _ tells c.report_prepared.ensures.fault

@@ -7,7 +7,7 @@ use Rattle.seq_report.specs.Cases.{line_in, seen}
 use Rattle.seq_report.specs.Chunks.{change_behind}
 use Rattle.seq_report.specs.Report.{first_of}
 use Rattle.seq_report.proofs.ChunkLemmas.{first_here, or_other, or_some}
-use Rattle.seq_report.proofs.SumLemmas.{line_told, next_size, next_sum, sum_here}
+use Rattle.seq_report.proofs.SumLemmas.{line_told, next_size, next_sum, parts_split, sum_here}
 use Rattle.seq_report.proofs.sections.first_failing.Goals as goal
 
 pub judge-requires-clause-bounded : goal.judge-requires-clause-bounded
@@ -19,8 +19,8 @@ judge-requires-clause-bounded c =
 
 pub pass_line-requires-clause-room : goal.pass_line-requires-clause-room
 pass_line-requires-clause-room c =
-    let inside : c.loop-k.k ≤ 120000 = omega (arith, c.loop-k-test.true, c.requires.chunk.inside, c.requires.ready.few) in
-    omega (arith, inside, c.loop-k.invariant.size)
+    let split = parts_split (seen c.args.case).sequence.steps c.loop-k.k in
+    omega (arith, split, c.loop-k.invariant.size)
 
 pub returns-then-is_some : goal.returns-then-is_some
 returns-then-is_some c =
@@ -40,11 +40,10 @@ loop-k-preserved c =
     let e = c.args.chunk.now.end in
     let inv = c.loop-k.invariant in
     let told = line_told case ready k (values c.loop-k.sum) _ _ inv.sum c.judge.ensures c.failure-failure.ensures in
-    let inside : k ≤ 120000 = omega (arith, c.loop-k-test.true, c.requires.chunk.inside, ready.few) in
     record {
       first = inv.first ∙ first_here case k e c.loop-k-test.true
           ∙ ap (λ o. option_or o (first_of (map (line_in case) (range_with_len (k + 1) (e - (k + 1)))))) (sym told)
           ∙ or_other c.failure-failure.result _ (sym c.is_some.ensures ∙ c.if-is_some.false);
       sum = next_sum case ready k c.loop-k.sum (change_behind case.profile.ship.frames case.sequence.steps k) c.pass_line.new.sum inv.sum refl c.pass_line.ensures;
-      size = next_size case ready k inside c.loop-k.sum (change_behind case.profile.ship.frames case.sequence.steps k) c.pass_line.new.sum inv.size refl c.pass_line.ensures;
+      size = next_size case ready k c.loop-k.sum (change_behind case.profile.ship.frames case.sequence.steps k) c.pass_line.new.sum inv.size refl c.pass_line.ensures;
     }

@@ -8,7 +8,7 @@ use Rattle.seq_report.specs.Cases.{line_in, seen}
 use Rattle.seq_report.specs.Chunks.{Part, change_behind, part_of}
 use Rattle.seq_report.specs.Report.{Line, Said, failure_of, lift_to, line_of, step_line, text_of}
 use Rattle.seq_report.proofs.ChunkLemmas.{part_more}
-use Rattle.seq_report.proofs.SumLemmas.{line_here, next_size, next_sum, sum_here}
+use Rattle.seq_report.proofs.SumLemmas.{line_here, next_size, next_sum, parts_split, sum_here}
 use Rattle.seq_report.proofs.sections.make_section.Goals as goal
 
 pub judge-requires-clause-bounded : goal.judge-requires-clause-bounded
@@ -20,8 +20,8 @@ judge-requires-clause-bounded c =
 
 pub pass_line-requires-clause-room : goal.pass_line-requires-clause-room
 pass_line-requires-clause-room c =
-    let inside : c.loop-k.k ≤ 120000 = omega (arith, c.loop-k-test.true, c.requires.chunk.inside, c.requires.ready.few) in
-    omega (arith, inside, c.loop-k.invariant.size)
+    let split = parts_split (seen c.args.case).sequence.steps c.loop-k.k in
+    omega (arith, split, c.loop-k.invariant.size)
 
 pub loop-k-preserved : goal.loop-k-preserved
 loop-k-preserved c =
@@ -30,8 +30,6 @@ loop-k-preserved c =
     let ops = case.sequence.ops in
     let k = c.loop-k.k in
     let start = c.args.chunk.now.start in
-    let inside = c.loop-k-test.true in
-    let there = c.requires.chunk.inside in
     let inv = c.loop-k.invariant in
     let n = k - start in
     let lines = map (line_in case) (range_with_len start n) in
@@ -48,5 +46,5 @@ loop-k-preserved c =
           ∙ ap part_of (sym (map-range_with_len_more (line_in case) start n k here))
           ∙ ap (λ m. part_of (map (line_in case) (range_with_len start m))) more;
       sum = next_sum case ready k c.loop-k.sum (change_behind case.profile.ship.frames case.sequence.steps k) c.pass_line.new.sum inv.sum refl c.pass_line.ensures;
-      size = next_size case ready k (omega (arith, inside, there)) c.loop-k.sum (change_behind case.profile.ship.frames case.sequence.steps k) c.pass_line.new.sum inv.size refl c.pass_line.ensures;
+      size = next_size case ready k c.loop-k.sum (change_behind case.profile.ship.frames case.sequence.steps k) c.pass_line.new.sum inv.size refl c.pass_line.ensures;
     }

@@ -10,8 +10,8 @@ pub invariant_of-result : goal.invariant_of-result
 invariant_of-result c =
     let hands = c.in_ok-workers.ensures.hands in
     let ws = c.in_ok-workers.workers.items in
-    let begins = c.in_ok-begins.begins.items in
-    let found = c.in_ok-found.found.items in
+    let begins = c.extend_from_slice.new.self.items in
+    let found = c.extend_from_slice-2.new.self.items in
     let count : length ws ≡ c.args.workers = sym (length-map ws hand_of) ∙ ap length hands ∙ length-replicate c.args.workers idle in
     let same : begins ≡ c.args.begins.now = search rules in
     let size = ap length same in

@@ -1,5 +1,6 @@
 use Rattle.std.proofs.Common.{◌∙◌, ap, sym, arith}
 use Rattle.seq_report.specs.Cases.{seen, sum_in}
+use Rattle.seq_report.specs.Chunks.{parts_behind}
 use Rattle.seq_report.proofs.jobs.Lines.chunk.Goals as goal
 
 pub returns-clause-chunk : goal.returns-clause-chunk
@@ -12,5 +13,5 @@ returns-clause-chunk c =
       some = c.lines_of-lines.ensures.some;
       inside = c.lines_of-lines.ensures.inside;
       sum = sums.sum c.args.k at c.requires ∙ ap (sum_in case) (sym start);
-      size = let size = sums.size c.args.k at c.requires in omega (arith, size, start);
+      size = let size = sums.size c.args.k at c.requires in omega (arith, size, ap (parts_behind case.sequence.steps) start);
     }

@@ -14,7 +14,7 @@ returns-in-Reweigh-clause-legal c =
     let now = c.args.self.now in
     let edit = c.args.edit.now in
     let same = c.ops.ensures ∙ ap (λ (v : Summed). v.ops) c.self.view_is in
-    let own : edit_fault now.ops edit ≡ None = ap (λ l. edit_fault l edit) (sym same) ∙ sym c.fault_of.ensures ∙ c.in_default.is in
+    let own : edit_fault now.ops edit ≡ None = ap (λ l. edit_fault l edit) (sym same) ∙ sym c.fault_of.ensures.exact ∙ c.in_default.is in
     let made : c.reweigh.new.self.ops ≡ edited now.ops edit
     = c.reweigh.ensures.ops ∙ ap (λ i. weighed_at c.in-Reweigh.kg i now.ops) (place_less c.in-Reweigh.at) ∙ ap (edited now.ops) (sym c.in-Reweigh.is) in
     let list : list_fault now.base (edited now.ops edit) ≡ None = ap (list_fault now.base) (sym made) ∙ c.reweigh.ensures.legal in
@@ -31,7 +31,7 @@ returns-then-exchange-clause-legal c =
     let now = c.args.self.now in
     let edit = c.args.edit.now in
     let same = c.ops.ensures ∙ ap (λ (v : Summed). v.ops) c.self.view_is in
-    let own : edit_fault now.ops edit ≡ None = ap (λ l. edit_fault l edit) (sym same) ∙ sym c.fault_of.ensures ∙ c.in_default.is in
+    let own : edit_fault now.ops edit ≡ None = ap (λ l. edit_fault l edit) (sym same) ∙ sym c.fault_of.ensures.exact ∙ c.in_default.is in
     let made : c.exchange.new.self.ops ≡ edited now.ops edit
     = c.if-exchange.ensures.ops ∙ (λ i. swap now.ops (place_less c.in-Swap.a i) (place_less c.in-Swap.b i)) ∙ ap (edited now.ops) (sym c.in-Swap.is) in
     let list : list_fault now.base (edited now.ops edit) ≡ None = ap (list_fault now.base) (sym made) ∙ c.if-exchange.ensures.legal in

@@ -1,0 +1,80 @@
+//! Lists that are published and opened, of which growths are refused.
+ghost use Rattle.std.specs.Prelude.{◌≡◌};
+ghost use Rattle.what_if.specs.Desks.{IsOf};
+
+use crate::trials::{Told, Trial};
+use lift_sequence::Op;
+use std::sync::Wait;
+use std::thread;
+use std::thread::Threads;
+use what_if::{Desk, Session, Ticket};
+
+/// Whether a ticket opens to a list.
+fn opens_to(desk: &Desk, ticket: &Ticket, list: &[Op]) -> bool
+    requires { IsOf desk.now ticket.now }
+{
+    match desk.open(ticket) {
+        Ok(session) => session.lifts() == list,
+        Err(_) => false,
+    }
+}
+
+/// A list that is published at a desk where another was published before, in each of two threads.
+#[derive(Drop)]
+pub struct Publishing<'a> {
+    pub desk: &'a Desk,
+    pub session: &'a Session,
+    pub early: &'a Ticket,
+    pub list: &'a [Op],
+    pub ghost same: { session.now.base ≡ desk.now.base },
+    pub ghost of: { IsOf desk.now early.now },
+}
+
+impl<'a, R: AllocGlobal + Threads + Wait + Sync> Trial<R> for Publishing<'a> {
+    fn call(&mut self, rt: &R) -> Told {
+        let desk = self.desk;
+        let session = self.session;
+        let (one, other) = thread::join(
+            rt,
+            || desk.publish(rt, session).is_ok(),
+            || desk.publish(rt, session).is_ok(),
+        );
+        if one && other {
+            Told::Right
+        } else {
+            Told::Short
+        }
+    }
+
+    fn is_as_before(&mut self, _rt: &R) -> bool {
+        opens_to(self.desk, self.early, self.list)
+    }
+
+    fn is_done(&mut self, _rt: &R) -> bool {
+        opens_to(self.desk, self.early, self.list)
+    }
+}
+
+/// The list that is published first, opened.
+#[derive(Drop)]
+pub struct Opened<'a> {
+    pub of: Publishing<'a>,
+}
+
+impl<'a, R: AllocGlobal> Trial<R> for Opened<'a> {
+    fn call(&mut self, _rt: &R) -> Told {
+        match self.of.desk.open(self.of.early) {
+            Ok(session) if session.lifts() == self.of.list => Told::Right,
+            Ok(_) => Told::Wrong,
+            Err(_) => Told::Short,
+        }
+    }
+
+    fn is_as_before(&mut self, _rt: &R) -> bool {
+        opens_to(self.of.desk, self.of.early, self.of.list)
+    }
+
+    fn is_done(&mut self, _rt: &R) -> bool {
+        opens_to(self.of.desk, self.of.early, self.of.list)
+    }
+}

@@ -1,0 +1,154 @@
+//! Reports, first failing steps and runs of which growths are refused.
+use crate::texts::NO_STEPS;
+use crate::trials::{Told, Trial};
+use box_ship::EMPTY_PLAN;
+use claim_run::{Gate, Open, Workers, run_least};
+use parallel_tests::three_chunks;
+use seq_report::{CutPlan, Inputs, Options, RunFault, Through, first_fail, report};
+use ship_profile::ProfileBytes;
+use std::sync::Wait;
+use std::sync::atomic::AtomicU64;
+use std::sync::atomic::Ordering::SeqCst;
+use std::thread::Threads;
+
+/// How often a worker looks at most whether the others have a chunk too.
+const TURNS: u32 = 200_000;
+
+/// How many workers make a report: as many as it has chunks, so that each draws one.
+const WORKERS: u64 = 3;
+
+/// A gate at which workers wait until each has drawn a chunk, so that each has growths.
+#[derive(Drop)]
+struct Together {
+    drawn: AtomicU64,
+}
+
+impl Gate for Together {
+    fn pass(&self, _worker: u8, _chunk: u32) {
+        let before = self.drawn.fetch_add(1, SeqCst);
+        let all = (before / WORKERS).saturating_add(1).saturating_mul(WORKERS);
+        for _ in 0..TURNS {
+            if self.drawn.load(SeqCst) >= all {
+                return;
+            }
+        }
+    }
+}
+
+/// Three workers over chunks of one line.
+fn options() -> Options<'static> {
+    let Some(workers) = Workers::new(WORKERS as u8) else {
+        unreachable!()
+    };
+    Options {
+        workers,
+        cuts: CutPlan::Every(1),
+    }
+}
+
+/// The report on some steps of a ship with nothing aboard, into an array.
+#[derive(Drop)]
+pub struct Report<'a> {
+    pub profile: ProfileBytes<'a>,
+    pub movins: &'a [u8],
+    pub steps: &'a [u8],
+    pub text: &'a [u8],
+}
+
+impl<'a> Report<'a> {
+    /// What it is made of.
+    fn inputs(&self) -> Inputs<'a> {
+        Inputs {
+            profile: self.profile,
+            baplie: EMPTY_PLAN,
+            movins: self.movins,
+            steps: if self.steps == NO_STEPS {
+                None
+            } else {
+                Some(self.steps)
+            },
+        }
+    }
+}
+
+impl<'a, R: AllocGlobal + Threads + Wait + Sync> Trial<R> for Report<'a> {
+    fn call(&mut self, rt: &R) -> Told {
+        let gate = Together {
+            drawn: AtomicU64::new(0),
+        };
+        let mut room = [0u8; 2048];
+        let outcome = report(
+            rt,
+            rt.alloc(),
+            &gate,
+            &self.inputs(),
+            &options(),
+            &mut Through::new(room.as_mut_slice()),
+        );
+        match outcome {
+            Ok(_) if room.as_slice().starts_with(self.text) => Told::Right,
+            Err(RunFault::NoMemory) if room[0] == 0 => Told::Short,
+            _ => Told::Wrong,
+        }
+    }
+
+    fn is_as_before(&mut self, _rt: &R) -> bool {
+        true
+    }
+
+    fn is_done(&mut self, _rt: &R) -> bool {
+        true
+    }
+}
+
+/// The first failing step of the same, of which there is none.
+#[derive(Drop)]
+pub struct First<'a> {
+    pub of: Report<'a>,
+}
+
+impl<'a, R: AllocGlobal + Threads + Wait + Sync> Trial<R> for First<'a> {
+    fn call(&mut self, rt: &R) -> Told {
+        let gate = Together {
+            drawn: AtomicU64::new(0),
+        };
+        match first_fail(rt, rt.alloc(), &gate, &self.of.inputs(), &options()) {
+            Ok(None) => Told::Right,
+            Err(RunFault::NoMemory) => Told::Short,
+            _ => Told::Wrong,
+        }
+    }
+
+    fn is_as_before(&mut self, _rt: &R) -> bool {
+        true
+    }
+
+    fn is_done(&mut self, _rt: &R) -> bool {
+        true
+    }
+}
+
+/// The least step that two workers find in three chunks.
+#[derive(Drop)]
+pub struct EarlyStop;
+
+impl<R: AllocGlobal + Threads + Wait + Sync> Trial<R> for EarlyStop {
+    fn call(&mut self, rt: &R) -> Told {
+        let Some(two) = Workers::new(2) else {
+            unreachable!()
+        };
+        match run_least(rt, rt.alloc(), &Open, two, 3, &three_chunks()) {
+            Ok(Some(3)) => Told::Right,
+            Err(_) => Told::Short,
+            _ => Told::Wrong,
+        }
+    }
+
+    fn is_as_before(&mut self, _rt: &R) -> bool {
+        true
+    }
+
+    fn is_done(&mut self, _rt: &R) -> bool {
+        true
+    }
+}
