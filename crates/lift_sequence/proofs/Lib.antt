@@ -12,7 +12,6 @@ pub mod Overlaps
 pub mod PlaceLemmas
 pub mod RivalLemmas
 pub mod ShiftLemmas
-pub mod SlotLemmas
 pub mod States
 pub mod Totals
 pub mod WalkLemmas

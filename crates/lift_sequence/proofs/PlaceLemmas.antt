@@ -1,5 +1,5 @@
 -- Whatever is put aboard legally has its place in the ship.
-use Rattle.std.proofs.Common.{◌≡◌, ℕ, zero, suc, ◌+◌, ◌<◌, arith, get_or, All, List, [], ◌∷◌, length, take, Bool, true, false, cond, nat_eq, nat_lt, Option, None, Some, refl, sym, ap, ◌∙◌, eqb-true}
+use Rattle.std.proofs.Common.{◌≡◌, ℕ, zero, suc, ◌+◌, List, [], ◌∷◌, length, take, Bool, true, false, cond, nat_eq, nat_lt, Option, None, Some, refl, sym, ap, ◌∙◌, eqb-true}
 use Rattle.std.specs.Prelude.{if◌then◌else◌}
 use Rattle.std.specs.Option.{is_some, option_or}
 use Rattle.std.proofs.lemmas.Option.{none-some, same_Some}
@@ -70,22 +70,6 @@ module _ (ship : ProfileRecord) where
       let parts = none_first number (over_fault (tank_body ship fill.tank fill.kg)) (fills_fault ship (number + 1) more) legal in
       fills_places (with_tank at (Some fill.tank) fill.kg) (number + 1) more
       (in_tank at fill.tank fill.kg places (has_body (tank_body ship fill.tank fill.kg) parts.0)) parts.1
-
-  known : (at : Aboard) (number : ℕ) (items : List Item) → items_fault ship at number items ≡ None
-      → (i : ℕ) (d : Item) → i < length items → is_some (place_of ship (get_or items i d).cell) ≡ true
-  known at number [] legal i d inside = absurd (omega arith)
-  known at number (item ∷ more) legal zero d inside =
-      let next = with_cell at item.cell (Some (container_of item)) in
-      let parts = none_first number (stand_fault ship at item.cell) (items_fault ship next (number + 1) more) legal in
-      has_place at item.cell parts.0
-  known at number (item ∷ more) legal (suc i) d inside =
-      let next = with_cell at item.cell (Some (container_of item)) in
-      let parts = none_first number (stand_fault ship at item.cell) (items_fault ship next (number + 1) more) legal in
-      known next (number + 1) more parts.1 i d (omega arith)
-
-  -- each item that is legally aboard stands in one of her cells
-  pub items_known : (items : List Item) (fills : List TankFill) → arrival_fault ship items fills ≡ None → All (λ (item : Item). is_some (place_of ship item.cell) ≡ true) items
-  items_known items fills legal = known nothing 1 items (neither (items_fault ship nothing 1 items) (fills_fault ship 1 fills) legal).0
 
   pub arrival_places : (items : List Item) (fills : List TankFill) → arrival_fault ship items fills ≡ None → HasPlaces ship (on_arrival items fills)
   arrival_places items fills legal =

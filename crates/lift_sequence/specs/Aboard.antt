@@ -1,12 +1,12 @@
 -- What is aboard: what stands in each cell, and how much each tank holds; and what one step makes of it.
-use Rattle.std.specs.Prelude.{ℕ, List, [], ◌∷◌, Option, None, Some, nat_eq, get_or}
+use Rattle.std.specs.Prelude.{ℕ, List, [], ◌∷◌, Option, None, Some, nat_eq}
 use Rattle.std.specs.Map.{update}
 use Rattle.indexmap.specs.IndexMap.{get}
 use Rattle.units_core.specs.declared.cells.Cell.{Cell}
 use Rattle.units_core.specs.Cells.{cell_eq}
 use Rattle.stow_messages.specs.declared.items.Item.{Item}
 use Rattle.stow_messages.specs.declared.lifts.Lift.TheVariants.{Load, Discharge}
-use Rattle.ship_profile.specs.Record.{ProfileRecord, number_of, tank_of}
+use Rattle.ship_profile.specs.Record.{ProfileRecord, tank_of}
 use Rattle.lift_sequence.specs.declared.containers.Container.{Container}
 use Rattle.lift_sequence.specs.declared.operations.Op as operation
 use Rattle.lift_sequence.specs.declared.operations.Op.TheVariants.{Lift, Fill, Restow}
@@ -20,14 +20,9 @@ pub record Aboard : Type 0 where
 abbrev pub nothing : Aboard
 nothing = record { cells = λ cell. None; tanks = λ tank. None }
 
--- what stands in the cell of a number, if the ship has the cell
-abbrev pub slot_at : List (Option Container) → Option ℕ → Option Container
-slot_at slots None = None
-slot_at slots (Some number) = get_or slots number None
-
--- what the code's tables hold, aboard this ship
-abbrev pub cargo_in : ProfileRecord → Stowage → Aboard
-cargo_in ship s = record { cells = λ cell. slot_at s.cells.items (number_of ship cell); tanks = get nat_eq s.tanks }
+-- what the code's tables hold
+abbrev pub cargo_in : Stowage → Aboard
+cargo_in s = record { cells = get cell_eq s.cells; tanks = get nat_eq s.tanks }
 
 abbrev pub container_of : Item → Container
 container_of item = record { id = item.id; kg = item.kg }

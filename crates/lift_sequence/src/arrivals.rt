@@ -1,6 +1,5 @@
-ghost use Rattle.std.specs.Prelude.{◌≡◌, ◌↔◌, IsTrue, ◌≤◌, ◌++◌, [], length, All, OnOk, IfOk, IfErr, Some, None, true};
-ghost use Rattle.std.specs.Option.{is_some};
-ghost use Rattle.ship_profile.specs.Record.{IsSound, ProfileRecord, place_of};
+ghost use Rattle.std.specs.Prelude.{◌≡◌, ◌↔◌, IsTrue, ◌≤◌, ◌++◌, [], length, OnOk, IfOk, IfErr, Some, None};
+ghost use Rattle.ship_profile.specs.Record.{IsSound};
 ghost use Rattle.lift_sequence.specs.Aboard.{cargo_in, nothing, with_item, container_of};
 ghost use Rattle.lift_sequence.specs.Arrival.{AddUpTo, AreFilledOnce, TellsAt, arrival_bodies, arrival_fault, cargo_on, fill_bodies, fills_fault, item_bodies, items_fault, on_arrival, with_fills, with_items};
 ghost use Rattle.lift_sequence.specs.Bodies.{item_body};
@@ -36,12 +35,12 @@ impl Model for Arrival {
 /// Puts an item aboard, where it can stand.
 fn stow_item(stowage: &mut Stowage, profile: &Profile, item: &Item) -> Result<Body, SeqCode>
     ensures legal { OnOk result
-        (stand_fault profile.now (cargo_in profile.now stowage.old) item.now.cell ≡ None) }
+        (stand_fault profile.now (cargo_in stowage.old) item.now.cell ≡ None) }
     ensures aboard { OnOk result
-        (cargo_in profile.now stowage.new ≡ with_item (cargo_in profile.now stowage.old) item.now) }
+        (cargo_in stowage.new ≡ with_item (cargo_in stowage.old) item.now) }
     ensures body { IfOk result (λ b. item_body profile.now item.now ≡ Some b) }
     ensures refused { IfErr result
-        (Tells (stand_fault profile.now (cargo_in profile.now stowage.old) item.now.cell)) }
+        (Tells (stand_fault profile.now (cargo_in stowage.old) item.now.cell)) }
 {
     stowage.stow(profile, item.cell, container_of(item))
 }
@@ -54,7 +53,7 @@ fn stow_items(
     bodies: &mut Vec<Body>,
 ) -> Result<(), SeqFault>
     requires sound { IsSound profile.now }
-    requires nothing { cargo_in profile.now stowage.old ≡ nothing }
+    requires nothing { cargo_in stowage.old ≡ nothing }
     requires none { bodies.old.items ≡ [] }
     ensures legal { OnOk result (items_fault profile.now nothing 1 items.now ≡ None) }
     ensures bodies { OnOk result (bodies.new.items ≡ item_bodies profile.now items.now) }
@@ -85,7 +84,9 @@ fn item_bodies(alloc: Global, profile: &Profile, items: &[Item]) -> Result<Vec<B
     ensures refused { IfErr result (TellsAt (items_fault profile.now nothing 1 items.now)) }
     ensures memory { IfErr result (λ e. e.code ≡ SeqCode.NoMemory → e.at ≡ 0) }
 {
-    let mut stowage = Stowage::empty(alloc);
+    let Ok(mut stowage) = Stowage::with_room(alloc, items.len()) else {
+        return Err(NO_MEMORY);
+    };
     let mut bodies = Vec::new(alloc);
     stow_items(profile, &mut stowage, items, &mut bodies)?;
     Ok(bodies)
@@ -193,37 +194,29 @@ impl Arrival {
     }
 
     /// What is aboard, to go on from.
-    pub(crate) fn stowage(&self, alloc: Global, profile: &Profile) -> Result<Stowage, AllocError>
-        requires { IsOf profile.now self.now }
-        ensures { IfOk result (λ s. cargo_in profile.now s ≡ cargo_on self.now) }
+    pub(crate) fn stowage(&self, alloc: Global) -> Result<Stowage, AllocError>
+        ensures { IfOk result (λ s. cargo_in s ≡ cargo_on self.now) }
     {
-        let mut stowage = Stowage::empty(alloc);
-        stow_all(profile, &mut stowage, &self.items)?;
+        let mut stowage = Stowage::with_room(alloc, self.items.len())?;
+        stow_all(&mut stowage, &self.items)?;
         fill_all(&mut stowage, &self.fills)?;
         Ok(stowage)
     }
 }
 
-/// Puts items into their cells, which the ship has.
-fn stow_all(profile: &Profile, stowage: &mut Stowage, items: &[Item]) -> Result<(), AllocError>
-    requires { All (λ item. is_some (place_of profile.now item.cell) ≡ true) items.now }
-    ensures { OnOk result (cargo_in profile.now stowage.new
-        ≡ with_items (cargo_in profile.now stowage.old) items.now) }
+/// Puts items into their cells.
+fn stow_all(stowage: &mut Stowage, items: &[Item]) -> Result<(), AllocError>
+    ensures { OnOk result (cargo_in stowage.new ≡ with_items (cargo_in stowage.old) items.now) }
 {
     for item in items {
-        let Some(number) = profile.cell_number(item.cell) else {
-            unreachable!()
-        };
-        stowage.make_slot(number)?;
-        stowage.put(number, container_of(item));
+        stowage.cells.insert(item.cell, container_of(item))?;
     }
     Ok(())
 }
 
 /// Puts fills into their tanks.
 fn fill_all(stowage: &mut Stowage, fills: &[TankFill]) -> Result<(), AllocError>
-    ensures { OnOk result ((ship : ProfileRecord) →
-        cargo_in ship stowage.new ≡ with_fills (cargo_in ship stowage.old) fills.now) }
+    ensures { OnOk result (cargo_in stowage.new ≡ with_fills (cargo_in stowage.old) fills.now) }
 {
     for fill in fills {
         stowage.tanks.insert(fill.tank, fill.kg)?;

@@ -49,12 +49,11 @@ fn make_all(
     ops: &[Op],
 ) -> Result<Vec<Step>, SeqFault>
     requires { length ops.now ≤ 120000 }
-    ensures legal { OnOk result
-        (first_fault profile.now (cargo_in profile.now stowage.old) 1 ops.now ≡ None) }
+    ensures legal { OnOk result (first_fault profile.now (cargo_in stowage.old) 1 ops.now ≡ None) }
     ensures steps { IfOk result (λ s.
-        s.items ≡ steps_of profile.now (cargo_in profile.now stowage.old) ops.now) }
+        s.items ≡ steps_of profile.now (cargo_in stowage.old) ops.now) }
     ensures refused { IfErr result
-        (TellsAt (first_fault profile.now (cargo_in profile.now stowage.old) 1 ops.now)) }
+        (TellsAt (first_fault profile.now (cargo_in stowage.old) 1 ops.now)) }
     ensures memory { IfErr result (λ e. e.code ≡ SeqCode.NoMemory → e.at ≡ 0) }
 {
     let mut steps = Vec::new(alloc);
@@ -132,7 +131,7 @@ impl Sequence {
         if ops.len() > MAX_STEPS {
             return Err(fault_at(MAX_STEPS as u32 + 1, SeqCode::TooManySteps));
         }
-        let Ok(mut stowage) = arrival.stowage(alloc, profile) else {
+        let Ok(mut stowage) = arrival.stowage(alloc) else {
             return Err(NO_MEMORY);
         };
         let steps = make_all(alloc, profile, &mut stowage, &ops)?;

@@ -13,11 +13,11 @@ loop-item-preserved c =
     let e = c.in-Ok.ensures in
     record {
       number_is = search rules;
-      stowed = stowed_more c.args.profile.now (cargo_in c.args.profile.now c.loop-item.stowage) _ x.cell (container_of x) c.loop-item.number c.requires.sound.tables.tables.distinct
+      stowed = stowed_more c.args.profile.now (cargo_in c.loop-item.stowage) _ x.cell (container_of x) c.loop-item.number c.requires.sound.tables.tables.distinct
           c.loop-item.invariant.stowed e.legal e.aboard;
       bodies_are = filter_more (item_body c.args.profile.now) c.args.items.now c.loop-item.item-index x
           c.loop-item.bodies.items c.push.new.self.items (Some c.in-Ok.body) (search rules) (search rules) c.loop-item.invariant.bodies_are (sym e.body) (search rules);
-      legal = items_pass c.args.profile.now (cargo_in c.args.profile.now c.loop-item.stowage) _ c.args.items.now c.loop-item.item-index c.loop-item.number x _ (search rules) (search rules)
+      legal = items_pass c.args.profile.now (cargo_in c.loop-item.stowage) _ c.args.items.now c.loop-item.item-index c.loop-item.number x _ (search rules) (search rules)
           c.loop-item.invariant.legal e.legal e.aboard;
     }
 
@@ -25,7 +25,7 @@ pub returns-in-Err-clause-refused : goal.returns-in-Err-clause-refused
 returns-in-Err-clause-refused c m =
     let x = c.item-item.result in
     let other = rw c.fault_at.ensures.code at m in
-    items_stop c.args.profile.now (cargo_in c.args.profile.now c.loop-item.stowage) c.args.items.now c.loop-item.item-index c.loop-item.number x _ c.in-Err.code (search rules) (search rules)
+    items_stop c.args.profile.now (cargo_in c.loop-item.stowage) c.args.items.now c.loop-item.item-index c.loop-item.number x _ c.in-Err.code (search rules) (search rules)
     c.loop-item.invariant.legal (c.in-Err.ensures.refused other) ∙ ap (λ f. Some f) (sym (c.fault_at.ensures.told other))
 
 pub loop-item-init : goal.loop-item-init
@@ -40,10 +40,10 @@ loop-item-init c =
 
 pub overflow_add-number : goal.overflow_add-number
 overflow_add-number c =
-    let few = stowed_few c.args.profile.now (cargo_in c.args.profile.now c.loop-item.stowage) c.loop-item.number c.requires.sound.tables.tables.few_cells c.loop-item.invariant.stowed in
+    let few = stowed_few c.args.profile.now (cargo_in c.loop-item.stowage) c.loop-item.number c.requires.sound.tables.tables.few_cells c.loop-item.invariant.stowed in
     omega (arith, few)
 
 pub returns-clause-few : goal.returns-clause-few
 returns-clause-few c =
-    let few = stowed_few c.args.profile.now (cargo_in c.args.profile.now c.loop-item.stowage) c.loop-item.number c.requires.sound.tables.tables.few_cells c.loop-item.invariant.stowed in
+    let few = stowed_few c.args.profile.now (cargo_in c.loop-item.stowage) c.loop-item.number c.requires.sound.tables.tables.few_cells c.loop-item.invariant.stowed in
     omega (arith, few, c.loop-item.invariant.number_is)

@@ -8,7 +8,7 @@ use Rattle.lift_sequence.proofs.arrivals.stow_items.Given as goal
 abbrev pub invariant-loop-item : goal.invariant-loop-item
 invariant-loop-item l = record {
   number_is : l.number ≡ l.item-index;
-  stowed : pos l.number ≡ total (λ body. pos 1) (bodies_in_cells l.profile (cargo_in l.profile l.stowage).cells);
+  stowed : pos l.number ≡ total (λ body. pos 1) (bodies_in_cells l.profile (cargo_in l.stowage).cells);
   bodies_are : l.bodies.items ≡ item_bodies l.profile (take l.item-index l.items);
-  legal : items_fault l.profile nothing 1 l.items ≡ items_fault l.profile (cargo_in l.profile l.stowage) (l.number + 1) (drop l.item-index l.items);
+  legal : items_fault l.profile nothing 1 l.items ≡ items_fault l.profile (cargo_in l.stowage) (l.number + 1) (drop l.item-index l.items);
 }

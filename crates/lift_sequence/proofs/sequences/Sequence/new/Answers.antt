@@ -9,7 +9,7 @@ use Rattle.lift_sequence.proofs.sequences.Sequence.new.Goals as goal
 
 pub invariant_of-result : goal.invariant_of-result
 invariant_of-result c =
-    ap (λ steps. length steps) c.in_ok-steps.ensures.steps ∙ as_many c.args.profile.now (cargo_in c.args.profile.now c.in-Ok.stowage) c.deref.result.now
+    ap (λ steps. length steps) c.in_ok-steps.ensures.steps ∙ as_many c.args.profile.now (cargo_in c.in-Ok.stowage) c.deref.result.now
     ∙ ap (λ ops. length ops) c.deref.ensures.value
 
 pub returns-clause-each : goal.returns-clause-each
