@@ -1,8 +1,8 @@
 -- Setting one step after another to its new weight comes to the steps of that weight.
-use Rattle.std.proofs.Common.{◌≡◌, ℕ, zero, suc, ◌+◌, ◌<◌, ◌≤◌, List, [], ◌∷◌, ◌++◌, length, take, drop, set, get_or, Option, None, Some, Bool, true, false, sym, ap, ◌∙◌, subst, refl, append_assoc, append-nil, arith}
+use Rattle.std.proofs.Common.{◌≡◌, ℕ, zero, suc, ◌+◌, ◌<◌, ◌≤◌, List, [], ◌∷◌, ◌++◌, length, take, drop, set, get_or, Option, None, Some, Bool, sym, ap, ◌∙◌, subst, refl, append_assoc, append-nil, arith}
 use Rattle.std.specs.Prelude.{slice_get, if◌then◌else◌}
 use Rattle.std.specs.Option.{option_map}
-use Rattle.std.proofs.lemmas.List.{drop-set-lt, drop_all, drop_at, drop_more, get_or_default, length-append, length-set, length-take-le, take_all, take_at, take_more, take_more_set}
+use Rattle.std.proofs.lemmas.List.{drop-set-lt, drop_all, drop_at, drop_more, get_or_default, length-append, length-set, length-take-le, take_all, take_at, take_more_set}
 use Rattle.std.proofs.lemmas.Option.{slice_get-get_or}
 use Rattle.units_core.specs.declared.cells.Cell.{Cell}
 use Rattle.lift_sequence.specs.declared.operations.Op.{Op}
@@ -14,29 +14,17 @@ use Rattle.lift_sequence.specs.Follow.{AreReweighed, loaded_at, moves, next_cell
 abbrev pub still : Step
 still = record { out = None; put = None }
 
--- the steps after a turn, whether the step at a place is set or stays
+-- the steps after a turn, in which the step at a place is set to its new weight, if it is moved
 abbrev pub turned : ℕ → Bool → List Step → ℕ → List Step
-turned kg moved steps place = if moved then set steps place (step_weighed kg (get_or steps place still)) else steps
+turned kg moved steps place = set steps place (if moved then step_weighed kg (get_or steps place still) else get_or steps place still)
 
-pub turned_set : (kg : ℕ) (moved : Bool) (now after : List Step) (place : ℕ) (step value : Step) → place < length now → moved ≡ true → after ≡ set now place value
-    → value ≡ step_weighed kg (get_or now place step) → after ≡ turned kg moved now place
-turned_set kg moved now after place step value inside moves sets is =
-    sets ∙ ap (set now place) (is ∙ ap (step_weighed kg) (get_or_default now place step still inside)) ∙ ap (λ b. turned kg b now place) (sym moves)
-
-pub turned_stays : (kg : ℕ) (moved : Bool) (now after : List Step) (place : ℕ) → moved ≡ false → after ≡ now → after ≡ turned kg moved now place
-turned_stays kg moved now after place stays same = same ∙ ap (λ b. turned kg b now place) (sym stays)
-
--- what is before the next place, and behind it
-turned_parts : (kg : ℕ) (moved : Bool) (now : List Step) (place : ℕ) → place < length now
-    → (take (place + 1) (turned kg moved now place) ≡ take place now ++ (if moved then step_weighed kg (get_or now place still) else get_or now place still) ∷ [])
-    × (drop (place + 1) (turned kg moved now place) ≡ drop (place + 1) now)
-turned_parts kg true now place inside =
-    (take_more_set now place (step_weighed kg (get_or now place still)) inside, drop-set-lt (place + 1) now place (step_weighed kg (get_or now place still)) (omega arith))
-turned_parts kg false now place inside = (take_more now place still inside, refl)
+pub turned_by : (kg : ℕ) (moved : Bool) (now after : List Step) (place : ℕ) (step value : Step) → place < length now → after ≡ set now place value
+    → value ≡ (if moved then step_weighed kg (get_or now place step) else get_or now place step) → after ≡ turned kg moved now place
+turned_by kg moved now after place step value inside sets is =
+    sets ∙ ap (set now place) (is ∙ ap (λ (s : Step). if moved then step_weighed kg s else s) (get_or_default now place step still inside))
 
 pub turned_long : (kg : ℕ) (moved : Bool) (now : List Step) (place : ℕ) → length (turned kg moved now place) ≡ length now
-turned_long kg true now place = length-set now place (step_weighed kg (get_or now place still))
-turned_long kg false now place = refl
+turned_long kg moved now place = length-set now place _
 
 -- one turn: what is done and what is left to do come to the same
 pub one_turn : (kg : ℕ) (cell : Option Cell) (ops : List Op) (now : List Step) (place : ℕ) (op : Op) → place < length ops → length now ≡ length ops → op ≡ get_or ops place op
@@ -45,11 +33,13 @@ pub one_turn : (kg : ℕ) (cell : Option Cell) (ops : List Op) (now : List Step)
 one_turn kg cell ops now place op inside long at =
     let here : place < length now = omega (arith, long, inside) in
     let step : Step = get_or now place still in
-    let parts = turned_parts kg (moves cell op) now place here in
+    let value : Step = if moves cell op then step_weighed kg step else step in
+    let done : take (place + 1) (set now place value) ≡ take place now ++ value ∷ [] = take_more_set now place value here in
+    let left : drop (place + 1) (set now place value) ≡ drop (place + 1) now = drop-set-lt (place + 1) now place value (omega arith) in
     let orders : drop place ops ≡ op ∷ drop (place + 1) ops = drop_more ops place op inside ∙ ap (λ o. o ∷ drop (place + 1) ops) (sym at) in
     let steps : drop place now ≡ step ∷ drop (place + 1) now = drop_more now place still here in
-    (λ i. parts.0 i ++ steps_weighed kg (next_cell cell op) (drop (place + 1) ops) (parts.1 i))
-    ∙ append_assoc (take place now) ((if moves cell op then step_weighed kg step else step) ∷ []) (steps_weighed kg (next_cell cell op) (drop (place + 1) ops) (drop (place + 1) now))
+    (λ i. done i ++ steps_weighed kg (next_cell cell op) (drop (place + 1) ops) (left i))
+    ∙ append_assoc (take place now) (value ∷ []) (steps_weighed kg (next_cell cell op) (drop (place + 1) ops) (drop (place + 1) now))
     ∙ sym (λ i. take place now ++ steps_weighed kg cell (orders i) (steps i))
 
 -- all turns

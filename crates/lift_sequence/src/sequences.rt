@@ -1,10 +1,11 @@
-ghost use Rattle.std.specs.Prelude.{◌≡◌, ◌↔◌, ◌≤◌, ◌<◌, ◌-◌, ◌++◌, ◌∷◌, [], length, take, drop, slice_get, option_map, swap, IsTrue, OnOk, IfOk, IfErr, Some, None};
+ghost use Rattle.std.specs.Prelude.{◌≡◌, ◌↔◌, ◌≤◌, ◌<◌, ◌-◌, ◌++◌, ◌∷◌, [], length, take, drop, slice_get, option_map, swap, IsTrue, OnOk, IfOk, IfErr, Some, None, if◌then◌else◌};
 ghost use Rattle.std.specs.Bool.{OnTrue, OnFalse};
 ghost use Rattle.ship_profile.specs.Record.{ProfileRecord};
 ghost use Rattle.lift_sequence.specs.Arrival.{TellsAt, cargo_on, fault_at};
 ghost use Rattle.lift_sequence.specs.Aboard.{Aboard, cargo_in, after_step};
 ghost use Rattle.lift_sequence.specs.Bodies.{step_of, steps_of};
-ghost use Rattle.lift_sequence.specs.Follow.{AreReweighed, IsLoad, steps_weighed, weighed_at};
+ghost use Rattle.units_core.specs.Steps.{step_weighed};
+ghost use Rattle.lift_sequence.specs.Follow.{AreReweighed, IsLoad, moves, steps_weighed, weighed_at};
 ghost use Rattle.lift_sequence.specs.Independent.{AreExchangeable, CanPass, CanSwap, moved};
 ghost use Rattle.lift_sequence.specs.Legal.{fault_of};
 ghost use Rattle.lift_sequence.specs.Sequence.{AreSteps, IsOf, StepsAddUp, first_fault, sequence_fault};
@@ -72,6 +73,15 @@ fn make_all(
     Ok(steps)
 }
 
+/// Gives another weight to the bodies of a step that moves the container which stands in `cell` before it.
+fn weigh_move(op: &Op, step: &mut Step, cell: Option<Cell>, kg: Kg)
+    ensures { step.new ≡ (if moves cell op.now then step_weighed kg step.old else step.old) }
+{
+    if op.moves(cell) {
+        *step = step.weighed(kg);
+    }
+}
+
 /// Gives another weight to the bodies of those steps, from the place `first` on, that move the container which stands in `cell` before
 /// them.
 fn weigh_moves(ops: &[Op], steps: &mut [Step], first: usize, cell: Option<Cell>, kg: Kg)
@@ -83,9 +93,7 @@ fn weigh_moves(ops: &[Op], steps: &mut [Step], first: usize, cell: Option<Cell>,
     let mut cell = cell;
     for place in first..ops.len() {
         let op = &ops[place];
-        if op.moves(cell) {
-            steps[place] = steps[place].weighed(kg);
-        }
+        weigh_move(op, &mut steps[place], cell, kg);
         cell = op.next_cell(cell);
     }
 }

@@ -1,8 +1,7 @@
-use Rattle.std.proofs.Common.{◌≡◌, ◌∙◌, ◌+◌, ◌++◌, ap, arith, sym, length, take, drop}
+use Rattle.std.proofs.Common.{◌≡◌, ◌∙◌, ◌+◌, ◌++◌, ap, arith, refl, length, set, take, drop}
 use Rattle.lift_sequence.specs.Follow.{moves, steps_weighed}
-use Rattle.lift_sequence.proofs.WalkLemmas.{all_turned, one_turn, turned, turned_long, turned_set, turned_stays}
+use Rattle.lift_sequence.proofs.WalkLemmas.{all_turned, one_turn, turned, turned_by, turned_long}
 use Rattle.lift_sequence.proofs.sequences.weigh_moves.Goals as goal
-use Rattle.lift_sequence.proofs.sequences.weigh_moves.Goals.{then-moves, else-moves}
 
 pub loop-place-preserved : goal.loop-place-preserved
 loop-place-preserved c =
@@ -12,11 +11,9 @@ loop-place-preserved c =
     let cell = c.loop-place.cell in
     let op = c.index-ops-place.result in
     let long : length now ≡ length ops = c.loop-place.invariant.as_many in
-    let turns : c.if-moves.steps ≡ turned c.args.kg (moves cell op) now place = elim c.if-moves.branch [
-      | then-moves w ↦ turned_set c.args.kg (moves cell op) now c.if-moves.steps place w.index-steps-place.result w.weighed.result
-          (omega (arith, long, c.loop-place-test.true)) (sym c.moves.ensures ∙ w.if-moves.true) w.steps-is w.weighed.ensures
-      | else-moves w ↦ turned_stays c.args.kg (moves cell op) now c.if-moves.steps place (sym c.moves.ensures ∙ w.if-moves.false) w.steps-is
-    ] in
+    let turns : set now place c.weigh_move.new.step ≡ turned c.args.kg (moves cell op) now place =
+    turned_by c.args.kg (moves cell op) now _ place c.index-steps-place.result c.weigh_move.new.step (omega (arith, long, c.loop-place-test.true)) refl
+    c.weigh_move.ensures in
     record {
       as_many = ap length turns ∙ turned_long c.args.kg (moves cell op) now place ∙ long;
       comes_to = (λ i. take (place + 1) (turns i) ++ steps_weighed c.args.kg (c.next_cell-cell.ensures i) (drop (place + 1) ops) (drop (place + 1) (turns i)))
