@@ -19,6 +19,18 @@ fn opens_to(desk: &Desk, ticket: &Ticket, list: &[Op]) -> bool
     }
 }
 
+/// Whether each of two threads publishes the list of a session.
+fn publish_twice<R: Threads + Wait + Sync>(rt: &R, desk: &Desk, session: &Session) -> bool
+    requires { session.now.base ≡ desk.now.base }
+{
+    let (one, other) = thread::join(
+        rt,
+        || desk.publish(rt, session),
+        || desk.publish(rt, session),
+    );
+    one.is_ok() && other.is_ok()
+}
+
 /// A list that is published at a desk where another was published before, in each of two threads.
 #[derive(Drop)]
 pub struct Publishing<'a> {
@@ -32,14 +44,7 @@ pub struct Publishing<'a> {
 
 impl<'a, R: AllocGlobal + Threads + Wait + Sync> Trial<R> for Publishing<'a> {
     fn call(&mut self, rt: &R) -> Told {
-        let desk = self.desk;
-        let session = self.session;
-        let (one, other) = thread::join(
-            rt,
-            || desk.publish(rt, session).is_ok(),
-            || desk.publish(rt, session).is_ok(),
-        );
-        if one && other {
+        if publish_twice(rt, self.desk, self.session) {
             Told::Right
         } else {
             Told::Short
