@@ -1,5 +1,5 @@
 ghost use Rattle.std.specs.Prelude.{◌≡◌};
-ghost use Rattle.criteria.specs.Printed.{AreFigures};
+ghost use Rattle.criteria.specs.Printed.{AreRounded};
 
 use crate::measures::CurveMeasures;
 use crate::reciprocals::Reciprocal;
@@ -10,10 +10,10 @@ use hydrostat::{Afloat, DraughtLine};
 use strength::Strains;
 use units_core::Mm;
 
-/// The figures of a condition, rounded down: lengths in mm, the list in ten-thousandths, areas in mm degrees, the angle in degrees, forces
-/// in kg, bending moments in kg mm.
+/// The figures of a condition, rounded down: lengths in mm, the list in ten-thousandths, areas in
+/// mm degrees, the angle in degrees, forces in kg, bending moments in kg mm.
 #[derive(Clone, Copy, Default)]
-pub struct Figures {
+pub struct RoundedFigures {
     pub gm: i128,
     pub mean: i128,
     pub aft: i128,
@@ -28,14 +28,15 @@ pub struct Figures {
     pub strains: Strains,
 }
 
-impl Figures {
-    /// Makes them those of a ship of this length afloat, with these draughts along her and measures of her levers; the loads on her hull stand there
-    /// already. They are written where they are, since a move of them is a copy of 700 bytes.
+impl RoundedFigures {
+    /// Makes them those of a ship of this length afloat, with these draughts along her and measures
+    /// of her levers; the loads on her hull stand there already. They are written where they are,
+    /// since a move of them is a copy of 700 bytes.
     #[inline(always)]
     pub(crate) fn set(&mut self, a: &Afloat, length: Mm, line: &DraughtLine, curve: &CurveMeasures)
         requires of { line.now.of ≡ a.now }
         requires length { a.now.lbp ≡ length }
-        ensures figures { AreFigures self.new a.now curve.now }
+        ensures figures { AreRounded self.new a.now curve.now }
         ensures strains { self.new.strains ≡ self.old.strains }
     {
         // The levers have one divisor, and so have the areas.
