@@ -23,12 +23,14 @@ code_of C9 = codes "C9"
 code_of C10 = codes "C10"
 code_of C11 = codes "C11"
 
--- a condition that lies within all tables: how the ship floats, her righting levers at 0, 5, .., 60 degrees, the loads at her frames by
--- their numbers, and the least metacentric height, where she has such a limit
+-- a condition that lies within all tables: how the ship floats, her righting levers at 0, 5, .., 60
+-- degrees, the closing error, the loads at her frames by their numbers, and the least metacentric
+-- height, where she has such a limit
 pub record Condition : Type 0 where
   pub water : Hydrostatics
   pub load : Load
   pub levers : ℕ → Ratio
+  pub closing : ℤ
   pub shear : ℕ → ℤ
   pub bending : ℕ → ℤ
   pub least_gm : Option Ratio

@@ -1,4 +1,6 @@
+pub mod Assessment
 pub mod Criteria
+pub mod Figures
 pub mod Judgement
 pub mod Least
 pub mod Measures

@@ -9,24 +9,25 @@ use Rattle.criteria.specs.declared.measures.CurveMeasures.{CurveMeasures}
 use Rattle.criteria.specs.Measures.{AreMeasures}
 use Rattle.ship_profile.specs.Ship.{ShipRecord}
 use Rattle.criteria.specs.declared.criterion.Criterion.{Criterion}
-use Rattle.strength.specs.declared.loads.Loads.{Loads}
+use Rattle.strength.specs.declared.loads.Strains.{Strains}
 use Rattle.criteria.specs.Criteria.{Condition, holds, not_met}
 
 -- the condition of a ship afloat, with these levers, loads and least metacentric height
-abbrev pub condition_of : Afloat → (ℕ → Ratio) → Loads → Option Frac → Condition
-condition_of a y loads least = record {
+abbrev pub condition_of : Afloat → (ℕ → Ratio) → Strains → Option Frac → Condition
+condition_of a y strains least = record {
   water = water a;
   load = load a;
   levers = y;
-  shear = λ i. at loads.shear i;
-  bending = λ i. at loads.bending i;
+  closing = strains.closing;
+  shear = λ i. at strains.shear i;
+  bending = λ i. at strains.bending i;
   least_gm = option_map (λ f. f.num over f.den) least;
 }
 
 -- the answer is the first criterion that isn't met, whatever ordinates the measures are of
-abbrev pub IsFirstNotMet : Option Criterion → ShipRecord → Afloat → CurveMeasures → Loads → Option Frac → Type 0
-IsFirstNotMet answer ship a curve loads least = (y : ℕ → Ratio) → AreMeasures curve y → answer ≡ not_met ship (condition_of a y loads least)
+abbrev pub IsFirstNotMet : Option Criterion → ShipRecord → Afloat → CurveMeasures → Strains → Option Frac → Type 0
+IsFirstNotMet answer ship a curve strains least = (y : ℕ → Ratio) → AreMeasures curve y → answer ≡ not_met ship (condition_of a y strains least)
 
 -- and whether a criterion holds
-abbrev pub IsHeld : Bool → ShipRecord → Afloat → CurveMeasures → Loads → Option Frac → Criterion → Type 0
-IsHeld answer ship a curve loads least criterion = (y : ℕ → Ratio) → AreMeasures curve y → answer ≡ holds ship (condition_of a y loads least) criterion
+abbrev pub IsHeld : Bool → ShipRecord → Afloat → CurveMeasures → Strains → Option Frac → Criterion → Type 0
+IsHeld answer ship a curve strains least criterion = (y : ℕ → Ratio) → AreMeasures curve y → answer ≡ holds ship (condition_of a y strains least) criterion

@@ -6,11 +6,11 @@ use Rattle.hydrostat.specs.Floating.{Hydrostatics, Load, draught_at, gm, load, t
 use Rattle.righting.specs.Levers.{greatest_of, mm_degrees, simpson}
 use Rattle.criteria.specs.declared.measures.CurveMeasures.{CurveMeasures}
 use Rattle.criteria.specs.Measures.{AreMeasures}
-use Rattle.criteria.specs.declared.figures.Figures.{Figures}
+use Rattle.criteria.specs.declared.rounded.RoundedFigures.{RoundedFigures}
 use Rattle.criteria.specs.Judgement.{list_down}
 
 -- how she floats
-pub record AreFloating (f : Figures) (w : Hydrostatics) (l : Load) (lbp : ℤ) : Type 0 where
+pub record AreFloating (f : RoundedFigures) (w : Hydrostatics) (l : Load) (lbp : ℤ) : Type 0 where
   pub gm : f.gm ≡ floor_of (gm w l)
   pub mean : f.mean ≡ floor_of w.draught
   pub aft : f.aft ≡ floor_of (draught_at w l lbp (pos 0))
@@ -19,14 +19,14 @@ pub record AreFloating (f : Figures) (w : Hydrostatics) (l : Load) (lbp : ℤ) :
   pub list : f.list ≡ list_down w l
 
 -- her levers: three areas in mm degrees, the greatest ordinate from 30 to 60 degrees, the least angle that carries the greatest of all
-pub record AreRighting (f : Figures) (y : ℕ → Ratio) : Type 0 where
+pub record AreRighting (f : RoundedFigures) (y : ℕ → Ratio) : Type 0 where
   pub area_30 : f.area_30 ≡ floor_of (mm_degrees (simpson y 0 3))
   pub area_40 : f.area_40 ≡ floor_of (mm_degrees (simpson y 0 4))
   pub area_30_40 : f.area_30_40 ≡ floor_of (mm_degrees (simpson y 6 1))
   pub lever : Some f.lever ≡ option_map (λ k. floor_of (y k)) (greatest_of y 6 7)
   pub angle : Some f.angle ≡ option_map (λ k. 5 * k) (greatest_of y 0 13)
 
-pub record AreFigures (f : Figures) (a : Afloat) (curve : CurveMeasures) : Type 0 where
+pub record AreRounded (f : RoundedFigures) (a : Afloat) (curve : CurveMeasures) : Type 0 where
   pub floating : AreFloating f (water a) (load a) a.lbp
   pub righting : (y : ℕ → Ratio) → AreMeasures curve y → AreRighting f y
 

@@ -11,7 +11,7 @@ use crate::measures::CurveMeasures;
 use hydrostat::Afloat;
 use righting::area_holds;
 use ship_profile::Profile;
-use strength::Loads;
+use strength::Strains;
 use units_core::Frac;
 
 /// The criteria in their order.
@@ -44,13 +44,13 @@ fn holds(
     profile: &Profile,
     a: &Afloat,
     curve: &CurveMeasures,
-    loads: &Loads,
+    strains: &Strains,
     least: Option<Frac>,
     criterion: Criterion,
 ) -> bool
     requires length { a.now.lbp ≡ profile.now.ship.lbp }
     requires least { IsLeast least }
-    ensures { IsHeld result profile.now.ship a.now curve.now loads.now least criterion }
+    ensures { IsHeld result profile.now.ship a.now curve.now strains.now least criterion }
 {
     match criterion {
         Criterion::C0 => true,
@@ -65,8 +65,8 @@ fn holds(
             let most = i128::from(profile.draught_max().get());
             draughts_hold(a, most, i128::from(profile.trim_max().get()))
         }
-        Criterion::C9 => shear_holds(profile.frames().as_slice(), &loads.shear),
-        Criterion::C10 => bending_holds(profile.frames().as_slice(), &loads.bending),
+        Criterion::C9 => shear_holds(profile.frames().as_slice(), &strains.shear),
+        Criterion::C10 => bending_holds(profile.frames().as_slice(), &strains.bending),
         Criterion::C11 => least_holds(a, least),
     }
 }
@@ -76,16 +76,16 @@ pub fn first_not_met(
     profile: &Profile,
     a: &Afloat,
     curve: &CurveMeasures,
-    loads: &Loads,
+    strains: &Strains,
     least: Option<Frac>,
 ) -> Option<Criterion>
     requires length { a.now.lbp ≡ profile.now.ship.lbp }
     requires least { IsLeast least }
-    ensures { IsFirstNotMet result profile.now.ship a.now curve.now loads.now least }
+    ensures { IsFirstNotMet result profile.now.ship a.now curve.now strains.now least }
 {
     for k in 0..12usize {
         let criterion = criterion_at(k);
-        if !holds(profile, a, curve, loads, least, criterion) {
+        if !holds(profile, a, curve, strains, least, criterion) {
             return Some(criterion);
         }
     }

@@ -1,4 +1,6 @@
-//! The criteria: whether a condition meets each, the first that it doesn't meet, and the figures that are printed of it.
+//! The criteria: whether a condition meets each, and the first that it doesn't meet. [`judge`]
+//! answers that of one condition with its exact figures; [`judge_into`], for one condition after
+//! another, with the figures rounded as a report prints them.
 #![tactic(auto)]
 
 mod criterion;
@@ -6,13 +8,17 @@ mod decisions;
 mod figures;
 mod frames;
 mod holding;
+mod judging;
 mod levers;
 mod limits;
 mod measures;
 mod reciprocals;
+mod rounded;
 mod rounding;
 mod verdicts;
 
 pub use criterion::Criterion;
 pub use figures::Figures;
-pub use verdicts::{Judged, Nearby, Verdict, judge, judge_into, judge_near};
+pub use judging::{Nearby, judge_into};
+pub use rounded::RoundedFigures;
+pub use verdicts::{Verdict, judge};

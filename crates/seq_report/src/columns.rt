@@ -2,7 +2,7 @@ ghost use Rattle.std.specs.Prelude.{◌≡◌, ◌++◌, ◌∷◌, ◌-◌, ◌
 ghost use Rattle.criteria.specs.Judgement.{read};
 ghost use Rattle.seq_report.specs.Columns.{figures_text, frames_text, heading_of, headings_text, number_text, numbers_text};
 
-use criteria::Figures;
+use criteria::RoundedFigures;
 use decimal_text::BackwardText;
 use std::alloc::AllocError;
 use std::fmt::Write;
@@ -100,7 +100,7 @@ fn put_list(line: &mut BackwardText<'_>, list: Option<i128>)
 }
 
 /// Puts the figures of the columns, each behind a space, before the line: those behind the list, the list, which may lack, and those before it.
-fn put_numbers(line: &mut BackwardText<'_>, figures: &Figures)
+fn put_numbers(line: &mut BackwardText<'_>, figures: &RoundedFigures)
     requires room { length line.old + 492 ≤ 2048 }
     ensures text { line.new ≡ numbers_text (read figures.now) ++ line.old }
     ensures short { length line.new ≤ length line.old + 492 }
@@ -126,19 +126,26 @@ fn put_numbers(line: &mut BackwardText<'_>, figures: &Figures)
 }
 
 /// Puts the shear forces and bending moments at so many frames, behind a space, before the line.
-fn put_frames(line: &mut BackwardText<'_>, figures: &Figures, frames: usize)
+fn put_frames(line: &mut BackwardText<'_>, figures: &RoundedFigures, frames: usize)
     requires some { 1 ≤ frames }
     requires few { frames ≤ 16 }
     requires room { length line.old + 1312 ≤ 2048 }
     ensures text { line.new ≡ frames_text (read figures.now) frames ++ line.old }
     ensures short { length line.new ≤ length line.old + 1312 }
 {
-    let loads = &figures.strains.loads;
-    line.put_pairs(b' ', b';', b'/', &loads.shear, &loads.bending, frames - 1);
+    let strains = &figures.strains;
+    line.put_pairs(
+        b' ',
+        b';',
+        b'/',
+        &strains.shear,
+        &strains.bending,
+        frames - 1,
+    );
 }
 
 /// Puts all figures of a line, each behind a space, before what follows them.
-pub fn put_figures(line: &mut BackwardText<'_>, figures: &Figures, frames: usize)
+pub fn put_figures(line: &mut BackwardText<'_>, figures: &RoundedFigures, frames: usize)
     requires some { 1 ≤ frames }
     requires few { frames ≤ 16 }
     requires room { length line.old + 1804 ≤ 2048 }

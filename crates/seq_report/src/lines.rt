@@ -10,7 +10,7 @@ use crate::causes::cause;
 use crate::columns::{put_figures, write_headings};
 use crate::lifts::put_lift;
 use crate::step_lines::StepLine;
-use criteria::{Criterion, Figures, Judged, Nearby, judge_into};
+use criteria::{Criterion, Nearby, RoundedFigures, judge_into};
 use decimal_text::BackwardText;
 use hydrostat::Outside;
 use lift_sequence::Op;
@@ -27,8 +27,8 @@ impl StepLine {
             step: 0,
             kg: 0,
             frames: 1,
-            judged: Judged::Within(None),
-            figures: Figures::default(),
+            judged: Ok(None),
+            figures: RoundedFigures::default(),
         }
     }
 
@@ -66,9 +66,9 @@ fn first_failed(line: &StepLine) -> Option<Criterion>
     ensures { result ≡ first_failed (told_with line.now.judged line.now.figures) }
 {
     match line.judged {
-        Judged::Outside(_) => Some(Criterion::C0),
-        Judged::Within(Some(criterion)) => Some(criterion),
-        Judged::Within(None) => None,
+        Err(_) => Some(Criterion::C0),
+        Ok(Some(criterion)) => Some(criterion),
+        Ok(None) => None,
     }
 }
 
@@ -115,12 +115,12 @@ fn put_verdict(end: &mut BackwardText<'_>, line: &StepLine)
     ensures short { length end.new ≤ length end.old + 1813 }
 {
     match line.judged {
-        Judged::Outside(outside) => put_outside(end, outside),
-        Judged::Within(Some(criterion)) => {
+        Err(outside) => put_outside(end, outside),
+        Ok(Some(criterion)) => {
             put_failure(end, criterion);
             put_figures(end, &line.figures, line.frames);
         }
-        Judged::Within(None) => {
+        Ok(None) => {
             end.put_words(" PASS");
             put_figures(end, &line.figures, line.frames);
         }

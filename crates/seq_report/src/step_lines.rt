@@ -1,6 +1,7 @@
 ghost use Rattle.std.specs.Prelude.{◌≤◌};
 
-use criteria::{Figures, Judged};
+use criteria::{Criterion, RoundedFigures};
+use hydrostat::Outside;
 
 /// What the line of a step says: its number, the displacement in kg, and how it is judged.
 #[derive(Clone, Copy)]
@@ -11,10 +12,11 @@ pub struct StepLine {
     pub kg: i128,
     /// How many frames the ship has.
     pub frames: usize,
-    /// How the condition is judged.
-    pub judged: Judged,
+    /// How the condition is judged: the table outside of which it lies, or the first criterion that
+    /// doesn't hold, if there is one.
+    pub judged: Result<Option<Criterion>, Outside>,
     /// Its figures, where it lies within the tables.
-    pub figures: Figures,
+    pub figures: RoundedFigures,
     pub ghost some: { 1 ≤ frames },
     pub ghost few: { frames ≤ 16 },
 }

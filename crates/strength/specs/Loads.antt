@@ -1,6 +1,6 @@
 -- The loads on a ship's hull, or the table or the limit that they lie outside of.
-use Rattle.std.specs.Prelude.{◌≡◌, ℕ, ℤ, Bool, true, false, Option, Some, None, Result, Ok, Err}
-use Rattle.units_core.specs.Interpolation.{at}
+use Rattle.std.specs.Prelude.{◌≡◌, ℕ, ℤ, length, map, Bool, true, false, Option, Some, None, Result, Ok, Err}
+use Rattle.std.specs.List.{range_with_len}
 use Rattle.ship_profile.specs.Ship.{ShipRecord}
 use Rattle.ship_profile.specs.Record.{ProfileRecord}
 use Rattle.moment_sums.specs.Sum.{Sum, Weight}
@@ -10,26 +10,45 @@ use Rattle.hydrostat.specs.declared.figures.Floating.{Floating}
 use Rattle.hydrostat.specs.declared.outside.Outside.{Outside}
 use Rattle.hydrostat.specs.declared.outside.Outside.TheVariants.{Bonjean, Closing}
 use Rattle.strength.specs.Immersed.{areas_along}
+use Rattle.strength.specs.Running.{AreStrains}
 use Rattle.strength.specs.Strains.{bending_at, closes, closing_of, shear_at}
+use Rattle.strength.specs.declared.loads.FrameLoad.{FrameLoad}
 use Rattle.strength.specs.declared.loads.Loads.{Loads}
+use Rattle.strength.specs.declared.loads.Strains.{Strains}
 
--- the shear force and the bending moment at each frame, by the areas at the stations
-pub record AreLoads (l : Loads) (s : Sum) (areas : ℕ → ℤ) (ship : ShipRecord) : Type 0 where
-  pub are_shear : (i : ℕ) → at l.shear i ≡ shear_at s areas ship.stations ship.frames i
-  pub are_bending : (i : ℕ) → at l.bending i ≡ bending_at s areas ship.stations ship.frames i
+-- at so many frames in their order, by the shear force and the bending moment of each number, and
+-- the closing error
+abbrev pub frame_load : (ℕ → ℤ) → (ℕ → ℤ) → ℕ → FrameLoad
+frame_load shear bending i = record { shear = shear i; bending = bending i }
 
--- by whether the closing error is within the ship's limit
-abbrev pub AreClosedLoads : Result Loads Outside → Sum → (ℕ → ℤ) → ShipRecord → Bool → Type 0
-AreClosedLoads (Ok l) s areas ship true = AreLoads l s areas ship
-AreClosedLoads (Ok l) s areas ship false = ⊥
-AreClosedLoads (Err outside) s areas ship true = ⊥
-AreClosedLoads (Err outside) s areas ship false = outside ≡ Closing
+pub record AreLoadsAt (l : Loads) (shear bending : ℕ → ℤ) (frames : ℕ) (closing : ℤ) : Type 0 where
+  pub are_frames : l.frames.items ≡ map (frame_load shear bending) (range_with_len 0 frames)
+  pub is_closing : l.closing ≡ closing
+
+-- those of a ship, by the areas at the stations
+abbrev pub AreLoads : Loads → Sum → (ℕ → ℤ) → ShipRecord → Type 0
+AreLoads l s areas ship =
+    AreLoadsAt l (shear_at s areas ship.stations ship.frames) (bending_at s areas ship.stations ship.frames) (length ship.frames) (closing_of s areas ship.stations)
+
+-- an answer that is so where the closing error is within the ship's limit; else the cause
+abbrev pub IsClosed : {X : Type 0} → Result X Outside → (X → Type 0) → Bool → Type 0
+IsClosed (Ok x) is true = is x
+IsClosed (Ok x) is false = ⊥
+IsClosed (Err outside) is true = ⊥
+IsClosed (Err outside) is false = outside ≡ Closing
 
 -- by the areas, where the Bonjean table has all of them
+abbrev pub IsAlong : {X : Type 0} → Result X Outside → (X → (ℕ → ℤ) → Type 0) → Sum → Option (ℕ → ℤ) → ShipRecord → Type 0
+IsAlong result is s (Some areas) ship = IsClosed result (λ x. is x areas) (closes (closing_of s areas ship.stations) ship.closing_max)
+IsAlong (Ok x) is s None ship = ⊥
+IsAlong (Err outside) is s None ship = outside ≡ Bonjean
+
 abbrev pub AreLoadsBy : Result Loads Outside → Sum → Option (ℕ → ℤ) → ShipRecord → Type 0
-AreLoadsBy result s (Some areas) ship = AreClosedLoads result s areas ship (closes (closing_of s areas ship.stations) ship.closing_max)
-AreLoadsBy (Ok l) s None ship = ⊥
-AreLoadsBy (Err outside) s None ship = outside ≡ Bonjean
+AreLoadsBy result s areas ship = IsAlong result (λ l areas. AreLoads l s areas ship) s areas ship
+
+-- the same of the numbers from which the loads are made
+abbrev pub AreStrainsOr : Result Strains Outside → Sum → Option (ℕ → ℤ) → ShipRecord → Type 0
+AreStrainsOr result s areas ship = IsAlong result (λ r areas. AreStrains r s areas ship) s areas ship
 
 -- with this aboard of a ship, by its hydrostatics; without these there are no loads
 abbrev pub AreLoadsOn : Result Loads Outside → ProfileRecord → Sum → Option Hydrostatics → Type 0

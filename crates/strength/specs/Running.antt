@@ -14,8 +14,8 @@ pub record AreRunning (volumes arms : List ℤ) (xs ys : ℕ → ℤ) (n : ℕ) 
 
 -- the loads and the closing error, by the areas at the stations
 pub record AreStrains (r : Strains) (s : Sum) (areas : ℕ → ℤ) (ship : ShipRecord) : Type 0 where
-  pub are_shear : (i : ℕ) → at r.loads.shear i ≡ shear_at s areas ship.stations ship.frames i
-  pub are_bending : (i : ℕ) → at r.loads.bending i ≡ bending_at s areas ship.stations ship.frames i
+  pub are_shear : (i : ℕ) → at r.shear i ≡ shear_at s areas ship.stations ship.frames i
+  pub are_bending : (i : ℕ) → at r.bending i ≡ bending_at s areas ship.stations ship.frames i
   pub is_closing : r.closing ≡ closing_of s areas ship.stations
 
 -- by the areas, which there are

@@ -1,17 +1,30 @@
-/// The loads at the frames, and the closing error.
-#[derive(Clone, Copy, Default)]
-pub struct Strains {
-    /// The shear forces and bending moments at the frames.
-    pub loads: Loads,
+use arrayvec::ArrayVec;
+
+/// The loads on a hull: at each frame of the ship, in their order, and the closing error.
+#[derive(Drop)]
+pub struct Loads {
+    pub frames: ArrayVec<FrameLoad, 16>,
     /// The buoyancy of all intervals between stations less the displacement, in kg.
     pub closing: i128,
 }
 
-/// The loads at each frame, 0 at the places behind the last.
-#[derive(Clone, Copy, Default)]
-pub struct Loads {
+/// The loads at one frame.
+#[derive(Clone, Copy, Debug, Default, PartialEq, Eq)]
+pub struct FrameLoad {
     /// The weight aft of the frame less the buoyancy there, in kg.
-    pub shear: [i128; 16],
+    pub shear: i128,
     /// The moment of both about the frame, in kg mm, hogging positive.
+    pub bending: i128,
+}
+
+/// The same numbers in one place, in which they are worked out: they are written anew for each
+/// condition, and no list grows. [`Strains::loads`] makes [`Loads`] of them.
+#[derive(Clone, Copy, Default)]
+pub struct Strains {
+    /// The shear forces by the numbers of the frames, 0 behind the last.
+    pub shear: [i128; 16],
+    /// The bending moments, in the same way.
     pub bending: [i128; 16],
+    /// The closing error.
+    pub closing: i128,
 }

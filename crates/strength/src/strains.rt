@@ -3,20 +3,14 @@ ghost use Rattle.units_core.specs.Interpolation.{at};
 ghost use Rattle.moment_sums.specs.Bounded.{IsBounded};
 ghost use Rattle.moment_sums.specs.Kept.{values};
 ghost use Rattle.moment_sums.specs.Sum.{Weight};
-ghost use Rattle.hydrostat.specs.Floating.{load, water};
 ghost use Rattle.strength.specs.Hull.{IsHullOf};
-ghost use Rattle.strength.specs.Immersed.{areas_along};
-ghost use Rattle.strength.specs.Loads.{AreLoadsBy, AreLoadsOf, IsFloatingWith};
 ghost use Rattle.strength.specs.Running.{AreRunning, AreStrains};
 
-use crate::aboard::strains_along;
-use crate::closing::closes;
 use crate::forces::{buoyancy, buoyancy_moment};
 use crate::hulls::Hull;
-use crate::loads::{Loads, Strains};
+use crate::loads::Strains;
 use crate::stations::mm;
 use crate::walks::Walk;
-use hydrostat::{Afloat, DraughtLine, Floating, Outside};
 use moment_sums::Totals;
 use ship_profile::Profile;
 
@@ -53,10 +47,8 @@ pub fn set_strains(
     let intervals = profile.stations().len() - 1;
     let frames = profile.frames().as_slice();
     *strains = Strains {
-        loads: Loads {
-            shear: [0; 16],
-            bending: [0; 16],
-        },
+        shear: [0; 16],
+        bending: [0; 16],
         closing: 0,
     };
     for i in 0..frames.len() {
@@ -64,37 +56,8 @@ pub fn set_strains(
         let x = mm(frames[i].x);
         let volume = walk.volumes[n];
         let arm = walk.arms[n];
-        strains.loads.shear[i] = minus(totals.weight_aft(i), i128::from(buoyancy(volume)));
-        strains.loads.bending[i] = minus(totals.moment_aft(i), buoyancy_moment(x, volume, arm));
+        strains.shear[i] = minus(totals.weight_aft(i), i128::from(buoyancy(volume)));
+        strains.bending[i] = minus(totals.moment_aft(i), buoyancy_moment(x, volume, arm));
     }
     strains.closing = minus(i128::from(buoyancy(walk.volumes[intervals])), totals.kg());
-}
-
-/// The loads on the hull of a ship afloat.
-fn loads_afloat(profile: &Profile, totals: &Totals, afloat: &Afloat) -> Result<Loads, Outside>
-    requires bounded { IsBounded (values totals.now) }
-    requires kg { unsigned_abs (values totals.now Weight) ≤ 10 ^ 9 }
-    ensures { AreLoadsBy result (values totals.now) (areas_along profile.now (water afloat.now)
-        (load afloat.now) afloat.now.lbp) profile.now.ship }
-{
-    let line = DraughtLine::new(afloat);
-    let mut walk = Walk::default();
-    let Some(strains) = strains_along(profile, &Hull::new(profile), totals, &line, &mut walk) else {
-        return Err(Outside::Bonjean);
-    };
-    if closes(strains.closing, profile.closing_max()) {
-        Ok(strains.loads)
-    } else {
-        Err(Outside::Closing)
-    }
-}
-
-/// The loads on the hull with this aboard, and floating so; [`Outside::Bonjean`] where the draught at some station, rounded down, lies outside
-/// of the Bonjean table, [`Outside::Closing`] where buoyancy and displacement differ by more than the ship's limit.
-pub fn loads_of(profile: &Profile, totals: &Totals, floating: &Floating) -> Result<Loads, Outside>
-    requires bounded { IsBounded (values totals.now) }
-    requires floating { IsFloatingWith floating.now profile.now (values totals.now) }
-    ensures { AreLoadsOf result profile.now (values totals.now) }
-{
-    loads_afloat(profile, totals, &floating.afloat)
 }

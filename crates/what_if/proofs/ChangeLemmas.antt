@@ -1,9 +1,8 @@
 -- What the steps of a list change, one by one and together.
 use Rattle.std.proofs.Common.{◌≡◌, ◌∙◌, ℕ, zero, suc, ◌+◌, ◌-◌, ◌*◌, ◌^◌, ◌<◌, ◌≤◌, List, [], ◌∷◌, ◌++◌, length, map, take, get_or, sum_by, Option, None, Some, refl, sym, ap, subst, arith}
-use Rattle.std.specs.List.{fold, range_with_len}
-use Rattle.std.specs.Prelude.{slice_get, if◌then◌else◌}
+use Rattle.std.specs.List.{range_with_len}
+use Rattle.std.specs.Prelude.{slice_get}
 use Rattle.std.proofs.lemmas.List.{get_or-map, length-map, map-append}
-use Rattle.std.proofs.lemmas.Bool.{le-leb}
 use Rattle.std.proofs.lemmas.Option.{none-some}
 use Rattle.std.proofs.lemmas.List.Sums.{fold_more, sum_by-cons}
 use Rattle.ship_profile.specs.declared.frames.Frame.{Frame}
@@ -14,12 +13,11 @@ use Rattle.lift_sequence.proofs.States.{as_many}
 use Rattle.prefix_scan.specs.Counted.{Counted}
 use Rattle.prefix_scan.specs.Cut.{Divides, start_of}
 use Rattle.prefix_scan.proofs.CutLemmas.{start_within}
-use Rattle.criteria.specs.Judgement.{Judgement}
 use Rattle.prefix_scan.specs.Folds.{prefix}
 use Rattle.moment_sums.specs.Bounded.{IsBounded}
 use Rattle.moment_sums.specs.Kept.{Kept, both_kept, none_kept, size_of, values}
 use Rattle.moment_sums.specs.KeptLaws.{kept_laws}
-use Rattle.moment_sums.specs.Sum.{Sum, joined}
+use Rattle.moment_sums.specs.Sum.{joined}
 use Rattle.moment_sums.proofs.Bounds.{values_both}
 use Rattle.run_inputs.specs.Readings.{IsMade}
 use Rattle.seq_report.specs.Cases.{IsReady, case_on, outcome_in}
@@ -27,7 +25,7 @@ use Rattle.seq_report.specs.Chunks.{AreFirstSums, change_behind, changes_behind,
 use Rattle.seq_report.specs.Report.{sum_at}
 use Rattle.seq_report.proofs.CaseLemmas.{can_be_done, ready}
 use Rattle.seq_report.proofs.SumLemmas.{change_size, changes_more, changes_size, changes_sum, room_behind, sum_here}
-use Rattle.what_if.specs.Bases.{Base, IsBase, aboard_first, change_of, changes_on, judged_at, judgement_at, report_on, steps_on}
+use Rattle.what_if.specs.Bases.{Base, IsBase, aboard_first, change_of, changes_on, report_on, steps_on}
 use Rattle.what_if.specs.Changes.{AreSmall}
 use Rattle.what_if.specs.Sessions.{IsSummed}
 
@@ -167,11 +165,6 @@ module _ (base : Base) (sequence : SequenceRecord) (tree : Counted Kept) (summed
           sum = λ c e low. sum_to_line base sequence tree total is_base summed (start_of ends c) (within c low) (get_or changes c none_kept) (each c none_kept low) (get_or sums c e) (at c e low);
           size = λ c e low. room_after base sequence tree total is_base summed (start_of ends c) (within c low) (get_or changes c none_kept) (each c none_kept low) (get_or sums c e) (at c e low);
         }
-
--- the judgement of a step that the list has
-pub judged_here : (base : Base) (ops : List Op) (k : ℕ) (j : Judgement) → k ≤ length ops → j ≡ judgement_at base ops k → Some j ≡ judged_at base ops k
-judged_here base ops k j within is =
-    (λ i. Some (is i)) ∙ ap (λ b. if b then Some (judgement_at base ops k) else None) (sym (le-leb k (length ops) within))
 
 -- what a session reports is what a run reports
 pub reports : (base : Base) (sequence : SequenceRecord) → report_on base sequence.ops ≡ outcome_in (case_on base.ship base.arrival sequence)

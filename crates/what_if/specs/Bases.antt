@@ -1,5 +1,5 @@
 -- A ship and what is aboard of her on arrival, from which lists of steps go on, and what a list comes to there.
-use Rattle.std.specs.Prelude.{◌≡◌, ℕ, ◌^◌, ◌≤◌, List, length, map, nat_le, Option, None, Some, if◌then◌else◌}
+use Rattle.std.specs.Prelude.{ℕ, ◌^◌, ◌<◌, ◌≤◌, List, length, map, Option, MatchOption}
 use Rattle.std.specs.List.{AllByRecursion}
 use Rattle.stow_messages.specs.declared.items.Item.{Item}
 use Rattle.ship_profile.specs.declared.frames.Frame.{Frame}
@@ -13,7 +13,9 @@ use Rattle.lift_sequence.specs.Bodies.{steps_of}
 use Rattle.lift_sequence.specs.Sequence.{sequence_fault}
 use Rattle.moment_sums.specs.Kept.{Kept, bodies_of, kept_of}
 use Rattle.moment_sums.specs.Sum.{changed_by}
-use Rattle.criteria.specs.Judgement.{Judgement, judgement_of}
+use Rattle.criteria.specs.Assessment.{Assessment, assessment_of}
+use Rattle.criteria.specs.Figures.{IsVerdict}
+use Rattle.criteria.specs.declared.verdicts.Verdict.{Verdict}
 use Rattle.run_inputs.specs.Readings.{HasArrived}
 use Rattle.seq_report.specs.Cases.{IsArrivalTotal}
 use Rattle.seq_report.specs.Refusal.{Outcome, outcome_on}
@@ -51,9 +53,11 @@ changes_on base ops = map (change_of base.ship.ship.frames) (steps_on base ops)
 unfoldable pub report_on : Base → List Op → Outcome
 report_on base ops = outcome_on (lines_of base.ship (aboard_first base) ops)
 
--- how the condition after k steps is judged, 0 being the one on arrival, where the list has so many
-abbrev pub judgement_at : Base → List Op → ℕ → Judgement
-judgement_at base ops k = judgement_of base.ship (sum_at base.ship (aboard_first base) ops k)
+-- how the condition after k steps is judged, 0 being the one on arrival
+abbrev pub assessment_at : Base → List Op → ℕ → Assessment
+assessment_at base ops k = assessment_of base.ship (sum_at base.ship (aboard_first base) ops k)
 
-abbrev pub judged_at : Base → List Op → ℕ → Option Judgement
-judged_at base ops k = if nat_le k (length ops) then Some (judgement_at base ops k) else None
+-- the verdict on it; none where the list hasn't so many steps
+abbrev pub IsJudgedAt : Option Verdict → Base → List Op → ℕ → Type 0
+IsJudgedAt result base ops k =
+    MatchOption result (length ops < k) (λ verdict. (k ≤ length ops) × IsVerdict verdict base.ship.ship (assessment_at base ops k))

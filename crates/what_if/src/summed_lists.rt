@@ -1,14 +1,13 @@
-ghost use Rattle.std.specs.Prelude.{◌≡◌, ℕ, ◌+◌, ◌^◌, ◌<◌, ◌≤◌, length, option_map, take, false, true, OnOk, IfOk, IfErr, None};
+ghost use Rattle.std.specs.Prelude.{◌≡◌, ℕ, ◌+◌, ◌^◌, ◌<◌, ◌≤◌, length, take, false, true, OnOk, IfOk, IfErr, None};
 ghost use Rattle.std.specs.Arc.{arc_value};
 ghost use Rattle.std.specs.Io.KnownBytes.{Appends};
 ghost use Rattle.prefix_scan.specs.Cut.{Divides};
 ghost use Rattle.prefix_scan.specs.declared.divisions.CutFault.{CutFault as CutFaultValue};
 ghost use Rattle.lift_sequence.specs.Arrival.{TellsAt};
-ghost use Rattle.criteria.specs.Judgement.{told};
 ghost use Rattle.seq_report.specs.Chunks.{AreFirstSums};
 ghost use Rattle.seq_report.specs.Plans.{Fits, IsPlanFault};
 ghost use Rattle.run_inputs.specs.Refusals.{TellsMemory, is_refusal, is_write, is_write_fault};
-ghost use Rattle.what_if.specs.Bases.{judged_at, list_fault, report_on, steps_on};
+ghost use Rattle.what_if.specs.Bases.{IsJudgedAt, list_fault, report_on, steps_on};
 
 use crate::bases::Ground;
 use crate::changes::tree_over;
@@ -109,7 +108,7 @@ impl SummedList {
 
     /// How the condition after the first `k` steps is judged, 0 being the one on arrival; `None` where the list hasn't so many.
     pub fn judge(&mut self, k: u32) -> Option<Verdict>
-        ensures judged { option_map told result ≡ judged_at self.old.base self.old.ops k }
+        ensures judged { IsJudgedAt result self.old.base self.old.ops k }
         ensures base { self.new.base ≡ self.old.base }
         ensures ops { self.new.ops ≡ self.old.ops }
         ensures grows { self.old.joins ≤ self.new.joins }

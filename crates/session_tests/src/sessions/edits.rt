@@ -2,7 +2,7 @@
 //! is tested by runs of the program (`tests/program.d/trials`).
 use super::{AFT, BOTH, STARBOARD, TWO_LOADS, check_report, report_of, session};
 use crate::checks::{holds, same};
-use criteria::Verdict;
+use criteria::{Figures, Verdict};
 use lift_sequence::{SeqCode, SeqFault};
 use std::process::Abort;
 use std::sync::Wait;
@@ -77,10 +77,23 @@ fn refused_edits(rt: HostRuntime) -> Result<(), Fail> {
     Ok(())
 }
 
+/// Compares the loads with those of the worked report of both loads, at the second frame and over
+/// the whole hull.
+fn check_loads(rt: &impl Abort, figures: &Figures) {
+    match figures.loads.frames.as_slice().get(1) {
+        Some(load) => same(rt, (load.shear, load.bending), (-5_637, -191_611_791)),
+        None => holds(rt, false),
+    }
+    same(rt, figures.loads.closing, -769);
+}
+
 #[test]
 fn judged_steps(rt: HostRuntime) -> Result<(), Fail> {
     let mut session = session(rt.alloc(), TWO_LOADS)?;
-    holds(&rt, matches!(session.judge(2), Some(Verdict::Passes(_))));
+    match session.judge(2) {
+        Some(Verdict::Passes(figures)) => check_loads(&rt, &figures),
+        _ => holds(&rt, false),
+    }
     holds(&rt, session.judge(3).is_none());
     Ok(())
 }

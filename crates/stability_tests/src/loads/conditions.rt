@@ -7,7 +7,7 @@ use hydrostat::DraughtLine;
 use ship_profile::Profile;
 use std::process::Abort;
 use std::test::Fail;
-use strength::{Hull, Walk, loads_of, strains_along};
+use strength::{FrameLoad, Hull, Walk, loads_of, strains_along};
 
 /// What is aboard, and what comes of it at her five stations, which are her frames.
 #[derive(Clone, Copy)]
@@ -55,6 +55,20 @@ static AFT: Condition = Condition {
     closing: -769,
 };
 
+impl Condition {
+    /// The loads frame by frame.
+    fn frames(&self) -> [FrameLoad; 5] {
+        let mut frames = [FrameLoad::default(); 5];
+        for i in 0..5usize {
+            frames[i] = FrameLoad {
+                shear: self.shear[i],
+                bending: self.bending[i],
+            };
+        }
+        frames
+    }
+}
+
 impl<R: Abort + AllocGlobal> Check<R> for Condition {
     fn check(&self, rt: &R, profile: &Profile) -> Result<(), Fail> {
         let sum = loaded(profile, self.container)?;
@@ -63,16 +77,12 @@ impl<R: Abort + AllocGlobal> Check<R> for Condition {
         let line = DraughtLine::new(&afloat.afloat);
         let mut walk = Walk::default();
         let strains = strains_along(profile, &hull, &sum, &line, &mut walk).ok_or("areas")?;
-        same(rt, &strains.loads.shear[..5], self.shear.as_slice());
-        same(rt, &strains.loads.bending[..5], self.bending.as_slice());
+        same(rt, &strains.shear[..5], self.shear.as_slice());
+        same(rt, &strains.bending[..5], self.bending.as_slice());
         same(rt, strains.closing, self.closing);
         let loads = loads_of(profile, &sum, &afloat).ok().ok_or("loads")?;
-        same(rt, loads.shear.as_slice(), strains.loads.shear.as_slice());
-        same(
-            rt,
-            loads.bending.as_slice(),
-            strains.loads.bending.as_slice(),
-        );
+        same(rt, loads.frames.as_slice(), self.frames().as_slice());
+        same(rt, loads.closing, self.closing);
         Ok(())
     }
 }

@@ -8,4 +8,4 @@ use Rattle.criteria.proofs.holding.first_not_met.Given as goal
 
 abbrev pub invariant-loop-k : goal.invariant-loop-k
 invariant-loop-k l = (y : ℕ → Ratio) → AreMeasures l.curve y
-    → not_met l.profile.ship (condition_of l.a y l.loads l.least) ≡ find (λ c. not (holds l.profile.ship (condition_of l.a y l.loads l.least) c)) (drop l.k criteria)
+    → not_met l.profile.ship (condition_of l.a y l.strains l.least) ≡ find (λ c. not (holds l.profile.ship (condition_of l.a y l.strains l.least) c)) (drop l.k criteria)

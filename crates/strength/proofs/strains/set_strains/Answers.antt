@@ -83,21 +83,21 @@ loop-i-preserved c =
     let few = c.as_slice-frames.ensures.few in
     let shears = inv.shear_size in
     let bendings = inv.bending_size in
-    let less : i < length c.loop-i.strains.loads.shear = omega arith in
-    let less2 : i < length c.loop-i.strains.loads.bending = omega arith in
+    let less : i < length c.loop-i.strains.shear = omega arith in
+    let less2 : i < length c.loop-i.strains.bending = omega arith in
     record {
       shear_size = simp length-set shears;
       shear_done = λ areas run.
           let force = c.buoyancy.ensures.value (at xs) areas n (to_z-of_z v ∙ run.are_volumes n low) ∙ (λ j. floor_of (force_of (at xs) areas (aft j))) in
           let shear_is = less_read c.weight_aft.result c.from.result c.minus.result _ _ w1 f1 r1 c.minus.ensures c.weight_aft.ensures (c.from.ensures ∙ (to_z-of_z b1 ∙ force)) ∙ ap (λ (o : Option Frame). shear_there s areas xs i o) (sym here) in
-          set_done c.loop-i.strains.loads.shear (shear_at s areas xs ship.frames) i _ less (inv.shear_done areas run) shear_is;
-      shear_rest = set_rest c.loop-i.strains.loads.shear (shear_at s (at xs) xs ship.frames) i _ less inv.shear_rest;
+          set_done c.loop-i.strains.shear (shear_at s areas xs ship.frames) i _ less (inv.shear_done areas run) shear_is;
+      shear_rest = set_rest c.loop-i.strains.shear (shear_at s (at xs) xs ship.frames) i _ less inv.shear_rest;
       bending_size = simp length-set bendings;
       bending_done = λ areas run.
           let moment = c.buoyancy_moment.ensures.value (at xs) areas n (to_z-of_z v ∙ run.are_volumes n low) (to_z-of_z u ∙ run.are_arms n low) ∙ (λ j. floor_of (moment_of_buoyancy (at xs) areas ((to_z-of_z m ∙ c.mm-x.ensures.value) j) (aft j))) in
           let bending_is = less_read c.moment_aft.result c.buoyancy_moment.result c.minus-in-loop-i.result _ _ w2 b2 r2 c.minus-in-loop-i.ensures c.moment_aft.ensures moment ∙ ap (λ (o : Option Frame). bending_there s areas xs i o) (sym here) in
-          set_done c.loop-i.strains.loads.bending (bending_at s areas xs ship.frames) i _ less2 (inv.bending_done areas run) bending_is;
-      bending_rest = set_rest c.loop-i.strains.loads.bending (shear_at s (at xs) xs ship.frames) i _ less2 inv.bending_rest;
+          set_done c.loop-i.strains.bending (bending_at s areas xs ship.frames) i _ less2 (inv.bending_done areas run) bending_is;
+      bending_rest = set_rest c.loop-i.strains.bending (shear_at s (at xs) xs ship.frames) i _ less2 inv.bending_rest;
     }
 
 pub returns : goal.returns
@@ -116,9 +116,9 @@ returns c =
     let r : FitsSigned w128 c.minus-strains.result = search rules in
     λ areas run.
     record {
-      are_shear = all_places c.loop-i.strains.loads.shear (shear_at s areas ship.stations ship.frames) c.loop-i.i (inv.shear_done areas run) inv.shear_rest
+      are_shear = all_places c.loop-i.strains.shear (shear_at s areas ship.stations ship.frames) c.loop-i.i (inv.shear_done areas run) inv.shear_rest
           (λ j past. let out : length ship.frames ≤ j = omega (arith, all, past) in ap (λ (o : Option Frame). shear_there s areas ship.stations j o) (slice_get_past ship.frames j out));
-      are_bending = all_places c.loop-i.strains.loads.bending (bending_at s areas ship.stations ship.frames) c.loop-i.i (inv.bending_done areas run) inv.bending_rest
+      are_bending = all_places c.loop-i.strains.bending (bending_at s areas ship.stations ship.frames) c.loop-i.i (inv.bending_done areas run) inv.bending_rest
           (λ j past. let out : length ship.frames ≤ j = omega (arith, all, past) in ap (λ (o : Option Frame). bending_there s areas ship.stations j o) (slice_get_past ship.frames j out));
       is_closing = less_read c.from-2.result c.kg.result c.minus-strains.result _ _ f k r c.minus-strains.ensures
           (c.from-2.ensures ∙ (to_z-of_z b ∙ c.buoyancy-2.ensures.value (at ship.stations) areas n (to_z-of_z v ∙ run.are_volumes n (rw c.stations.ensures.value (omega arith)))) ∙ (λ j. floor_of (force_of (at ship.stations) areas (length (c.stations.ensures.value j) - 1)))) c.kg.ensures;

@@ -7,12 +7,12 @@ use Rattle.strength.proofs.strains.set_strains.Given as goal
 
 abbrev pub invariant-loop-i : goal.invariant-loop-i
 invariant-loop-i l = record {
-  shear_size : length l.strains.loads.shear ≡ 16;
+  shear_size : length l.strains.shear ≡ 16;
   shear_done : (areas : ℕ → ℤ) → AreRunning l.walk.volumes l.walk.arms (at l.profile.ship.stations) areas (length l.profile.ship.stations - 1)
-      → (j : ℕ) → j < l.i → at l.strains.loads.shear j ≡ shear_at (values l.totals) areas l.profile.ship.stations l.profile.ship.frames j;
-  shear_rest : (j : ℕ) → l.i ≤ j → at l.strains.loads.shear j ≡ pos 0;
-  bending_size : length l.strains.loads.bending ≡ 16;
+      → (j : ℕ) → j < l.i → at l.strains.shear j ≡ shear_at (values l.totals) areas l.profile.ship.stations l.profile.ship.frames j;
+  shear_rest : (j : ℕ) → l.i ≤ j → at l.strains.shear j ≡ pos 0;
+  bending_size : length l.strains.bending ≡ 16;
   bending_done : (areas : ℕ → ℤ) → AreRunning l.walk.volumes l.walk.arms (at l.profile.ship.stations) areas (length l.profile.ship.stations - 1)
-      → (j : ℕ) → j < l.i → at l.strains.loads.bending j ≡ bending_at (values l.totals) areas l.profile.ship.stations l.profile.ship.frames j;
-  bending_rest : (j : ℕ) → l.i ≤ j → at l.strains.loads.bending j ≡ pos 0;
+      → (j : ℕ) → j < l.i → at l.strains.bending j ≡ bending_at (values l.totals) areas l.profile.ship.stations l.profile.ship.frames j;
+  bending_rest : (j : ℕ) → l.i ≤ j → at l.strains.bending j ≡ pos 0;
 }

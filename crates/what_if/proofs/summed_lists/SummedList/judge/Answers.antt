@@ -1,9 +1,13 @@
-use Rattle.std.proofs.Common.{◌≡◌, ◌∙◌, ◌^◌, ◌≤◌, length, ap, subst, sym, arith}
+use Rattle.std.proofs.Common.{◌∙◌, ◌^◌, ◌≤◌, length, Some, ap, subst, sym, arith}
 use Rattle.std.specs.Arc.{arc_value}
-use Rattle.criteria.specs.Judgement.{judgement_of, told}
-use Rattle.what_if.specs.Bases.{Base, IsBase, judged_at, judgement_at}
+use Rattle.ship_profile.specs.Record.{ProfileRecord}
+use Rattle.moment_sums.specs.Sum.{Sum}
+use Rattle.criteria.specs.Assessment.{assessment_of}
+use Rattle.criteria.specs.Figures.{IsVerdict}
+use Rattle.what_if.specs.Bases.{Base, IsBase, IsJudgedAt, aboard_first}
+use Rattle.seq_report.specs.Report.{sum_at}
 use Rattle.what_if.specs.Sessions.{Summed}
-use Rattle.what_if.proofs.ChangeLemmas.{as_many_changes, bounded_after, joined_fits, judged_here, sum_after}
+use Rattle.what_if.proofs.ChangeLemmas.{as_many_changes, bounded_after, joined_fits, sum_after}
 use Rattle.what_if.proofs.summed_lists.SummedList.judge.Goals as goal
 
 pub prefix-change-requires : goal.prefix-change-requires
@@ -32,8 +36,9 @@ returns-clause-judged c =
     let sum = sum_after base c.self.inside.sequence c.self.inside.tree c.total.result.now is_base c.self.invariant c.args.k within
     c.prefix-change.result c.prefix-change.ensures.value c.join-sum.result c.join-sum.ensures in
     let ship = c.profile.ensures ∙ ap (λ (b : Base). b.ship) c.deref-2.ensures in
-    let is : told c.judge.result ≡ judgement_at base ops c.args.k = c.judge.ensures ∙ (λ i. judgement_of (ship i) (sum i)) in
-    judged_here base ops c.args.k (told c.judge.result) within is ∙ ap (λ (v : Summed). judged_at v.base v.ops c.args.k) c.self.view_is
+    let of_sum = subst (λ (s : Sum). IsVerdict c.judge.result c.profile.result.now.ship (assessment_of c.profile.result.now s)) sum c.judge.ensures in
+    let is = subst (λ (p : ProfileRecord). IsVerdict c.judge.result p.ship (assessment_of p (sum_at base.ship (aboard_first base) ops c.args.k))) ship of_sum in
+    subst (λ (v : Summed). IsJudgedAt (Some c.judge.result) v.base v.ops c.args.k) c.self.view_is (within, is)
 
 pub returns-clause-cost : goal.returns-clause-cost
 returns-clause-cost c = λ levels h.

@@ -8,12 +8,14 @@ use Rattle.strength.specs.Immersed.{areas_along, areas_of}
 use Rattle.strength.specs.Running.{AreStrains, AreStrainsBy, AreStrainsIf}
 use Rattle.strength.specs.Strains.{closes, closing_of}
 use Rattle.strength.specs.declared.loads.Strains.{Strains}
-use Rattle.criteria.specs.Judgement.{Judgement, with_areas, with_closing}
-use Rattle.criteria.proofs.verdicts.judge_righted.Goals as goal
+use Rattle.criteria.specs.Assessment.{with_areas, with_closing}
+use Rattle.criteria.specs.Judgement.{Judgement, rounded}
+use Rattle.criteria.proofs.judging.judge_righted.Goals as goal
 
 -- what is answered of any areas that the loads are by is answered of those that there are
 by_areas : (answer : Judgement) (p : ProfileRecord) (s : Sum) (w : Hydrostatics) (y : ℕ → Ratio) (r : Strains) (o : Option (ℕ → ℤ)) → AreStrainsBy r s o p.ship
-    → ((areas : ℕ → ℤ) → AreStrains r s areas p.ship → answer ≡ with_closing p s w y areas (closes (closing_of s areas p.ship.stations) p.ship.closing_max)) → answer ≡ with_areas p s w y o
+    → ((areas : ℕ → ℤ) → AreStrains r s areas p.ship → answer ≡ rounded p.ship.lbp (with_closing p s w y areas (closes (closing_of s areas p.ship.stations) p.ship.closing_max)))
+    → answer ≡ rounded p.ship.lbp (with_areas p s w y o)
 by_areas answer p s w y r None is h = absurd is
 by_areas answer p s w y r (Some areas) is h = h areas is
 
@@ -28,5 +30,5 @@ returns-then-strains_into c =
     let areas = areas_along p (water l) (load l) l.lbp in
     let is = subst (λ (b : Bool). AreStrainsIf b r s areas p.ship) c.if-strains_into.true c.strains_into.ensures in
     λ y are. by_areas _ p s (water a) y r _ is (λ areas is. c.judge_strained.ensures areas is y are)
-    ∙ (λ j. with_areas p s (water a) y (areas_of p.tables.bonjean (draught_at (water (of j)) (load (of j)) (of j).lbp) p.ship.stations))
-    ∙ (λ j. with_areas p s (water a) y (areas_of p.tables.bonjean (draught_at (water a) (c.requires.loaded j) (c.requires.length j)) p.ship.stations))
+    ∙ (λ j. rounded p.ship.lbp (with_areas p s (water a) y (areas_of p.tables.bonjean (draught_at (water (of j)) (load (of j)) (of j).lbp) p.ship.stations)))
+    ∙ (λ j. rounded p.ship.lbp (with_areas p s (water a) y (areas_of p.tables.bonjean (draught_at (water a) (c.requires.loaded j) (c.requires.length j)) p.ship.stations)))

@@ -3,7 +3,7 @@ use Rattle.std.specs.Int.{w128}
 use Rattle.units_core.specs.Ratio.{floor_of}
 use Rattle.righting.specs.Levers.{simpson}
 use Rattle.hydrostat.specs.Floating.{draught_at, load, water}
-use Rattle.criteria.proofs.figures.Figures.set.Goals as goal
+use Rattle.criteria.proofs.rounded.RoundedFigures.set.Goals as goal
 
 pub returns-clause-figures : goal.returns-clause-figures
 returns-clause-figures c =
