@@ -81,10 +81,14 @@ static void *run_numbered(void *given) {
     return start->routine(start->argument);
 }
 
+static int (*create)(pthread_t *, const pthread_attr_t *, void *(*)(void *), void *);
+
+/* Before main, since looking up a name may ask for memory. */
+__attribute__((constructor)) static void find_create(void) {
+    create = (int (*)(pthread_t *, const pthread_attr_t *, void *(*)(void *), void *))dlsym(RTLD_NEXT, "pthread_create");
+}
+
 int pthread_create(pthread_t *thread, const pthread_attr_t *attributes, void *(*routine)(void *), void *argument) {
-    static int (*create)(pthread_t *, const pthread_attr_t *, void *(*)(void *), void *);
-    if (!create)
-        create = (int (*)(pthread_t *, const pthread_attr_t *, void *(*)(void *), void *))dlsym(RTLD_NEXT, "pthread_create");
     unsigned mine = atomic_fetch_add(&started, 1) + 1;
     if (atomic_load(&armed_thread) == STARTS && atomic_load(&armed_growth) == mine) {
         atomic_store(&refused, 1);

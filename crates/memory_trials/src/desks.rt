@@ -31,15 +31,25 @@ fn publish_twice<R: Threads + Wait + Sync>(rt: &R, desk: &Desk, session: &Sessio
     one.is_ok() && other.is_ok()
 }
 
-/// A list that is published at a desk where another was published before, in each of two threads.
+/// A list that is published at a desk in each of two threads. Two others were published there before.
 #[derive(Drop)]
 pub struct Publishing<'a> {
     pub desk: &'a Desk,
     pub session: &'a Session,
     pub early: &'a Ticket,
     pub list: &'a [Op],
+    pub second: &'a Ticket,
+    pub short: &'a [Op],
     pub ghost same: { session.now.base ≡ desk.now.base },
     pub ghost of: { IsOf desk.now early.now },
+    pub ghost of_second: { IsOf desk.now second.now },
+}
+
+impl<'a> Publishing<'a> {
+    /// Whether both lists that were published before stand as they did.
+    fn stand(&self) -> bool {
+        opens_to(self.desk, self.early, self.list) && opens_to(self.desk, self.second, self.short)
+    }
 }
 
 impl<'a, R: AllocGlobal + Threads + Wait + Sync> Trial<R> for Publishing<'a> {
@@ -52,11 +62,11 @@ impl<'a, R: AllocGlobal + Threads + Wait + Sync> Trial<R> for Publishing<'a> {
     }
 
     fn is_as_before(&mut self, _rt: &R) -> bool {
-        opens_to(self.desk, self.early, self.list)
+        self.stand()
     }
 
     fn is_done(&mut self, _rt: &R) -> bool {
-        opens_to(self.desk, self.early, self.list)
+        self.stand()
     }
 }
 
@@ -76,10 +86,10 @@ impl<'a, R: AllocGlobal> Trial<R> for Opened<'a> {
     }
 
     fn is_as_before(&mut self, _rt: &R) -> bool {
-        opens_to(self.of.desk, self.of.early, self.of.list)
+        self.of.stand()
     }
 
     fn is_done(&mut self, _rt: &R) -> bool {
-        opens_to(self.of.desk, self.of.early, self.of.list)
+        self.of.stand()
     }
 }

@@ -1,5 +1,5 @@
 //! What is tried, row by row.
-ghost use Rattle.std.specs.Prelude.{◌≡◌};
+ghost use Rattle.std.specs.Prelude.{◌≡◌, IfOk};
 ghost use Rattle.what_if.specs.Desks.{IsOf};
 
 use crate::desks::{Opened, Publishing};
@@ -15,6 +15,7 @@ use box_ship::{LOAD_TO_STARBOARD, NO_MOVES, files};
 use lift_sequence::Op;
 use seq_report::RunFault;
 use ship_profile::ProfileBytes;
+use std::alloc::Global;
 use std::io::Write;
 use std::sync::{Arc, Wait};
 use std::thread::Threads;
@@ -155,15 +156,20 @@ fn desk_by<'a, R: AllocGlobal + Threads + Wait + Sync, W: Write>(
     session: &'a Session,
     early: &'a Ticket,
     list: &'a [Op],
+    second: &'a Ticket,
+    short: &'a [Op],
 ) -> bool
     requires same { session.now.base ≡ desk.now.base }
     requires of { IsOf desk.now early.now }
+    requires of_second { IsOf desk.now second.now }
 {
     let mut publishing = Publishing {
         desk,
         session,
         early,
         list,
+        second,
+        short,
     };
     let mut right = note(out, "desk_two_threads, publish", watch(rt, &mut publishing));
     let mut opened = Opened { of: publishing };
@@ -171,24 +177,47 @@ fn desk_by<'a, R: AllocGlobal + Threads + Wait + Sync, W: Write>(
     right
 }
 
-/// The same of a desk for the base of a session.
+/// The ticket of a session's list, and the list.
+fn published<R: AllocGlobal + Wait>(
+    rt: &R,
+    desk: &Desk,
+    session: &Session,
+) -> Result<(Ticket, Vec<Op>), RunFault>
+    requires { session.now.base ≡ desk.now.base }
+    ensures { IfOk result (λ made. IsOf desk.now made.0) }
+{
+    let Ok(ticket) = desk.publish(rt, session) else {
+        return Err(RunFault::NoMemory);
+    };
+    let list = list_of(rt.alloc(), session)?;
+    Ok((ticket, list))
+}
+
+/// A desk for the base of a session.
+fn desk_of(alloc: Global, session: &Session) -> Result<Desk, RunFault>
+    ensures { IfOk result (λ desk. session.now.base ≡ desk.base) }
+{
+    let Ok(base) = Arc::try_clone(session.base()) else {
+        return Err(RunFault::NoMemory);
+    };
+    match Desk::new(alloc, base) {
+        Ok(desk) => Ok(desk),
+        Err(_) => Err(RunFault::NoMemory),
+    }
+}
+
+/// Lists at a desk, of which one is published before and one without its last step.
 fn desks<R: AllocGlobal + Threads + Wait + Sync, W: Write>(
     rt: &R,
     out: &mut W,
     session: &mut Session,
 ) -> Result<bool, RunFault> {
-    let alloc = rt.alloc();
-    let Ok(base) = Arc::try_clone(session.base()) else {
-        return Err(RunFault::NoMemory);
-    };
-    let Ok(desk) = Desk::new(alloc, base) else {
-        return Err(RunFault::NoMemory);
-    };
-    let Ok(early) = desk.publish(rt, session) else {
-        return Err(RunFault::NoMemory);
-    };
-    let list = list_of(alloc, session)?;
-    let mut right = desk_by(rt, out, &desk, session, &early, &list);
+    let desk = desk_of(rt.alloc(), session)?;
+    let (early, list) = published(rt, &desk, session)?;
+    let mut right = session.apply(edit_of(Kind::Remove)).is_ok();
+    let (second, short) = published(rt, &desk, session)?;
+    right &= session.undo() == Ok(true);
+    right &= desk_by(rt, out, &desk, session, &early, &list, &second, &short);
     let tally = watch(
         rt,
         &mut Readers {
@@ -197,11 +226,8 @@ fn desks<R: AllocGlobal + Threads + Wait + Sync, W: Write>(
             ticket: &early,
         },
     );
-    right &= note_free(
-        out,
-        "readers of a session and a desk",
-        tally.refused == 0 && tally.wrong == 0,
-    );
+    let free = tally.refused == 0 && tally.wrong == 0;
+    right &= note_free(out, "readers of a session and a desk", free);
     Ok(right)
 }
 
