@@ -2,7 +2,7 @@
 ghost use Rattle.std.specs.Prelude.{◌≡◌};
 ghost use Rattle.what_if.specs.Desks.{IsOf};
 
-use crate::trials::{Told, Trial};
+use crate::trials::Told;
 use lift_sequence::Op;
 use std::sync::Wait;
 use std::thread;
@@ -47,13 +47,12 @@ pub struct Publishing<'a> {
 
 impl<'a> Publishing<'a> {
     /// Whether both lists that were published before stand as they did.
-    fn stand(&self) -> bool {
+    pub fn stand(&self) -> bool {
         opens_to(self.desk, self.early, self.list) && opens_to(self.desk, self.second, self.short)
     }
-}
 
-impl<'a, R: AllocGlobal + Threads + Wait + Sync> Trial<R> for Publishing<'a> {
-    fn call(&mut self, rt: &R) -> Told {
+    /// Publishes the list twice.
+    pub fn publish<R: Threads + Wait + Sync>(&self, rt: &R) -> Told {
         if publish_twice(rt, self.desk, self.session) {
             Told::Right
         } else {
@@ -61,35 +60,12 @@ impl<'a, R: AllocGlobal + Threads + Wait + Sync> Trial<R> for Publishing<'a> {
         }
     }
 
-    fn is_as_before(&mut self, _rt: &R) -> bool {
-        self.stand()
-    }
-
-    fn is_done(&mut self, _rt: &R) -> bool {
-        self.stand()
-    }
-}
-
-/// The list that is published first, opened.
-#[derive(Drop)]
-pub struct Opened<'a> {
-    pub of: Publishing<'a>,
-}
-
-impl<'a, R: AllocGlobal> Trial<R> for Opened<'a> {
-    fn call(&mut self, _rt: &R) -> Told {
-        match self.of.desk.open(self.of.early) {
-            Ok(session) if session.lifts() == self.of.list => Told::Right,
+    /// Opens the list that was published first.
+    pub fn open(&self) -> Told {
+        match self.desk.open(self.early) {
+            Ok(session) if session.lifts() == self.list => Told::Right,
             Ok(_) => Told::Wrong,
             Err(_) => Told::Short,
         }
-    }
-
-    fn is_as_before(&mut self, _rt: &R) -> bool {
-        self.of.stand()
-    }
-
-    fn is_done(&mut self, _rt: &R) -> bool {
-        self.of.stand()
     }
 }

@@ -4,7 +4,7 @@ ghost use Rattle.what_if.specs.Desks.{IsOf};
 
 use crate::sessions::reweigh;
 use crate::texts::TWO_LOADS;
-use crate::trials::{Told, Trial};
+use crate::trials::Told;
 use crate::watch::{refuse, was_refused};
 use arrayvec::ArrayVec;
 use claim_board::{Event, World};
@@ -25,8 +25,9 @@ pub struct Readers<'a> {
     pub ticket: &'a Ticket,
 }
 
-impl<'a, R> Trial<R> for Readers<'a> {
-    fn call(&mut self, _rt: &R) -> Told {
+impl<'a> Readers<'a> {
+    /// Reads all that can be read.
+    pub fn call(&mut self) -> Told {
         let mut right = self.session.lifts().len() == 2;
         right &= matches!(self.session.judge(2), Some(Verdict::Passes(_)));
         right &= self.session.judge(3).is_none();
@@ -36,14 +37,6 @@ impl<'a, R> Trial<R> for Readers<'a> {
         right &= self.ticket.place() == 0;
         right &= matches!(self.desk.find(0), Some(ticket) if ticket.place() == 0);
         if right { Told::Right } else { Told::Wrong }
-    }
-
-    fn is_as_before(&mut self, _rt: &R) -> bool {
-        true
-    }
-
-    fn is_done(&mut self, _rt: &R) -> bool {
-        true
     }
 }
 
@@ -55,15 +48,19 @@ fn board_is_free(alloc: Global) -> Result<bool, AllocError> {
     };
     let (board, mut first) = Board::new(alloc, two, 3, &scout)?;
     refuse(alloc, 0, 1);
-    let Ok(mut second) = board.split(&mut first) else {
-        return Ok(false);
-    };
-    while board.turn(&Open, 1, &mut second).is_some() {}
-    while board.turn(&Open, 0, &mut first).is_some() {}
+    let mut second = board.split(&mut first)?;
+    let drawn = board.turn(&Open, 1, &mut second);
+    if drawn.is_some() {
+        let _ = board.turn(&Open, 1, &mut second);
+    }
+    let drawn = board.turn(&Open, 0, &mut first);
+    if drawn.is_some() {
+        let _ = board.turn(&Open, 0, &mut first);
+    }
     board.join(&mut first, second);
     let (next, least) = board.close(first);
     let free = !was_refused(alloc);
-    Ok(free && next == 5 && least == Some(3))
+    Ok(free && next == 4 && least == Some(3))
 }
 
 /// The events of a board without threads.
@@ -79,13 +76,16 @@ fn world_is_free(alloc: Global) -> Result<bool, AllocError> {
     Ok(free && enabled && read)
 }
 
-/// A value at its place.
-const fn last(value: u32) -> Last {
-    Last {
-        value: Some(value),
-        parts: 1,
-    }
-}
+/// The value that running joins begin with, and the one that takes a place.
+const SEVEN: Last = Last {
+    value: Some(7),
+    parts: 1,
+};
+
+const FIVE: Last = Last {
+    value: Some(5),
+    parts: 1,
+};
 
 /// Three values in a row.
 static VALUES: [Last; 3] = [
@@ -111,9 +111,9 @@ fn scans_are_free(alloc: Global) -> Result<bool, AllocError> {
     };
     refuse(alloc, 0, 1);
     let whole = fold(&VALUES);
-    let mut running = Running::new(last(7), &VALUES);
+    let mut running = Running::new(SEVEN, &VALUES);
     let first = running.next();
-    tree.set(1, last(5));
+    tree.set(1, FIVE);
     let so_far = tree.prefix(2);
     let chunks = cuts.chunks();
     let free = !was_refused(alloc);

@@ -1,6 +1,6 @@
 //! Reports, first failing steps and runs of which growths are refused.
 use crate::texts::NO_STEPS;
-use crate::trials::{Told, Trial};
+use crate::trials::Told;
 use box_ship::EMPTY_PLAN;
 use claim_run::{Gate, Open, Workers, run_least};
 use parallel_tests::three_chunks;
@@ -69,10 +69,9 @@ impl<'a> Report<'a> {
             },
         }
     }
-}
 
-impl<'a, R: AllocGlobal + Threads + Wait + Sync> Trial<R> for Report<'a> {
-    fn call(&mut self, rt: &R) -> Told {
+    /// Makes the report.
+    pub fn call<R: AllocGlobal + Threads + Wait + Sync>(&self, rt: &R) -> Told {
         let gate = Together {
             drawn: AtomicU64::new(0),
         };
@@ -92,63 +91,27 @@ impl<'a, R: AllocGlobal + Threads + Wait + Sync> Trial<R> for Report<'a> {
         }
     }
 
-    fn is_as_before(&mut self, _rt: &R) -> bool {
-        true
-    }
-
-    fn is_done(&mut self, _rt: &R) -> bool {
-        true
-    }
-}
-
-/// The first failing step of the same, of which there is none.
-#[derive(Drop)]
-pub struct First<'a> {
-    pub of: Report<'a>,
-}
-
-impl<'a, R: AllocGlobal + Threads + Wait + Sync> Trial<R> for First<'a> {
-    fn call(&mut self, rt: &R) -> Told {
+    /// Looks for its first failing step, of which there is none.
+    pub fn first<R: AllocGlobal + Threads + Wait + Sync>(&self, rt: &R) -> Told {
         let gate = Together {
             drawn: AtomicU64::new(0),
         };
-        match first_fail(rt, rt.alloc(), &gate, &self.of.inputs(), &options()) {
+        match first_fail(rt, rt.alloc(), &gate, &self.inputs(), &options()) {
             Ok(None) => Told::Right,
             Err(RunFault::NoMemory) => Told::Short,
             _ => Told::Wrong,
         }
     }
-
-    fn is_as_before(&mut self, _rt: &R) -> bool {
-        true
-    }
-
-    fn is_done(&mut self, _rt: &R) -> bool {
-        true
-    }
 }
 
 /// The least step that two workers find in three chunks.
-#[derive(Drop)]
-pub struct EarlyStop;
-
-impl<R: AllocGlobal + Threads + Wait + Sync> Trial<R> for EarlyStop {
-    fn call(&mut self, rt: &R) -> Told {
-        let Some(two) = Workers::new(2) else {
-            unreachable!()
-        };
-        match run_least(rt, rt.alloc(), &Open, two, 3, &three_chunks()) {
-            Ok(Some(3)) => Told::Right,
-            Err(_) => Told::Short,
-            _ => Told::Wrong,
-        }
-    }
-
-    fn is_as_before(&mut self, _rt: &R) -> bool {
-        true
-    }
-
-    fn is_done(&mut self, _rt: &R) -> bool {
-        true
+pub fn stop_early<R: AllocGlobal + Threads + Wait + Sync>(rt: &R) -> Told {
+    let Some(two) = Workers::new(2) else {
+        unreachable!()
+    };
+    match run_least(rt, rt.alloc(), &Open, two, 3, &three_chunks()) {
+        Ok(Some(3)) => Told::Right,
+        Err(_) => Told::Short,
+        _ => Told::Wrong,
     }
 }

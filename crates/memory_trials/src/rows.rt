@@ -2,15 +2,14 @@
 ghost use Rattle.std.specs.Prelude.{◌≡◌, IfOk};
 ghost use Rattle.what_if.specs.Desks.{IsOf};
 
-use crate::desks::{Opened, Publishing};
+use crate::desks::Publishing;
 use crate::free_calls::{Readers, are_free};
-use crate::reports::{EarlyStop, First, Report};
-use crate::sessions::{
-    Editing, Kind, Opening, SixtyFourUndos, TakingBack, edit_of, inputs, list_of,
-};
+use crate::reports::Report;
+use crate::sessions::{Editing, Kind, edit_of, inputs, list_of};
 use crate::texts::{FILLED_LINES, NO_STEPS, RESTOW, RESTOW_LINES, TWO_LINES, TWO_LOADS, filled};
+use crate::trials::Trial;
 use crate::watch::{Tally, watch};
-use crate::wrong_bodies::{LeavesHalf, Retries, Swallows};
+use crate::wrong_bodies::LeavesHalf;
 use box_ship::{LOAD_TO_STARBOARD, NO_MOVES, files};
 use lift_sequence::Op;
 use seq_report::RunFault;
@@ -52,50 +51,72 @@ fn note_caught<W: Write>(out: &mut W, name: &str, tally: Tally) -> bool {
     writeln!(out, "{name}: {said}").is_ok() && caught
 }
 
+/// Tries a call, and says how many of its growths were refused.
+fn tried<R: AllocGlobal + Threads + Wait + Sync, W: Write>(
+    rt: &R,
+    out: &mut W,
+    name: &str,
+    mut trial: Trial<'_>,
+) -> bool {
+    note(out, name, watch(rt, &mut trial))
+}
+
+/// The report on two loads.
+fn two_loads() -> Report<'static> {
+    Report {
+        profile: files(),
+        movins: TWO_LOADS,
+        steps: NO_STEPS,
+        text: TWO_LINES,
+    }
+}
+
+/// The report on a load that is restowed.
+fn restow() -> Report<'static> {
+    Report {
+        profile: files(),
+        movins: LOAD_TO_STARBOARD,
+        steps: RESTOW,
+        text: RESTOW_LINES,
+    }
+}
+
+/// The report on the box ship with her tank filled.
+fn filled_tank(ship: &[u8]) -> Report<'_> {
+    Report {
+        profile: ProfileBytes { ship, ..files() },
+        movins: NO_MOVES,
+        steps: NO_STEPS,
+        text: FILLED_LINES,
+    }
+}
+
 /// Reports and first failing steps.
 fn reports<R: AllocGlobal + Threads + Wait + Sync, W: Write>(
     rt: &R,
     out: &mut W,
 ) -> Result<bool, RunFault> {
-    let mut two_loads = Report {
-        profile: files(),
-        movins: TWO_LOADS,
-        steps: NO_STEPS,
-        text: TWO_LINES,
-    };
-    let mut right = note(out, "two_loads", watch(rt, &mut two_loads));
-    let mut first = First { of: two_loads };
-    right &= note(out, "two_loads, first failing step", watch(rt, &mut first));
-    let mut restow = Report {
-        profile: files(),
-        movins: LOAD_TO_STARBOARD,
-        steps: RESTOW,
-        text: RESTOW_LINES,
-    };
-    right &= note(out, "restow_step", watch(rt, &mut restow));
     let ship = filled(rt.alloc())?;
-    right &= filled_report(rt, out, ship.as_bytes());
-    right &= note(out, "early_stop", watch(rt, &mut EarlyStop));
+    let mut right = tried(rt, out, "two_loads", Trial::Report(two_loads()));
+    right &= tried(
+        rt,
+        out,
+        "two_loads, first failing step",
+        Trial::First(two_loads()),
+    );
+    right &= tried(rt, out, "restow_step", Trial::Report(restow()));
+    right &= tried(
+        rt,
+        out,
+        "tank_fill",
+        Trial::Report(filled_tank(ship.as_bytes())),
+    );
+    right &= tried(rt, out, "early_stop", Trial::EarlyStop);
     Ok(right)
 }
 
-/// The report on the box ship with her tank filled.
-fn filled_report<R: AllocGlobal + Threads + Wait + Sync, W: Write>(
-    rt: &R,
-    out: &mut W,
-    ship: &[u8],
-) -> bool {
-    let mut filled = Report {
-        profile: ProfileBytes { ship, ..files() },
-        movins: NO_MOVES,
-        steps: NO_STEPS,
-        text: FILLED_LINES,
-    };
-    note(out, "tank_fill", watch(rt, &mut filled))
-}
-
 /// An edit, and the same taken back.
-fn edits_by<'a, R: AllocGlobal, W: Write>(
+fn edits_by<'a, R: AllocGlobal + Threads + Wait + Sync, W: Write>(
     rt: &R,
     out: &mut W,
     session: &'a mut Session,
@@ -103,21 +124,27 @@ fn edits_by<'a, R: AllocGlobal, W: Write>(
     before: &'a [Op],
     after: &'a [Op],
 ) -> bool {
-    let mut editing = Editing {
+    let mut trial = Trial::Apply(Editing {
         session,
         kind,
         before,
         after,
+    });
+    let right = note(out, "session_edits, apply", watch(rt, &mut trial));
+    let Trial::Apply(mut editing) = trial else {
+        return false;
     };
-    let mut right = note(out, "session_edits, apply", watch(rt, &mut editing));
-    right &= editing.session.apply(edit_of(kind)).is_ok();
-    let mut back = TakingBack { editing };
-    right &= note(out, "session_edits, undo", watch(rt, &mut back));
-    right & (back.editing.session.undo() == Ok(true))
+    let made = editing.session.apply(edit_of(kind)).is_ok();
+    let mut trial = Trial::Undo(editing);
+    let taken = note(out, "session_edits, undo", watch(rt, &mut trial));
+    let Trial::Undo(editing) = trial else {
+        return false;
+    };
+    right && made && taken && editing.session.undo() == Ok(true)
 }
 
 /// The same of a session on a list, with the lists before and after the edit.
-fn edits<R: AllocGlobal, W: Write>(
+fn edits<R: AllocGlobal + Threads + Wait + Sync, W: Write>(
     rt: &R,
     out: &mut W,
     session: &mut Session,
@@ -130,22 +157,27 @@ fn edits<R: AllocGlobal, W: Write>(
     Ok(done && back && edits_by(rt, out, session, kind, &before, &after))
 }
 
+/// A call of a session that asks for none.
+fn undos<R: AllocGlobal + Threads + Wait + Sync, W: Write>(
+    rt: &R,
+    out: &mut W,
+    session: &mut Session,
+) -> bool {
+    let tally = watch(rt, &mut Trial::SixtyFourUndos(session));
+    let free = tally.refused == 0 && tally.wrong == 0;
+    note_free(out, "sixty_four_undos", free)
+}
+
 /// Edits of a session.
-fn sessions<R: AllocGlobal, W: Write>(
+fn sessions<R: AllocGlobal + Threads + Wait + Sync, W: Write>(
     rt: &R,
     out: &mut W,
     session: &mut Session,
 ) -> Result<bool, RunFault> {
-    let mut right = note(out, "session_edits, read", watch(rt, &mut Opening));
+    let mut right = tried(rt, out, "session_edits, read", Trial::Read);
     right &= edits(rt, out, session, Kind::Remove)?;
     right &= edits(rt, out, session, Kind::Move)?;
-    let tally = watch(rt, &mut SixtyFourUndos { session });
-    right &= note_free(
-        out,
-        "sixty_four_undos",
-        tally.refused == 0 && tally.wrong == 0,
-    );
-    Ok(right)
+    Ok(right & undos(rt, out, session))
 }
 
 /// Lists at a desk.
@@ -163,18 +195,19 @@ fn desk_by<'a, R: AllocGlobal + Threads + Wait + Sync, W: Write>(
     requires of { IsOf desk.now early.now }
     requires of_second { IsOf desk.now second.now }
 {
-    let mut publishing = Publishing {
+    let mut trial = Trial::Publish(Publishing {
         desk,
         session,
         early,
         list,
         second,
         short,
+    });
+    let right = note(out, "desk_two_threads, publish", watch(rt, &mut trial));
+    let Trial::Publish(publishing) = trial else {
+        return false;
     };
-    let mut right = note(out, "desk_two_threads, publish", watch(rt, &mut publishing));
-    let mut opened = Opened { of: publishing };
-    right &= note(out, "desk_two_threads, open", watch(rt, &mut opened));
-    right
+    right & tried(rt, out, "desk_two_threads, open", Trial::Open(publishing))
 }
 
 /// The ticket of a session's list, and the list.
@@ -206,46 +239,78 @@ fn desk_of(alloc: Global, session: &Session) -> Result<Desk, RunFault>
     }
 }
 
-/// Lists at a desk, of which one is published before and one without its last step.
+/// The same of a desk at which the session's list is published, without its last step too.
+fn desk_with<R: AllocGlobal + Threads + Wait + Sync, W: Write>(
+    rt: &R,
+    out: &mut W,
+    session: &mut Session,
+    desk: &Desk,
+    early: &Ticket,
+    list: &[Op],
+) -> Result<bool, RunFault>
+    requires same { session.old.base ≡ desk.now.base }
+    requires of { IsOf desk.now early.now }
+    ensures { session.new.base ≡ session.old.base }
+{
+    let edited = session.apply(edit_of(Kind::Remove)).is_ok();
+    let published = published(rt, desk, session);
+    let back = session.undo() == Ok(true);
+    match published {
+        Ok((second, short)) => {
+            Ok(edited && back && desk_by(rt, out, desk, session, early, list, &second, &short))
+        }
+        Err(fault) => Err(fault),
+    }
+}
+
+/// The same of a desk, and what reads it.
+fn desk_rows<R: AllocGlobal + Threads + Wait + Sync, W: Write>(
+    rt: &R,
+    out: &mut W,
+    session: &mut Session,
+    desk: &Desk,
+) -> Result<bool, RunFault>
+    requires { session.old.base ≡ desk.now.base }
+{
+    let (early, list) = match published(rt, desk, session) {
+        Ok(published) => published,
+        Err(fault) => return Err(fault),
+    };
+    let right = desk_with(rt, out, session, desk, &early, &list);
+    let mut readers = Trial::Readers(Readers {
+        session,
+        desk,
+        ticket: &early,
+    });
+    let tally = watch(rt, &mut readers);
+    let free = tally.refused == 0 && tally.wrong == 0;
+    let said = note_free(out, "readers of a session and a desk", free);
+    match right {
+        Ok(right) => Ok(right && said),
+        Err(fault) => Err(fault),
+    }
+}
+
+/// Lists at a desk.
 fn desks<R: AllocGlobal + Threads + Wait + Sync, W: Write>(
     rt: &R,
     out: &mut W,
     session: &mut Session,
 ) -> Result<bool, RunFault> {
-    let desk = desk_of(rt.alloc(), session)?;
-    let (early, list) = published(rt, &desk, session)?;
-    let mut right = session.apply(edit_of(Kind::Remove)).is_ok();
-    let (second, short) = published(rt, &desk, session)?;
-    right &= session.undo() == Ok(true);
-    right &= desk_by(rt, out, &desk, session, &early, &list, &second, &short);
-    let tally = watch(
-        rt,
-        &mut Readers {
-            session,
-            desk: &desk,
-            ticket: &early,
-        },
-    );
-    let free = tally.refused == 0 && tally.wrong == 0;
-    right &= note_free(out, "readers of a session and a desk", free);
-    Ok(right)
+    match desk_of(rt.alloc(), session) {
+        Ok(desk) => desk_rows(rt, out, session, &desk),
+        Err(fault) => Err(fault),
+    }
 }
 
 /// Wrong bodies.
-fn wrong<R: AllocGlobal, W: Write>(rt: &R, out: &mut W) -> bool {
-    let mut right = note_caught(
-        out,
-        "a body that asks again for less",
-        watch(rt, &mut Retries),
-    );
-    right &= note_caught(out, "a body that goes on without", watch(rt, &mut Swallows));
-    let mut half = LeavesHalf::new(rt.alloc());
-    right &= note_caught(
-        out,
-        "a body that leaves half of an edit",
-        watch(rt, &mut half),
-    );
-    right
+fn wrong<R: AllocGlobal + Threads + Wait + Sync, W: Write>(rt: &R, out: &mut W) -> bool {
+    let retry = watch(rt, &mut Trial::Retry);
+    let mut right = note_caught(out, "a body that asks again for less", retry);
+    let swallow = watch(rt, &mut Trial::Swallow);
+    right &= note_caught(out, "a body that goes on without", swallow);
+    let half = watch(rt, &mut Trial::LeaveHalf(LeavesHalf::new(rt.alloc())));
+    right & note_caught(out, "a body that leaves half of an edit", half)
 }
 
 /// All rows. Whether nothing was wrong.

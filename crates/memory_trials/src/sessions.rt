@@ -1,6 +1,6 @@
 //! Edits of a session, and edits that are taken back, of which growths are refused.
 use crate::texts::TWO_LOADS;
-use crate::trials::{Told, Trial};
+use crate::trials::Told;
 use box_ship::{EMPTY_PLAN, files};
 use lift_sequence::Op;
 use seq_report::{Inputs, RunFault};
@@ -19,25 +19,12 @@ pub fn inputs() -> Inputs<'static> {
     }
 }
 
-/// A session that is read of inputs.
-#[derive(Drop)]
-pub struct Opening;
-
-impl<R: AllocGlobal> Trial<R> for Opening {
-    fn call(&mut self, rt: &R) -> Told {
-        match Session::read(rt.alloc(), &inputs()) {
-            Ok(session) if session.lifts().len() == 2 => Told::Right,
-            Err(RunFault::NoMemory) => Told::Short,
-            _ => Told::Wrong,
-        }
-    }
-
-    fn is_as_before(&mut self, _rt: &R) -> bool {
-        true
-    }
-
-    fn is_done(&mut self, _rt: &R) -> bool {
-        true
+/// Reads a session.
+pub fn read(alloc: Global) -> Told {
+    match Session::read(alloc, &inputs()) {
+        Ok(session) if session.lifts().len() == 2 => Told::Right,
+        Err(RunFault::NoMemory) => Told::Short,
+        _ => Told::Wrong,
     }
 }
 
@@ -69,10 +56,9 @@ impl<'a> Editing<'a> {
     fn has(&self, list: &[Op]) -> bool {
         self.session.lifts() == list
     }
-}
 
-impl<'a, R: AllocGlobal> Trial<R> for Editing<'a> {
-    fn call(&mut self, _rt: &R) -> Told {
+    /// Makes the edit.
+    pub fn apply(&mut self) -> Told {
         match self.session.apply(edit_of(self.kind)) {
             Ok(()) => Told::Right,
             Err(EditFault::NoMemory) => Told::Short,
@@ -80,49 +66,38 @@ impl<'a, R: AllocGlobal> Trial<R> for Editing<'a> {
         }
     }
 
-    fn is_as_before(&mut self, _rt: &R) -> bool {
+    /// Whether the list is the one before the edit.
+    pub fn is_before(&self) -> bool {
         self.has(self.before)
     }
 
-    fn is_done(&mut self, _rt: &R) -> bool {
-        let edited = self.has(self.after);
-        // and nothing else was kept to be taken back
-        let back = self.session.undo() == Ok(true) && self.session.undo() == Ok(false);
-        edited && back && self.has(self.before)
+    /// Whether it is the one after it.
+    pub fn is_after(&self) -> bool {
+        self.has(self.after)
     }
-}
 
-/// The same edit, taken back.
-#[derive(Drop)]
-pub struct TakingBack<'a> {
-    pub editing: Editing<'a>,
-}
+    /// Whether the edit was made, and nothing else was kept to be taken back. It is taken back then.
+    pub fn is_edited(&mut self) -> bool {
+        let edited = self.is_after();
+        let back = self.session.undo() == Ok(true) && self.session.undo() == Ok(false);
+        edited && back && self.is_before()
+    }
 
-impl<'a, R: AllocGlobal> Trial<R> for TakingBack<'a> {
-    fn call(&mut self, _rt: &R) -> Told {
-        match self.editing.session.undo() {
+    /// Takes the edit back.
+    pub fn undo(&mut self) -> Told {
+        match self.session.undo() {
             Ok(true) => Told::Right,
             Ok(false) => Told::Wrong,
             Err(_) => Told::Short,
         }
     }
 
-    fn is_as_before(&mut self, _rt: &R) -> bool {
-        self.editing.has(self.editing.after)
+    /// Whether it was taken back, and nothing is left to be. It is made again then.
+    pub fn is_taken_back(&mut self) -> bool {
+        let back = self.is_before() && self.session.undo() == Ok(false);
+        let again = self.session.apply(edit_of(self.kind)).is_ok();
+        back && again && self.is_after()
     }
-
-    fn is_done(&mut self, _rt: &R) -> bool {
-        let editing = &mut self.editing;
-        let back = editing.has(editing.before) && editing.session.undo() == Ok(false);
-        let again = editing.session.apply(edit_of(editing.kind)).is_ok();
-        back && again && editing.has(editing.after)
-    }
-}
-
-/// The weights that 65 edits give the first load one after another, and 64 of them taken back: neither asks for memory.
-#[derive(Drop)]
-pub struct SixtyFourUndos<'a> {
-    pub session: &'a mut Session,
 }
 
 /// Gives the first load another weight.
@@ -133,26 +108,17 @@ pub fn reweigh(session: &mut Session, kg: u32) -> bool {
     }
 }
 
-impl<'a, R: AllocGlobal> Trial<R> for SixtyFourUndos<'a> {
-    fn call(&mut self, _rt: &R) -> Told {
-        let mut right = true;
-        for kg in 1..66 {
-            right &= reweigh(self.session, kg);
-        }
-        for _ in 0..64 {
-            right &= self.session.undo() == Ok(true);
-        }
-        right &= self.session.undo() == Ok(false);
-        if right { Told::Right } else { Told::Wrong }
+/// 65 weights of the first load, one after another, and 64 of them taken back: neither asks for memory.
+pub fn sixty_four_undos(session: &mut Session) -> Told {
+    let mut right = true;
+    for kg in 1..66 {
+        right &= reweigh(session, kg);
     }
-
-    fn is_as_before(&mut self, _rt: &R) -> bool {
-        true
+    for _ in 0..64 {
+        right &= session.undo() == Ok(true);
     }
-
-    fn is_done(&mut self, _rt: &R) -> bool {
-        true
-    }
+    right &= session.undo() == Ok(false);
+    if right { Told::Right } else { Told::Wrong }
 }
 
 /// The list of a session, in memory of its own.

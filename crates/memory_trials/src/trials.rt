@@ -1,4 +1,14 @@
-//! Calls that are tried while growths are refused.
+//! Calls that are tried while growths are refused. They are the cases of an enum, since what a thread is sent isn't known in a method of a trait.
+use crate::desks::Publishing;
+use crate::free_calls::Readers;
+use crate::reports::{Report, stop_early};
+use crate::sessions::{Editing, read, sixty_four_undos};
+use crate::wrong_bodies::{LeavesHalf, retry, swallow};
+use std::alloc::Global;
+use std::sync::Wait;
+use std::thread::Threads;
+use what_if::Session;
+
 /// How a call was answered.
 #[derive(Clone, Copy, Debug, PartialEq, Eq)]
 pub enum Told {
@@ -10,14 +20,63 @@ pub enum Told {
     Wrong,
 }
 
-/// A call that is tried while growths are refused.
-pub trait Trial<R> {
+/// A call that is tried.
+#[derive(Drop)]
+pub enum Trial<'a> {
+    Report(Report<'a>),
+    First(Report<'a>),
+    EarlyStop,
+    Read,
+    Apply(Editing<'a>),
+    Undo(Editing<'a>),
+    SixtyFourUndos(&'a mut Session),
+    Publish(Publishing<'a>),
+    Open(Publishing<'a>),
+    Readers(Readers<'a>),
+    Retry,
+    Swallow,
+    LeaveHalf(LeavesHalf),
+}
+
+impl<'a> Trial<'a> {
     /// Makes the call.
-    fn call(&mut self, rt: &R) -> Told;
+    pub fn call<R: AllocGlobal + Threads + Wait + Sync>(&mut self, rt: &R) -> Told {
+        match self {
+            Trial::Report(of) => of.call(rt),
+            Trial::First(of) => of.first(rt),
+            Trial::EarlyStop => stop_early(rt),
+            Trial::Read => read(rt.alloc()),
+            Trial::Apply(of) => of.apply(),
+            Trial::Undo(of) => of.undo(),
+            Trial::SixtyFourUndos(session) => sixty_four_undos(session),
+            Trial::Publish(of) => of.publish(rt),
+            Trial::Open(of) => of.open(),
+            Trial::Readers(of) => of.call(),
+            Trial::Retry => retry(rt.alloc()),
+            Trial::Swallow => swallow(rt.alloc()),
+            Trial::LeaveHalf(of) => of.keep(),
+        }
+    }
 
     /// Whether all that can be seen is as it was before a call that wanted memory.
-    fn is_as_before(&mut self, rt: &R) -> bool;
+    pub fn is_as_before(&self) -> bool {
+        match self {
+            Trial::Apply(of) => of.is_before(),
+            Trial::Undo(of) => of.is_after(),
+            Trial::Publish(of) | Trial::Open(of) => of.stand(),
+            Trial::LeaveHalf(of) => of.is_empty(),
+            _ => true,
+        }
+    }
 
     /// Whether all that can be seen is as it should be after the call. It then leads back to where the call can be made again.
-    fn is_done(&mut self, rt: &R) -> bool;
+    pub fn is_done(&mut self, alloc: Global) -> bool {
+        match self {
+            Trial::Apply(of) => of.is_edited(),
+            Trial::Undo(of) => of.is_taken_back(),
+            Trial::Publish(of) | Trial::Open(of) => of.stand(),
+            Trial::LeaveHalf(of) => of.is_kept(alloc),
+            _ => true,
+        }
+    }
 }

@@ -2,6 +2,8 @@
 //! messages: one says which growth of which thread is to be refused from now on, the other asks whether it was. Without it every growth is granted.
 use crate::trials::{Told, Trial};
 use std::alloc::Global;
+use std::sync::Wait;
+use std::thread::Threads;
 
 /// The size by which growth 0 of thread 0 is named: 24 bits are the growth's number, the 8 bits above it the thread's.
 const ARM: usize = 0x5EED_0000_0000;
@@ -39,17 +41,21 @@ pub fn was_refused(alloc: Global) -> bool {
 }
 
 /// Whether a call that a growth was refused said so, left everything as it was, and succeeds where it is made again.
-fn is_told<R, T: Trial<R>>(rt: &R, trial: &mut T, told: Told) -> bool {
+fn is_told<R: AllocGlobal + Threads + Wait + Sync>(
+    rt: &R,
+    trial: &mut Trial<'_>,
+    told: Told,
+) -> bool {
     told == Told::Short
-        && trial.is_as_before(rt)
+        && trial.is_as_before()
         && trial.call(rt) == Told::Right
-        && trial.is_done(rt)
+        && trial.is_done(rt.alloc())
 }
 
 /// Refuses each growth of a thread in turn.
-fn watch_thread<R: AllocGlobal, T: Trial<R>>(
+fn watch_thread<R: AllocGlobal + Threads + Wait + Sync>(
     rt: &R,
-    trial: &mut T,
+    trial: &mut Trial<'_>,
     thread: usize,
     tally: &mut Tally,
 ) {
@@ -61,7 +67,7 @@ fn watch_thread<R: AllocGlobal, T: Trial<R>>(
             tally.refused = tally.refused.saturating_add(1);
             is_told(rt, trial, told)
         } else {
-            told == Told::Right && trial.is_done(rt)
+            told == Told::Right && trial.is_done(rt.alloc())
         };
         if !right {
             tally.wrong = tally.wrong.saturating_add(1);
@@ -74,7 +80,7 @@ fn watch_thread<R: AllocGlobal, T: Trial<R>>(
 }
 
 /// Refuses each growth of a call in turn, in the caller and in each thread that it starts, and then each of these threads.
-pub fn watch<R: AllocGlobal, T: Trial<R>>(rt: &R, trial: &mut T) -> Tally {
+pub fn watch<R: AllocGlobal + Threads + Wait + Sync>(rt: &R, trial: &mut Trial<'_>) -> Tally {
     let mut tally = Tally::default();
     for thread in 0..THREADS {
         watch_thread(rt, trial, thread, &mut tally);

@@ -1,49 +1,23 @@
 //! Bodies that treat a refused growth as none should, by which the watch itself is tried.
-use crate::trials::{Told, Trial};
+use crate::trials::Told;
 use std::alloc::Global;
 
 /// One that asks again for less, and goes on.
-#[derive(Drop)]
-pub struct Retries;
-
-impl<R: AllocGlobal> Trial<R> for Retries {
-    fn call(&mut self, rt: &R) -> Told {
-        if Vec::<u8>::with_capacity(rt.alloc(), 64).is_ok() {
-            return Told::Right;
-        }
-        match Vec::<u8>::with_capacity(rt.alloc(), 32) {
-            Ok(_) => Told::Right,
-            Err(_) => Told::Short,
-        }
+pub fn retry(alloc: Global) -> Told {
+    if Vec::<u8>::with_capacity(alloc, 64).is_ok() {
+        return Told::Right;
     }
-
-    fn is_as_before(&mut self, _rt: &R) -> bool {
-        true
-    }
-
-    fn is_done(&mut self, _rt: &R) -> bool {
-        true
+    match Vec::<u8>::with_capacity(alloc, 32) {
+        Ok(_) => Told::Right,
+        Err(_) => Told::Short,
     }
 }
 
 /// One that goes on without the room that it asked for.
-#[derive(Drop)]
-pub struct Swallows;
-
-impl<R: AllocGlobal> Trial<R> for Swallows {
-    fn call(&mut self, rt: &R) -> Told {
-        let mut room = Vec::<u8>::new(rt.alloc());
-        let _ = room.reserve(64);
-        Told::Right
-    }
-
-    fn is_as_before(&mut self, _rt: &R) -> bool {
-        true
-    }
-
-    fn is_done(&mut self, _rt: &R) -> bool {
-        true
-    }
+pub fn swallow(alloc: Global) -> Told {
+    let mut room = Vec::<u8>::new(alloc);
+    let _ = room.reserve(64);
+    Told::Right
 }
 
 /// One that leaves half of an edit: the first of two numbers is kept, where there is no memory for the second.
@@ -61,10 +35,9 @@ impl LeavesHalf {
             others: Vec::new(alloc),
         }
     }
-}
 
-impl<R: AllocGlobal> Trial<R> for LeavesHalf {
-    fn call(&mut self, _rt: &R) -> Told {
+    /// Keeps both numbers.
+    pub fn keep(&mut self) -> Told {
         if self.numbers.push(1).is_err() {
             return Told::Short;
         }
@@ -74,14 +47,16 @@ impl<R: AllocGlobal> Trial<R> for LeavesHalf {
         }
     }
 
-    fn is_as_before(&mut self, _rt: &R) -> bool {
+    /// Whether none is kept.
+    pub fn is_empty(&self) -> bool {
         self.numbers.is_empty() && self.others.is_empty()
     }
 
-    fn is_done(&mut self, rt: &R) -> bool {
-        let done = self.numbers.len() == 1 && self.others.len() == 1;
-        self.numbers = Vec::new(rt.alloc());
-        self.others = Vec::new(rt.alloc());
-        done
+    /// Whether both are kept. None is then.
+    pub fn is_kept(&mut self, alloc: Global) -> bool {
+        let kept = self.numbers.len() == 1 && self.others.len() == 1;
+        self.numbers = Vec::new(alloc);
+        self.others = Vec::new(alloc);
+        kept
     }
 }
