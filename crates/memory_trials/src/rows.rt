@@ -115,8 +115,8 @@ fn reports<R: AllocGlobal + Threads + Wait + Sync, W: Write>(
     Ok(right)
 }
 
-/// An edit, and the same taken back.
-fn edits_by<'a, R: AllocGlobal + Threads + Wait + Sync, W: Write>(
+/// An edit.
+fn try_apply<'a, R: AllocGlobal + Threads + Wait + Sync, W: Write>(
     rt: &R,
     out: &mut W,
     session: &'a mut Session,
@@ -124,23 +124,46 @@ fn edits_by<'a, R: AllocGlobal + Threads + Wait + Sync, W: Write>(
     before: &'a [Op],
     after: &'a [Op],
 ) -> bool {
-    let mut trial = Trial::Apply(Editing {
+    let editing = Editing {
         session,
         kind,
         before,
         after,
-    });
-    let right = note(out, "session_edits, apply", watch(rt, &mut trial));
-    let Trial::Apply(mut editing) = trial else {
-        return false;
     };
-    let made = editing.session.apply(edit_of(kind)).is_ok();
-    let mut trial = Trial::Undo(editing);
-    let taken = note(out, "session_edits, undo", watch(rt, &mut trial));
-    let Trial::Undo(editing) = trial else {
-        return false;
+    tried(rt, out, "session_edits, apply", Trial::Apply(editing))
+}
+
+/// The same taken back.
+fn try_undo<'a, R: AllocGlobal + Threads + Wait + Sync, W: Write>(
+    rt: &R,
+    out: &mut W,
+    session: &'a mut Session,
+    kind: Kind,
+    before: &'a [Op],
+    after: &'a [Op],
+) -> bool {
+    let editing = Editing {
+        session,
+        kind,
+        before,
+        after,
     };
-    right && made && taken && editing.session.undo() == Ok(true)
+    tried(rt, out, "session_edits, undo", Trial::Undo(editing))
+}
+
+/// Both.
+fn edits_by<R: AllocGlobal + Threads + Wait + Sync, W: Write>(
+    rt: &R,
+    out: &mut W,
+    session: &mut Session,
+    kind: Kind,
+    before: &[Op],
+    after: &[Op],
+) -> bool {
+    let right = try_apply(rt, out, session, kind, before, after);
+    let made = session.apply(edit_of(kind)).is_ok();
+    let taken = try_undo(rt, out, session, kind, before, after);
+    right && made && taken && session.undo() == Ok(true)
 }
 
 /// The same of a session on a list, with the lists before and after the edit.
@@ -195,7 +218,7 @@ fn desk_by<'a, R: AllocGlobal + Threads + Wait + Sync, W: Write>(
     requires of { IsOf desk.now early.now }
     requires of_second { IsOf desk.now second.now }
 {
-    let mut trial = Trial::Publish(Publishing {
+    let published = Trial::Publish(Publishing {
         desk,
         session,
         early,
@@ -203,11 +226,16 @@ fn desk_by<'a, R: AllocGlobal + Threads + Wait + Sync, W: Write>(
         second,
         short,
     });
-    let right = note(out, "desk_two_threads, publish", watch(rt, &mut trial));
-    let Trial::Publish(publishing) = trial else {
-        return false;
-    };
-    right & tried(rt, out, "desk_two_threads, open", Trial::Open(publishing))
+    let right = tried(rt, out, "desk_two_threads, publish", published);
+    let opened = Trial::Open(Publishing {
+        desk,
+        session,
+        early,
+        list,
+        second,
+        short,
+    });
+    right & tried(rt, out, "desk_two_threads, open", opened)
 }
 
 /// The ticket of a session's list, and the list.

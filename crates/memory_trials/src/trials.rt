@@ -58,6 +58,11 @@ impl<'a> Trial<'a> {
         }
     }
 
+    /// Whether the threads are started by this program, and not by the call: then a start that is refused is no growth of the call.
+    pub fn has_own_threads(&self) -> bool {
+        matches!(self, Trial::Publish(_))
+    }
+
     /// Whether all that can be seen is as it was before a call that wanted memory.
     pub fn is_as_before(&self) -> bool {
         match self {
@@ -71,12 +76,12 @@ impl<'a> Trial<'a> {
 
     /// Whether all that can be seen is as it should be after the call. It then leads back to where the call can be made again.
     pub fn is_done(&mut self, alloc: Global) -> bool {
+        let stands = self.is_as_before();
         match self {
             Trial::Apply(of) => of.is_edited(),
             Trial::Undo(of) => of.is_taken_back(),
-            Trial::Publish(of) | Trial::Open(of) => of.stand(),
             Trial::LeaveHalf(of) => of.is_kept(alloc),
-            _ => true,
+            _ => stands,
         }
     }
 }
