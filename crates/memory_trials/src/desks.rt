@@ -4,9 +4,10 @@ ghost use Rattle.what_if.specs.Desks.{IsOf};
 
 use crate::trials::Told;
 use lift_sequence::Op;
+use std::alloc::AllocError;
 use std::sync::Wait;
 use std::thread;
-use std::thread::Threads;
+use std::thread::{Promise, PromisedHandle, Scope, Threads};
 use what_if::{Desk, Session, Ticket};
 
 /// Whether a ticket opens to a list.
@@ -19,16 +20,49 @@ fn opens_to(desk: &Desk, ticket: &Ticket, list: &[Op]) -> bool
     }
 }
 
-/// Whether each of two threads publishes the list of a session.
+/// What a thread promises that publishes a list: nothing of its answer, whether it was published.
+#[derive(Clone, Copy)]
+struct Anything;
+
+impl Promise<bool> for Anything {
+    ghost kept_by = { λ _ _. Unit };
+}
+
+/// Starts a thread that publishes the list of a session; it answers whether it was published.
+fn start<'s, E, R: Threads + Wait + Sync>(
+    scope: &Scope<'s, E>,
+    rt: &'s R,
+    desk: &'s Desk,
+    session: &'s Session,
+) -> Result<PromisedHandle<bool, Anything>, AllocError>
+    requires { session.now.base ≡ desk.now.base }
+{
+    let started = scope.spawn_with(
+        Anything,
+        move || -> bool
+            requires { session.now.base ≡ desk.now.base }
+        { desk.publish(rt, session).is_ok() },
+    );
+    Ok(started?)
+}
+
+/// Whether a thread of its own and the caller each publish the list of a session, beside one another.
 fn publish_twice<R: Threads + Wait + Sync>(rt: &R, desk: &Desk, session: &Session) -> bool
     requires { session.now.base ≡ desk.now.base }
 {
-    let (one, other) = thread::join(
+    thread::scope(
+        thread::scope_env(),
         rt,
-        || desk.publish(rt, session),
-        || desk.publish(rt, session),
-    );
-    one.is_ok() && other.is_ok()
+        |scope| -> bool
+            requires { session.now.base ≡ desk.now.base }
+        {
+            let Ok(other) = start(scope, rt, desk, session) else {
+                return false;
+            };
+            let one = desk.publish(rt, session).is_ok();
+            other.join(rt) && one
+        },
+    )
 }
 
 /// A list that is published at a desk in each of two threads. Two others were published there before.

@@ -58,11 +58,6 @@ impl<'a> Trial<'a> {
         }
     }
 
-    /// Whether the threads are started by this program, and not by the call: then a start that is refused is no growth of the call.
-    pub fn has_own_threads(&self) -> bool {
-        matches!(self, Trial::Publish(_))
-    }
-
     /// Whether all that can be seen is as it was before a call that wanted memory.
     pub fn is_as_before(&self) -> bool {
         match self {

@@ -85,8 +85,6 @@ pub fn watch<R: AllocGlobal + Threads + Wait + Sync>(rt: &R, trial: &mut Trial<'
     for thread in 0..THREADS {
         watch_thread(rt, trial, thread, &mut tally);
     }
-    if !trial.has_own_threads() {
-        watch_thread(rt, trial, STARTS, &mut tally);
-    }
+    watch_thread(rt, trial, STARTS, &mut tally);
     tally
 }
