@@ -166,9 +166,9 @@ fn report_on_them(alloc: Global) -> Result<String, AllocError> {
     Ok(text)
 }
 
-// A report that one worker puts in several pieces is that of two, which put it whole, and wherever the writer fails it holds a prefix.
+// A long report by one worker is that by two, and wherever the writer fails it holds a prefix.
 #[test]
-fn report_in_pieces(rt: HostRuntime) -> Result<(), Fail> {
+fn long_report(rt: HostRuntime) -> Result<(), Fail> {
     let movins = there_and_back(rt.alloc())?;
     let whole = report_on_them(rt.alloc())?;
     for workers in [1, 2] {
