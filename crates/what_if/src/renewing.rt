@@ -10,7 +10,9 @@ use moment_sums::Totals;
 use prefix_scan::TotalsTree;
 use ship_profile::Frames;
 
-/// Sets what the step at a place changes, if it is to be set.
+/// Sets what the step at a place changes, if it is to be set. Out of line: within the loop of [`renew`], the room of a sum would be cleared for each
+/// step, whether it is set or not.
+#[inline(never)]
 fn renew_step(
     tree: &mut TotalsTree<Totals>,
     sequence: &Sequence,
