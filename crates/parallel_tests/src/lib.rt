@@ -7,9 +7,11 @@ mod boards;
 #[cfg(test)]
 mod checks;
 mod chunks;
+mod notes;
 #[cfg(test)]
 mod runs;
 #[cfg(test)]
 mod scans;
 
 pub use chunks::{ThreeChunks, three_chunks};
+pub use notes::{Notes, notes_of};

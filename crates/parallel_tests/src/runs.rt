@@ -1,3 +1,4 @@
+mod gates;
 mod jobs;
 mod scouts;
 mod waits;

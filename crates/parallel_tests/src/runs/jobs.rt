@@ -65,7 +65,7 @@ fn gated_workers(rt: HostRuntime) -> Result<(), Fail> {
     let gate = holds_until(0, 1);
     let two = by(&rt, rt.alloc(), &gate, 2, 2, &Squares)?;
     holds(&rt, two.as_slice() == [0, 1].as_slice());
-    holds(&rt, !gate.gave_up.load(SeqCst));
+    holds(&rt, gate.has_held());
     let job = AllAtOnce {
         begun: AtomicU64::new(0),
         all: AtomicBool::new(false),

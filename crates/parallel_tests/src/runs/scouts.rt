@@ -37,13 +37,14 @@ fn early_stop(rt: HostRuntime) -> Result<(), Fail> {
     let least = least_by_two(&rt, rt.alloc(), &gate, 3, &scout)?;
     holds(&rt, least == Some(3));
     holds(&rt, !scout.third.load(SeqCst));
-    holds(&rt, !gate.gave_up.load(SeqCst));
+    holds(&rt, gate.has_held());
     Ok(())
 }
 
 /// The same chunks, of which the first is held until the look at the second has begun, and that look until the third has passed.
 #[derive(Drop)]
 struct LateSecond {
+    first_came: AtomicBool,
     second_begun: AtomicBool,
     third_passed: AtomicBool,
     gave_up: AtomicBool,
@@ -52,6 +53,7 @@ struct LateSecond {
 impl Gate for LateSecond {
     fn pass(&self, _worker: u8, chunk: u32) {
         if chunk == 0 {
+            self.first_came.store(true, SeqCst);
             wait_for(&self.second_begun, &self.gave_up);
         }
         if chunk == 2 {
@@ -93,12 +95,17 @@ impl Scout for LateSecond {
 #[test]
 fn late_smaller_failure(rt: HostRuntime) -> Result<(), Fail> {
     let late = LateSecond {
+        first_came: AtomicBool::new(false),
         second_begun: AtomicBool::new(false),
         third_passed: AtomicBool::new(false),
         gave_up: AtomicBool::new(false),
     };
     let least = least_by_two(&rt, rt.alloc(), &late, 3, &late)?;
     holds(&rt, least == Some(3));
+    holds(
+        &rt,
+        late.first_came.load(SeqCst) && late.third_passed.load(SeqCst),
+    );
     holds(&rt, !late.gave_up.load(SeqCst));
     Ok(())
 }

@@ -3,9 +3,11 @@ use claim_run::{Gate, Job};
 use std::alloc::{AllocError, Global};
 use std::sync::atomic::AtomicBool;
 use std::sync::atomic::Ordering::SeqCst;
+use std::thread;
 
-/// How many turns a wait has; a turn is one load of a flag.
-const TURNS: u32 = 50_000_000;
+/// How many turns a wait has; a turn is one load of a flag, and leave for other threads to go on. Without that leave, sixteen threads that wait on two
+/// processors may use up their turns before the last of them is started.
+const TURNS: u32 = 2_000_000;
 
 /// Waits for the flag, and notes where it gives up.
 pub fn wait_for(flag: &AtomicBool, gave_up: &AtomicBool) {
@@ -13,6 +15,7 @@ pub fn wait_for(flag: &AtomicBool, gave_up: &AtomicBool) {
         if flag.load(SeqCst) {
             return;
         }
+        thread::yield_now();
     }
     gave_up.store(true, SeqCst);
 }
@@ -22,8 +25,16 @@ pub fn wait_for(flag: &AtomicBool, gave_up: &AtomicBool) {
 pub struct HoldsUntil {
     held: u32,
     awaited: u32,
+    came: AtomicBool,
     passed: AtomicBool,
-    pub gave_up: AtomicBool,
+    gave_up: AtomicBool,
+}
+
+impl HoldsUntil {
+    /// Whether the chunk came and was held until the other had passed.
+    pub fn has_held(&self) -> bool {
+        self.came.load(SeqCst) && self.passed.load(SeqCst) && !self.gave_up.load(SeqCst)
+    }
 }
 
 impl Gate for HoldsUntil {
@@ -32,6 +43,7 @@ impl Gate for HoldsUntil {
             self.passed.store(true, SeqCst);
         }
         if chunk == self.held {
+            self.came.store(true, SeqCst);
             wait_for(&self.passed, &self.gave_up);
         }
     }
@@ -41,6 +53,7 @@ pub fn holds_until(held: u32, awaited: u32) -> HoldsUntil {
     HoldsUntil {
         held,
         awaited,
+        came: AtomicBool::new(false),
         passed: AtomicBool::new(false),
         gave_up: AtomicBool::new(false),
     }
