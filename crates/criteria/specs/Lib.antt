@@ -2,6 +2,7 @@ pub mod Assessment
 pub mod Criteria
 pub mod Figures
 pub mod Judgement
+pub mod Law
 pub mod Least
 pub mod Measures
 pub mod Met
