@@ -36,10 +36,7 @@ pub fn ship(alloc: Global, inputs: &Inputs<'_>) -> Result<Profile, RunFault>
     ensures silent { is_write result ≡ false }
     ensures uncut { is_cut result ≡ false }
 {
-    match Profile::read(alloc, &inputs.profile) {
-        Ok(profile) => Ok(profile),
-        Err(fault) => Err(profile_refusal(fault)),
-    }
+    Profile::read(alloc, &inputs.profile).map_err(profile_refusal)
 }
 
 /// The items of the text of a bay plan.
@@ -50,10 +47,7 @@ pub fn items(alloc: Global, text: &[u8]) -> Result<Vec<Item>, RunFault>
     ensures silent { is_write result ≡ false }
     ensures uncut { is_cut result ≡ false }
 {
-    match baplie(alloc, text) {
-        Ok(items) => Ok(items),
-        Err(fault) => Err(baplie_refusal(fault)),
-    }
+    baplie(alloc, text).map_err(baplie_refusal)
 }
 
 /// The condition of the ship on arrival with these items.
@@ -68,10 +62,7 @@ pub fn arrival(alloc: Global, profile: &Profile, items: Vec<Item>) -> Result<Arr
     ensures silent { is_write result ≡ false }
     ensures uncut { is_cut result ≡ false }
 {
-    match Arrival::new(alloc, profile, items, profile.fills()) {
-        Ok(arrival) => Ok(arrival),
-        Err(fault) => Err(arrival_refusal(fault)),
-    }
+    Arrival::new(alloc, profile, items, profile.fills()).map_err(arrival_refusal)
 }
 
 /// The lifts of the text of a movement instruction.
@@ -83,10 +74,7 @@ pub fn lifts(alloc: Global, text: &[u8]) -> Result<Vec<Lift>, RunFault>
     ensures uncut { is_cut result ≡ false }
     ensures few { IfOk result (λ lifts. length lifts.items ≤ 200000) }
 {
-    match movins(alloc, text) {
-        Ok(lifts) => Ok(lifts),
-        Err(fault) => Err(movins_refusal(fault)),
-    }
+    movins(alloc, text).map_err(movins_refusal)
 }
 
 /// The rows of the steps file, where there is one.
@@ -102,10 +90,7 @@ fn rows(alloc: Global, text: Option<&[u8]>, lifts: u32) -> Result<Option<Vec<Ste
     let Some(text) = text else {
         return Ok(None);
     };
-    match steps(alloc, text, lifts) {
-        Ok(rows) => Ok(Some(rows)),
-        Err(fault) => Err(steps_refusal(fault)),
-    }
+    Ok(Some(steps(alloc, text, lifts).map_err(steps_refusal)?))
 }
 
 /// The steps that the lifts come to, with the steps file.
@@ -133,6 +118,7 @@ pub fn orders_by(
 ) -> Result<Vec<Op>, RunFault>
     requires { AreMovesRead moves inputs.now.movins.now }
     ensures ok { IfOk result (λ o. orders_in inputs.now ≡ Ok o.items) }
+    ensures passed { (e : _) → moves ≡ Err e → result ≡ Err e }
     ensures refused { IfErr result (λ e. e ≢ RunFault.NoMemory → orders_in inputs.now ≡ Err e) }
     ensures memory { IfErr result TellsMemory }
     ensures silent { is_write result ≡ false }
@@ -162,8 +148,5 @@ pub fn sequence(
     ensures silent { is_write result ≡ false }
     ensures uncut { is_cut result ≡ false }
 {
-    match Sequence::new(alloc, profile, arrival, ops) {
-        Ok(sequence) => Ok(sequence),
-        Err(fault) => Err(sequence_refusal(fault)),
-    }
+    Sequence::new(alloc, profile, arrival, ops).map_err(sequence_refusal)
 }
