@@ -3,7 +3,9 @@ ghost use Rattle.strength.specs.Hull.{IsHullOf};
 use super::masses::{BLOCK, Mass, sum_of};
 use crate::checks::same;
 use box_ship::{Check, on_box_ship};
-use criteria::{Criterion, Figures, Nearby, RoundedFigures, Verdict, judge, judge_into};
+use criteria::{
+    Criterion, Figures, Nearby, RoundedFigures, Verdict, judge, judge_into, judges_in_order,
+};
 use hydrostat::Outside;
 use righting::{Levers, area_over_pairs, best_from_30, greatest_number};
 use ship_profile::Profile;
@@ -199,4 +201,10 @@ static CONDITIONS: [Row; 4] = [
 #[test]
 fn conditions(rt: HostRuntime) -> Result<(), Fail> {
     on_box_ship(&rt, &Rows(&CONDITIONS))
+}
+
+// The law has no body: this shows that it can be called.
+#[test]
+fn law_of_the_order(_rt: HostRuntime) {
+    judges_in_order();
 }
