@@ -9,6 +9,7 @@ use ship_profile::ProfileBytes;
 use std::sync::Wait;
 use std::sync::atomic::AtomicU64;
 use std::sync::atomic::Ordering::SeqCst;
+use std::thread;
 use std::thread::Threads;
 
 /// How often a worker looks at most whether the others have a chunk too.
@@ -31,6 +32,7 @@ impl Gate for Together {
             if self.drawn.load(SeqCst) >= all {
                 return;
             }
+            thread::yield_now();
         }
     }
 }

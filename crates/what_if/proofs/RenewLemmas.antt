@@ -1,7 +1,7 @@
 -- Setting what steps change, one after another.
 use Rattle.std.proofs.Common.{◌≡◌, ℕ, zero, suc, ◌+◌, ◌-◌, ◌*◌, ◌^◌, ◌<◌, ◌≤◌, List, [], ◌∷◌, ◌++◌, length, map, take, drop, set, get_or, sum_by, Option, None, Some, Bool, true, false, refl, sym, ap, ◌∙◌, subst, arith, mul-le-mul_right}
 use Rattle.std.specs.Prelude.{slice_get, option_map, if◌then◌else◌}
-use Rattle.std.proofs.lemmas.List.{length-set, length-map, take_more, drop_more, set_at, length-take-le, append_assoc, set_split, take_all, drop_all, append-nil, drop-set-lt, length-drop, take-map}
+use Rattle.std.proofs.lemmas.List.{length-set, take_more, drop_more, set_at, length-take-le, append_assoc, set_split, take_all, drop_all, append-nil, drop-set-lt, length-drop, take-map}
 use Rattle.std.proofs.lemmas.Option.{none-some}
 use Rattle.units_core.specs.declared.cells.Cell.{Cell}
 use Rattle.stow_messages.specs.declared.lifts.Lift.TheVariants.{Load}
@@ -87,11 +87,9 @@ module _ (frames : List Frame) where
     back : (n : ℕ) → n + 1 - 1 ≡ n
     back n = omega arith
 
-  pub renews : (xs after : List Kept) (steps : List Step) (place : ℕ) (s : Step) (v : Kept) (moved : Bool) → moved ≡ true → after ≡ set xs place v → v ≡ change_of frames s
-      → slice_get steps (place + 1 - 1) ≡ Some s → after ≡ (if moved then set xs place (get_or (map (change_of frames) steps) place none_kept) else xs)
-  renews xs after steps place s v moved renewed sets is h =
-      sets ∙ ap (set xs place) (is ∙ sym (read_change steps place s (at_place steps place s h)))
-      ∙ ap (λ b. if b then set xs place (get_or (map (change_of frames) steps) place none_kept) else xs) (sym renewed)
+  pub renews : (xs after : List Kept) (steps : List Step) (place : ℕ) (s : Step) (v : Kept) → after ≡ set xs place v → v ≡ change_of frames s
+      → slice_get steps (place + 1 - 1) ≡ Some s → after ≡ set xs place (get_or (map (change_of frames) steps) place none_kept)
+  renews xs after steps place s v sets is h = sets ∙ ap (set xs place) (is ∙ sym (read_change steps place s (at_place steps place s h)))
 
   pub near_of : (kg : ℕ) (cell : Option Cell) (ops : List Op) (xs : List Step) → length xs ≡ length ops
       → AreNear cell ops (map (change_of frames) xs) (map (change_of frames) (steps_weighed kg cell ops xs))

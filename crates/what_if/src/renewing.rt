@@ -10,9 +10,25 @@ use moment_sums::Totals;
 use prefix_scan::TotalsTree;
 use ship_profile::Frames;
 
-/// Sets what the step at a place changes, if it is to be set. Out of line: within the loop of [`renew`], the room of a sum would be cleared for each
+/// Sets what the step at a place changes. Out of line: room for a sum is cleared where this begins, and in the loop of [`renew`] that would be for each
 /// step, whether it is set or not.
 #[inline(never)]
+fn set_step(tree: &mut TotalsTree<Totals>, sequence: &Sequence, frames: &Frames, place: usize)
+    requires within { place < length tree.old.values }
+    requires ops { length sequence.now.ops ≡ length tree.old.values }
+    requires steps { length sequence.now.steps ≡ length sequence.now.ops }
+    requires few { length tree.old.values ≤ 120000 }
+    requires small { AreSmall tree.old.values }
+    ensures values { tree.new.values ≡ slice_set tree.old.values place
+        (slice_index_or (map (change_of frames.now) sequence.now.steps) place none_kept) }
+    ensures grows { tree.old.joins ≤ tree.new.joins }
+    ensures cost { (levels : ℕ) → length tree.old.values ≤ 2 ^ levels
+        → tree.new.joins ≤ tree.old.joins + (levels + 1) }
+{
+    tree.set(place, Totals::of_step(&sequence.step(place + 1), frames));
+}
+
+/// Sets what the step at a place changes, if it is to be set.
 fn renew_step(
     tree: &mut TotalsTree<Totals>,
     sequence: &Sequence,
@@ -33,7 +49,7 @@ fn renew_step(
         → tree.new.joins ≤ tree.old.joins + (if moved then 1 else 0) * (levels + 1) }
 {
     if moved {
-        tree.set(place, Totals::of_step(&sequence.step(place + 1), frames));
+        set_step(tree, sequence, frames, place);
     }
 }
 

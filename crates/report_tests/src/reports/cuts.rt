@@ -1,10 +1,13 @@
 use super::{check_refusal, inputs, options, written_by};
 use crate::checks::{holds, same};
 use claim_run::Gate;
-use seq_report::{CutPlan, Summary, Through, report};
+use parallel_tests::notes_of;
+use seq_report::{CutPlan, Summary, Through, first_fail, report};
+use std::alloc::{AllocError, Global};
 use std::sync::atomic::Ordering::SeqCst;
 use std::sync::atomic::{AtomicBool, AtomicU64};
 use std::test::Fail;
+use std::thread;
 
 /// The container of 20,500 kg to starboard, and then one of 20,500 kg on deck amidships: two steps, and so three lines.
 const TWO_LOADS: &[u8] =
@@ -40,8 +43,8 @@ fn two_loads(rt: HostRuntime) {
     }
 }
 
-/// How long a worker is held at most.
-const TURNS: u32 = 50_000_000;
+/// How often a worker that is held looks at most whether it may go on; between two looks other threads may.
+const TURNS: u32 = 2_000_000;
 
 /// A gate that holds each run's chunk 0 until its chunk 1 has passed, and notes where it gave up waiting. A report on one thread, or under
 /// one lock from a draw to the chunk's end, would never let it through.
@@ -63,6 +66,7 @@ impl Gate for SecondFirst {
                 if self.ones.load(SeqCst) > runs {
                     return;
                 }
+                thread::yield_now();
             }
             self.gave_up.store(true, SeqCst);
         }
@@ -87,7 +91,54 @@ fn gated_workers(rt: HostRuntime) {
     );
     same(&rt, taken.as_slice(), LINES);
     holds(&rt, outcome.is_ok());
+    holds(
+        &rt,
+        gate.zeros.load(SeqCst) == 2 && gate.ones.load(SeqCst) == 2,
+    );
     holds(&rt, !gate.gave_up.load(SeqCst));
+}
+
+/// A container comes aboard eight times, and goes ashore between: fifteen lifts, and so sixteen lines.
+fn fifteen_lifts(alloc: Global) -> Result<Vec<u8>, AllocError> {
+    let load = b"HAN+LOA'LOC+147+0030082'MEA+WT++KGM:20500'";
+    let mut text = Vec::new(alloc);
+    text.extend_from_slice(b"UNB+UNOA:2+PLAN+SHIP+250101:1200+8'UNH+1+MOVINS:D:95B:UN'")?;
+    for _ in 0..7 {
+        text.extend_from_slice(load)?;
+        text.extend_from_slice(b"HAN+DIS'LOC+147+0030082'EQD+CN'")?;
+    }
+    text.extend_from_slice(load)?;
+    text.extend_from_slice(b"UNT+47+1'UNZ+1+8'")?;
+    Ok(text)
+}
+
+/// So many workers, and the length of as many chunks of sixteen lines.
+static STAFFS: [(u8, u32); 3] = [(2, 8), (3, 6), (16, 1)];
+
+// A report has two runs, one for the sums and one for the lines; so has the search for the first step that fails. In each the gate is called for each
+// chunk, by each of the workers.
+#[test]
+fn calls_of_the_gate(rt: HostRuntime) -> Result<(), Fail> {
+    let lifts = fifteen_lifts(rt.alloc())?;
+    let inputs = inputs(&lifts);
+    for (workers, length) in STAFFS {
+        let options = options(workers, CutPlan::Every(length));
+        let gate = notes_of(workers);
+        let mut taken = Vec::new(rt.alloc());
+        let outcome = report(
+            &rt,
+            rt.alloc(),
+            &gate,
+            &inputs,
+            &options,
+            &mut Through::new(&mut taken),
+        );
+        holds(&rt, outcome.is_ok() && gate.each_passed(2));
+        let gate = notes_of(workers);
+        let first = first_fail(&rt, rt.alloc(), &gate, &inputs, &options);
+        holds(&rt, first == Ok(None) && gate.each_passed(2));
+    }
+    Ok(())
 }
 
 /// Plans that don't fit three lines, and what is told of each.

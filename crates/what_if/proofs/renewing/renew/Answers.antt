@@ -1,7 +1,7 @@
-use Rattle.std.proofs.Common.{◌≡◌, ◌∙◌, ◌≤◌, ◌<◌, ◌+◌, ◌*◌, ◌^◌, ℕ, List, length, map, take, drop, set, get_or, true, sym, ap, subst, arith}
+use Rattle.std.proofs.Common.{◌≡◌, ◌∙◌, ◌≤◌, ◌<◌, ◌+◌, ◌*◌, ◌^◌, List, length, map, drop, set, get_or, true, sym, ap, subst, arith}
 use Rattle.std.specs.Prelude.{if◌then◌else◌}
 use Rattle.std.proofs.lemmas.List.{length-map}
-use Rattle.lift_sequence.specs.Follow.{loaded_at, moves, moves_in, next_cell}
+use Rattle.lift_sequence.specs.Follow.{loaded_at, moves, moves_in}
 use Rattle.moment_sums.specs.Kept.{Kept, none_kept}
 use Rattle.what_if.specs.Bases.{change_of}
 use Rattle.what_if.specs.Changes.{AreNear}

@@ -1,4 +1,4 @@
-use Rattle.std.proofs.Common.{◌≡◌, ◌∙◌, ◌+◌, ◌*◌, ◌≤◌, Some, None, ap, subst, sym}
+use Rattle.std.proofs.Common.{◌≡◌, ◌∙◌, ◌+◌, ◌*◌, ◌≤◌, None, ap, subst, sym}
 use Rattle.std.specs.List.{swap}
 use Rattle.std.specs.Option.{option_map, option_or}
 use Rattle.lift_sequence.specs.Follow.{weighed_at}
