@@ -135,6 +135,7 @@ fn arrived_by(
     requires ship { IsRead profile (λ p. ship_in inputs.now ≡ Ok p)
         (λ e. ship_in inputs.now ≡ Err e) }
     requires items { IsPlanRead plan inputs.now.baplie.now }
+    ensures passed { (e : _) → profile ≡ Err e → result ≡ Err e }
     ensures told { IfOk result (λ r. AreArrived inputs.now r.0 r.1) }
     ensures refused { IfErr result (λ e. e ≢ RunFault.NoMemory → outcome_of inputs.now ≡ Err e) }
     ensures memory { IfErr result TellsMemory }
@@ -162,6 +163,7 @@ fn case_by(
         (λ e. outcome_of inputs.now ≡ Err e) }
     requires orders { IsRead orders (λ o. orders_in inputs.now ≡ Ok o.items)
         (λ e. orders_in inputs.now ≡ Err e) }
+    ensures passed { (e : _) → arrived ≡ Err e → result ≡ Err e }
     ensures ok { IfOk result (λ case. outcome_of inputs.now ≡ Ok (outcome_in case)) }
     ensures told { IfOk result (IsToldBy inputs.now) }
     ensures ready { IfOk result IsReady }

@@ -47,6 +47,17 @@ impl<W: Write + Drop> Through<W> {
             has_failed: false,
         }
     }
+
+    /// The writer, with what it holds.
+    pub fn into_inner(self) -> W
+        ensures { result ≡ self.writer }
+    {
+        let Through {
+            writer,
+            has_failed: _,
+        } = self;
+        writer
+    }
 }
 
 impl<W: Write + Drop> Sink for Through<W> {
