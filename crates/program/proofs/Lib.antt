@@ -1,2 +1,3 @@
 pub mod StopLemmas
 pub mod TrialLemmas
+pub mod WrittenLemmas

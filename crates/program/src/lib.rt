@@ -4,5 +4,6 @@
 
 mod serving;
 mod trials;
+mod writers;
 
 pub use serving::{serve, stopped};

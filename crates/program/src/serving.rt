@@ -1,12 +1,12 @@
-ghost use Rattle.std.specs.Prelude.{◌≡◌, ◌≤◌, IfOk, IfErr, Ok, false, map};
+ghost use Rattle.std.specs.Prelude.{◌≡◌, ◌≤◌, ◌++◌, IfOk, IfErr, false, true, map, codes};
 ghost use Rattle.std.specs.Io.KnownBytes.{Appends};
-ghost use Rattle.seq_report.specs.Refusal.{Outcome, outcome_of};
-ghost use Rattle.seq_report.specs.Report.{last_line};
 ghost use Rattle.command_line.specs.Lines.{IsNotTaken};
-ghost use Rattle.program.specs.Runs.{AreTried, IsRefusedBy, IsReported, IsReportedBy, IsStopBy, IsStopOf, IsStopOn};
-ghost use Rattle.run_files.specs.Statuses.{status_of, status_on};
+ghost use Rattle.run_files.specs.Statuses.{status_of, stop_text};
+ghost use Rattle.program.specs.Runs.{IsLeft, IsLeftBy, IsLeftOf, IsRefusedBy, IsReported, IsReportedBy, IsRun, IsStopBy, IsStopOf, IsStopOn, IsStoppedBy};
+ghost use Rattle.program.specs.Written.{HasWritten};
 
 use crate::trials::try_edits;
+use crate::writers::Lent;
 use claim_run::{Gate, Workers};
 use command_line::{Line, Task, read_line};
 use run_files::{Readers, Stop, read_texts, status_on};
@@ -21,7 +21,8 @@ use std::thread::Threads;
 /// How a line wants the report made.
 fn options_of(line: Line<'_>) -> Options<'static>
     requires workers { (1 ≤ line.workers) × (line.workers ≤ 16) }
-    ensures { result.cuts ≡ CutPlan.Every line.entry.chunk }
+    ensures workers { result.workers ≡ line.entry.workers }
+    ensures cuts { result.cuts ≡ CutPlan.Every line.entry.chunk }
 {
     let Some(workers) = Workers::new(line.workers as u8) else {
         unreachable!()
@@ -44,11 +45,15 @@ fn report_to<G: Gate, T: Threads + Wait + Sync, S: Sink>(
     requires chunk { 1 ≤ line.chunk }
     requires workers { (1 ≤ line.workers) × (line.workers ≤ 16) }
     requires sound { S.has_failed sink.old ≡ false }
-    ensures written { IfOk result (λ status. (outcome : Outcome)
-        × (outcome_of inputs.now ≡ Ok outcome) × (status ≡ status_on outcome.summary.first)
-        × Appends (S.contents sink.old) (S.contents sink.new) outcome.text) }
+    ensures written { (edits : _) → IfOk result (λ status.
+        HasWritten (S.contents sink.old) (S.contents sink.new)
+        (IsRun Task.Check inputs.now edits status)) }
     ensures status { IfOk result (λ status. status ≤ 1) }
-    ensures stopped { (edits : _) → IfErr result (IsStopOn Task.Check inputs.now edits) }
+    ensures stopped { (edits : _) → IfErr result
+        (IsStopOn Task.Check inputs.now edits (S.has_failed sink.new)) }
+    ensures left { (edits : _) → IfErr result (λ stop.
+        HasWritten (S.contents sink.old) (S.contents sink.new)
+        (IsLeft Task.Check inputs.now edits stop)) }
 {
     let options = options_of(line);
     let summary = match report(rt, alloc, gate, inputs, &options, sink) {
@@ -70,11 +75,15 @@ fn first_to<G: Gate, T: Threads + Wait + Sync, S: Sink>(
     requires chunk { 1 ≤ line.chunk }
     requires workers { (1 ≤ line.workers) × (line.workers ≤ 16) }
     requires sound { S.has_failed sink.old ≡ false }
-    ensures written { IfOk result (λ status. (outcome : Outcome)
-        × (outcome_of inputs.now ≡ Ok outcome) × (status ≡ status_on outcome.summary.first)
-        × Appends (S.contents sink.old) (S.contents sink.new) (last_line outcome.summary.first)) }
+    ensures written { (edits : _) → IfOk result (λ status.
+        HasWritten (S.contents sink.old) (S.contents sink.new)
+        (IsRun Task.First inputs.now edits status)) }
     ensures status { IfOk result (λ status. status ≤ 1) }
-    ensures stopped { (edits : _) → IfErr result (IsStopOn Task.First inputs.now edits) }
+    ensures stopped { (edits : _) → IfErr result
+        (IsStopOn Task.First inputs.now edits (S.has_failed sink.new)) }
+    ensures left { (edits : _) → IfErr result (λ stop.
+        HasWritten (S.contents sink.old) (S.contents sink.new)
+        (IsLeft Task.First inputs.now edits stop)) }
 {
     let options = options_of(line);
     let first = match first_fail(rt, alloc, gate, inputs, &options) {
@@ -105,11 +114,15 @@ fn trial_to<G: Gate, T: Threads + Wait + Sync, S: Sink>(
     requires chunk { 1 ≤ line.chunk }
     requires workers { (1 ≤ line.workers) × (line.workers ≤ 16) }
     requires sound { S.has_failed sink.old ≡ false }
-    ensures written { IfOk result (λ status. (outcome : Outcome)
-        × AreTried inputs.now edits.now outcome × (status ≡ status_on outcome.summary.first)
-        × Appends (S.contents sink.old) (S.contents sink.new) outcome.text) }
+    ensures written { IfOk result (λ status.
+        HasWritten (S.contents sink.old) (S.contents sink.new)
+        (IsRun Task.WhatIf inputs.now edits.now status)) }
     ensures status { IfOk result (λ status. status ≤ 1) }
-    ensures stopped { IfErr result (IsStopOn Task.WhatIf inputs.now edits.now) }
+    ensures stopped { IfErr result
+        (IsStopOn Task.WhatIf inputs.now edits.now (S.has_failed sink.new)) }
+    ensures left { IfErr result (λ stop.
+        HasWritten (S.contents sink.old) (S.contents sink.new)
+        (IsLeft Task.WhatIf inputs.now edits.now stop)) }
 {
     let options = options_of(line);
     let trial = try_edits(alloc, inputs, edits)?;
@@ -123,6 +136,61 @@ fn trial_to<G: Gate, T: Threads + Wait + Sync, S: Sink>(
     Ok(status_on(summary.first))
 }
 
+/// Writes to a sink what a line asks for on these inputs and edits, and gives the exit status: 0, or 1 where a step fails.
+fn task_to<G: Gate, T: Threads + Wait + Sync, S: Sink>(
+    rt: &T,
+    alloc: Global,
+    gate: &G,
+    inputs: &Inputs<'_>,
+    edits: &[u8],
+    line: Line<'_>,
+    sink: &mut S,
+) -> Result<u8, Stop>
+    requires chunk { 1 ≤ line.chunk }
+    requires workers { (1 ≤ line.workers) × (line.workers ≤ 16) }
+    requires sound { S.has_failed sink.old ≡ false }
+    ensures written { IfOk result (λ status.
+        HasWritten (S.contents sink.old) (S.contents sink.new)
+        (IsRun line.entry.task inputs.now edits.now status)) }
+    ensures status { IfOk result (λ status. status ≤ 1) }
+    ensures stopped { IfErr result
+        (IsStopOn line.entry.task inputs.now edits.now (S.has_failed sink.new)) }
+    ensures left { IfErr result (λ stop.
+        HasWritten (S.contents sink.old) (S.contents sink.new)
+        (IsLeft line.entry.task inputs.now edits.now stop)) }
+{
+    match line.task {
+        Task::Check => report_to(rt, alloc, gate, inputs, line, sink),
+        Task::First => first_to(rt, alloc, gate, inputs, line, sink),
+        Task::WhatIf => trial_to(rt, alloc, gate, inputs, edits, line, sink),
+    }
+}
+
+/// Writes to a sink what a line asks for on its files, and gives the same status.
+fn line_to<R: Readers, G: Gate, T: Threads + Wait + Sync, S: Sink>(
+    rt: &T,
+    alloc: Global,
+    gate: &G,
+    files: &mut R,
+    line: Line<'_>,
+    sink: &mut S,
+) -> Result<u8, Stop>
+    requires chunk { 1 ≤ line.chunk }
+    requires workers { (1 ≤ line.workers) × (line.workers ≤ 16) }
+    requires sound { S.has_failed sink.old ≡ false }
+    ensures told { IfOk result (λ status.
+        HasWritten (S.contents sink.old) (S.contents sink.new)
+        (IsReported (R.known files.old) line.entry status)) }
+    ensures status { IfOk result (λ status. status ≤ 1) }
+    ensures stopped { IfErr result (IsStopOf (R.known files.old) line.entry) }
+    ensures left { IfErr result (λ stop.
+        HasWritten (S.contents sink.old) (S.contents sink.new)
+        (IsLeftOf (R.known files.old) line.entry stop)) }
+{
+    let texts = read_texts(alloc, files, line)?;
+    task_to(rt, alloc, gate, &texts.inputs(), texts.edits(), line, sink)
+}
+
 /// The exit status of a run that writes what its line asks for on its files: 0, or 1 where a step fails.
 fn run_line<R: Readers, G: Gate, T: Threads + Wait + Sync, O: Write>(
     rt: &T,
@@ -134,32 +202,37 @@ fn run_line<R: Readers, G: Gate, T: Threads + Wait + Sync, O: Write>(
 ) -> Result<u8, Stop>
     requires chunk { 1 ≤ line.chunk }
     requires workers { (1 ≤ line.workers) × (line.workers ≤ 16) }
-    ensures told { IfOk result (IsReported (R.known files.old) line.entry) }
+    ensures told { IfOk result (λ status.
+        HasWritten (O.contents out.old) (O.contents out.new)
+        (IsReported (R.known files.old) line.entry status)) }
     ensures status { IfOk result (λ status. status ≤ 1) }
     ensures stopped { IfErr result (IsStopOf (R.known files.old) line.entry) }
+    ensures left { IfErr result (λ stop.
+        HasWritten (O.contents out.old) (O.contents out.new)
+        (IsLeftOf (R.known files.old) line.entry stop)) }
 {
-    let texts = read_texts(alloc, files, line)?;
-    let mut sink = Through::new(out);
-    match line.task {
-        Task::Check => report_to(rt, alloc, gate, &texts.inputs(), line, &mut sink),
-        Task::First => first_to(rt, alloc, gate, &texts.inputs(), line, &mut sink),
-        Task::WhatIf => trial_to(
-            rt,
-            alloc,
-            gate,
-            &texts.inputs(),
-            texts.edits(),
-            line,
-            &mut sink,
-        ),
-    }
+    let mut sink = Through::new(Lent { writer: out });
+    let status = line_to(rt, alloc, gate, files, line, &mut sink);
+    let Lent { writer } = sink.into_inner();
+    // No effect at run time: the proof reads what `out` holds from this use of it.
+    let _ = &*writer;
+    status
+}
+
+/// Writes the one line on what stopped a run to `err`, and says whether `err` took all of it.
+fn tell<E: Write>(stop: &Stop, err: &mut E) -> bool
+    ensures { result ≡ true
+        → Appends (E.contents err.old) (E.contents err.new) (stop_text stop.now ++ codes "\n") }
+{
+    writeln!(err, "{stop}").is_ok()
 }
 
 /// Writes the one line on what stopped a run to `err`, and gives the exit status. A fault of `err` changes nothing.
 pub fn stopped<E: Write>(stop: &Stop, err: &mut E) -> u8
     ensures { result ≡ status_of stop.now }
 {
-    let _ = writeln!(err, "{stop}");
+    // `std` says nothing of what a failed write leaves, so more than `tell` promises of `err` can't be promised here, nor by `serve`.
+    let _ = tell(stop, err);
     stop.status()
 }
 
@@ -172,9 +245,14 @@ fn run_words<R: Readers, G: Gate, T: Threads + Wait + Sync, O: Write>(
     words: &[&str],
     out: &mut O,
 ) -> Result<u8, Stop>
-    ensures told { IfOk result (IsReportedBy (R.known files.old) (map (λ w. w.now) words.now)) }
+    ensures told { IfOk result (λ status.
+        HasWritten (O.contents out.old) (O.contents out.new)
+        (IsReportedBy (R.known files.old) (map (λ w. w.now) words.now) status)) }
     ensures status { IfOk result (λ status. status ≤ 1) }
     ensures stopped { IfErr result (IsStopBy (R.known files.old) (map (λ w. w.now) words.now)) }
+    ensures left { IfErr result (λ stop.
+        HasWritten (O.contents out.old) (O.contents out.new)
+        (IsLeftBy (R.known files.old) (map (λ w. w.now) words.now) stop)) }
 {
     match read_line(alloc, words) {
         Ok(line) => run_line(rt, alloc, gate, files, line, out),
@@ -186,6 +264,9 @@ fn run_words<R: Readers, G: Gate, T: Threads + Wait + Sync, O: Write>(
 /// `err`. The gate is called by the workers, once for each chunk that one takes. It answers the exit status: 0 all steps pass, 1 some step
 /// fails, 2 an input is refused, 3 usage error or help, 4 out of memory, 5 a file can't be read or `out` can't be written. A fault of `err`
 /// changes nothing.
+///
+/// With 0 or 1 all that the words ask for is written to `out`, and nothing to `err`. With any other status nothing is written to `out`, but for the front of
+/// that where `out` can't be written, and the answers to edits where memory runs out for the report behind them.
 pub fn serve<R: Readers, G: Gate, T: Threads + Wait + Sync, O: Write, E: Write>(
     rt: &T,
     alloc: Global,
@@ -196,10 +277,13 @@ pub fn serve<R: Readers, G: Gate, T: Threads + Wait + Sync, O: Write, E: Write>(
     err: &mut E,
 ) -> u8
     ensures range { result ≤ 5 }
-    ensures told { result ≤ 1
-        → IsReportedBy (R.known files.old) (map (λ w. w.now) words.now) result }
+    ensures told { result ≤ 1 → HasWritten (O.contents out.old) (O.contents out.new)
+        (IsReportedBy (R.known files.old) (map (λ w. w.now) words.now) result) }
+    ensures left { 2 ≤ result → IsStoppedBy (R.known files.old) (map (λ w. w.now) words.now) result
+        (O.contents out.old) (O.contents out.new) }
     ensures refused { result ≡ 2 → IsRefusedBy (R.known files.old) (map (λ w. w.now) words.now) }
     ensures usage { result ≡ 3 → IsNotTaken (map (λ w. w.now) words.now) }
+    ensures quiet { result ≤ 1 → E.contents err.new ≡ E.contents err.old }
 {
     match run_words(rt, alloc, gate, files, words, out) {
         Ok(status) => status,

@@ -1,4 +1,4 @@
-ghost use Rattle.std.specs.Prelude.{◌≡◌, ◌≢◌, ◌++◌, IfOk, IfErr, OnOk, string_bytes};
+ghost use Rattle.std.specs.Prelude.{◌≡◌, ◌≢◌, ◌++◌, false, IfOk, IfErr, OnOk, string_bytes};
 ghost use Rattle.edits_file.specs.declared.forms.EditLine.TheVariants.{Edit as EditOf, Undo as UndoOf};
 ghost use Rattle.program.specs.Runs.{AreTriedIn, IsStopOn};
 ghost use Rattle.program.specs.Trials.{after_all, after_line, answer_line, answer_lines, answer_of, lists_of};
@@ -139,7 +139,7 @@ pub struct Trial {
 pub fn try_edits(alloc: Global, inputs: &Inputs<'_>, file: &[u8]) -> Result<Trial, Stop>
     ensures tried { IfOk result
         (λ t. AreTriedIn inputs.now file.now t.session (string_bytes t.answers)) }
-    ensures stopped { IfErr result (IsStopOn Task.WhatIf inputs.now file.now) }
+    ensures stopped { IfErr result (IsStopOn Task.WhatIf inputs.now file.now false) }
 {
     let mut session = match Session::read(alloc, inputs) {
         Ok(session) => session,

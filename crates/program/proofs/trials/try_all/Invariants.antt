@@ -1,4 +1,4 @@
-use Rattle.std.proofs.Common.{◌≡◌, ℕ, ◌+◌, ◌++◌, length, string_bytes}
+use Rattle.std.proofs.Common.{◌≡◌, ◌+◌, ◌++◌, length, string_bytes}
 use Rattle.std.specs.Vec.Iter.{into_iter_items}
 use Rattle.program.specs.Trials.{after_all, answer_lines, lists_of}
 use Rattle.program.proofs.trials.try_all.Given as goal

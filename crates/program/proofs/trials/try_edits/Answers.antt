@@ -10,7 +10,8 @@ returns-clause-tried c =
     c.in_ok-answers.ensures.base c.in_ok-answers.ensures.lists c.in_ok-answers.ensures.answers
 
 pub returns-in-Err-clause-stopped : goal.returns-in-Err-clause-stopped
-returns-in-Err-clause-stopped c = of_read c.args.inputs.now c.args.file.now c.in-Err.fault _ c.from.ensures c.in-Err.ensures.refused
+returns-in-Err-clause-stopped c =
+    of_read c.args.inputs.now c.args.file.now c.in-Err.fault _ c.from.ensures c.in-Err.ensures.silent c.in-Err.ensures.refused
 
 pub returns-in-Err-edits-clause-stopped : goal.returns-in-Err-edits-clause-stopped
 returns-in-Err-edits-clause-stopped c =
