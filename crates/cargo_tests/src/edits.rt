@@ -8,19 +8,20 @@ use step_edits::{Edit, EditFault, copies, edited, fault_of, inverse, inverse_tak
 use stow_messages::{Item, Lift};
 use units_core::{Cell, Kg};
 
-/// A text of at most so many bytes.
+/// A text of at most `MOST` bytes.
 fn short<const MOST: usize>(text: &str) -> ArrayVec<u8, MOST> {
     let mut bytes = ArrayVec::new();
     let _ = bytes.try_extend_from_slice(text.as_bytes());
     bytes
 }
 
-/// So many kg, or the greatest mass of a container.
+/// This mass in kg, or the greatest mass of a container.
 fn mass(kg: u32) -> Kg {
     Kg::new(kg.min(Kg::MAX)).unwrap()
 }
 
-/// The step of a code: from 1,000 on the load of a container of so many kg, below that the filling of a tank with so many.
+/// The step of a code: from 1,000 on the load of a container whose mass in kg is the code, below that the filling of a
+/// tank with that mass.
 fn step(code: u32) -> Op {
     if code < 1_000 {
         return Op::Fill {

@@ -39,7 +39,7 @@ hand_of w = record { entries = reverse w.entries.items; status = w.status }
 abbrev pub state_of : List ℕ → List (Option ℕ) → ℕ → Option ℕ → List Worker → State
 state_of begins found next least workers = board begins found next least (map hand_of workers)
 
--- the rule holds, and each worker has room for every entry that it can come to
+-- the rule holds, and each worker has room for every entry that it can make
 pub record IsSound (begins : List ℕ) (found : List (Option ℕ)) (next : ℕ) (least : Option ℕ) (workers : List Worker) : Type 0 where
   pub rule : FollowsRule (state_of begins found next least workers)
   pub few : length begins + length workers + 1 < 2 ^ 32

@@ -60,7 +60,7 @@ pub fn change_worker(worker: &mut Worker, outcome: Outcome)
     }
 }
 
-/// Workers with no entries, and room for so many each.
+/// Workers with no entries, and room for `room` entries each.
 pub fn idle_workers(alloc: Global, count: u8, room: usize) -> Result<Vec<Worker>, AllocError>
     requires { room < 2 ^ 32 }
     ensures hands { IfOk result (λ v. map hand_of v.items ≡ replicate count idle) }

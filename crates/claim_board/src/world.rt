@@ -43,9 +43,9 @@ fn worker_number(event: Event) -> u8
 }
 
 impl World {
-    /// The board at first: so many workers that run, with no entries, and chunks that begin with the steps `begins` and have the first failing
-    /// steps `found`, none past the list's end. Memory for every entry that the workers can come to is taken here, and `Err` says that
-    /// there wasn't enough of it. Called by whoever plays a run; the caller sees to it that there are at most 2^31 chunks.
+    /// The board at first: `workers` workers that run, with no entries, and chunks that begin with the steps `begins` and have the first
+    /// failing steps `found`, none past the list's end. Memory for every entry that the workers can make is reserved here; the one error is
+    /// out of memory. The caller sees to it that there are at most 2^31 chunks.
     pub fn new(
         alloc: Global,
         workers: u8,

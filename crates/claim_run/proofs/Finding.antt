@@ -1,4 +1,4 @@
--- The least step that is found, by what a closed board tells of the one hand that is left.
+-- The least step that is found, by what is true of the one hand that is left on a closed board.
 use Rattle.std.proofs.Common.{◌≡◌, ℕ, ◌+◌, ◌<◌, ◌≤◌, List, [], ◌∷◌, ap, sym, ◌∙◌, refl, subst, arith, Option, Some, None}
 use Rattle.claim_board.specs.declared.entries.Stage.TheVariants.{Posted}
 use Rattle.claim_board.specs.declared.entries.Entry.{Entry}

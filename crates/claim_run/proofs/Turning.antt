@@ -28,6 +28,6 @@ stays_free pieces e p v w is staff low free =
 pub looked_newest : (n : ℕ) (e : Entry) (before drawn after : List Entry) → drawn ≡ fresh n ∷ before → after ≡ e ∷ tail drawn → after ≡ e ∷ before
 looked_newest n e before drawn after is then = then ∙ ap (λ (l : List Entry). e ∷ tail l) is
 
--- what word 1 told, where it isn't before the chunk
+-- the value of word 1, where it isn't before the chunk
 pub not_before : (word begin : ℕ) → begin ≤ word → NotBefore begin (least_of word)
 not_before word begin le l is = omega (arith, least_is word l is, le)

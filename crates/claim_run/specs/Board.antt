@@ -14,7 +14,8 @@ entries_of hand = entries_with hand.pending hand.seat.me.0.entries
 abbrev pub workers_of : Hand → ℕ
 workers_of hand = hand.seat.me.0.workers
 
--- nothing of it is still to be told: so it is at first, and after a turn that found no chunk
+-- no entry of a hand is still to be added to its view: so it is at first, and after a turn that
+-- found no chunk
 abbrev pub IsAtRest : Hand → Type 0
 IsAtRest hand = hand.pending ≡ Nothing
 

@@ -1,4 +1,4 @@
--- What each step on a word tells its thread: the events of the board that the step stands for.
+-- What each step on a word shows its thread: the events of the board that the step represents.
 use Rattle.std.specs.Prelude.{◌≡◌, ℕ, List, [], ◌∷◌, Option, Some, None}
 use Rattle.atomic_table.specs.Table.{Step, Me}
 use Rattle.claim_board.specs.declared.entries.Stage.TheVariants.{Skipped, Worked, Posted}

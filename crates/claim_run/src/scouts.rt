@@ -25,7 +25,7 @@ pub trait Scout: Sync {
 }
 
 /// What is called once for every chunk that a worker takes, after the draw and before the look and the work. Nothing is claimed of it: it lets a
-/// test hold one worker until another has come to a place.
+/// test stop one worker until another has reached a place.
 pub trait Gate: Sync {
     /// The worker of this number has drawn the chunk.
     fn pass(&self, worker: u8, chunk: u32);

@@ -56,7 +56,7 @@ fn start_one<'s, E, S: Scout, G: Gate, J: Job, R: Wait + Sync>(
     Ok(started?)
 }
 
-// Joins threads of which nothing is wanted any more, so that what each of them made is dropped.
+// Joins threads whose values are no longer needed, and drops the values.
 fn join_each<T: Drop, P: Promise<T>, R: Threads>(rt: &R, threads: Vec<PromisedHandle<T, P>>) {
     for thread in threads {
         drop(thread.join(rt));

@@ -41,7 +41,7 @@ every_stops p fs i d all inside so_far here =
 pub within_same : (n d : ℤ) (r : Ratio) (m : ℤ) → Is n d r → is_within (n over d) m ≡ is_within r m
 within_same n d r m p = λ i. at_least_same n d r (neg_ℤ m) p i && at_most_same n d r m p i
 
--- what is told of a fraction that is an ordinate, told of the ordinate
+-- a comparison of a fraction that is an ordinate, as a comparison of the ordinate
 pub ordinate_reaches : (n e : ℤ) (y : ℕ → Ratio) (limit : ℤ) (o : Option ℕ) → IsSomeAnd o (λ k. Is n e (y k)) → is_at_least (n over e) limit ≡ reaches_at y limit o
 ordinate_reaches n e y limit None p = absurd p
 ordinate_reaches n e y limit (Some k) p = at_least_same n e (y k) limit p

@@ -39,7 +39,7 @@ pub record Condition : Type 0 where
 abbrev pub is_within : Ratio → ℤ → Bool
 is_within r m = is_at_least r (neg_ℤ m) && is_at_most r m
 
--- the ordinate of a number reaches so much; the number is that of so many degrees or more
+-- the ordinate of a number is `least` or more; the number of an ordinate is `least` or more
 abbrev pub reaches_at : (ℕ → Ratio) → ℤ → Option ℕ → Bool
 reaches_at y least None = false
 reaches_at y least (Some k) = is_at_least (y k) least

@@ -30,7 +30,7 @@ pub fn lever_reaches(curve: &CurveMeasures, limit: i128) -> bool
     reaches(curve.best, limit)
 }
 
-/// Whether the least angle that carries the greatest lever is so many steps of 5 degrees, or more.
+/// Whether the least angle of the greatest lever is `least` steps of 5 degrees, or more.
 pub fn peaks_from(curve: &CurveMeasures, least: usize) -> bool
     ensures { (y : ℕ → Ratio) → AreMeasures curve.now y
         → result ≡ is_from least (greatest_of y 0 13) }

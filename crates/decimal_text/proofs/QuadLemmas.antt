@@ -44,7 +44,7 @@ behind_zeros n high =
     (λ low. let text = text_two n low two in so_many n 2 (grind (arith, nat_tests)) text (omega (arith, ap length text)))
     (λ one. let one = lt_of_not-le one in let text = text_one n one in so_many n 3 (grind (arith, nat_tests)) text (omega (arith, ap length text)))))
 
--- so many zeros, and no others, are all that stand in front
+-- where z zeros and the digits of n are four bytes, n has exactly z zeros in front
 pub text_behind : (n z : ℕ) → n < 10000 → z + length (decimal n) ≡ 4 → drop z (quad n) ≡ decimal n
 text_behind n z high all =
     let known = behind_zeros n high in

@@ -5,10 +5,10 @@ use Rattle.std.specs.Fmt.{decimal}
 abbrev pub quad : ℕ → List ℕ
 quad n = (48 + n / 100 / 10) ∷ (48 + n / 100 % 10) ∷ (48 + n % 100 / 10) ∷ (48 + n % 100 % 10) ∷ []
 
--- the first entries of a table, so many of them
+-- the first `many` entries of a table are the digits of their indices
 abbrev pub AreQuads : List (List ℕ) → ℕ → Type 0
 AreQuads table many = (n : ℕ) → n < many → slice_index_or table n [] ≡ quad n
 
--- how many zeros stand in front of each number among its four digits, for so many numbers
+-- for the first `many` numbers: how many zeros each has in front, among its four digits
 abbrev pub AreZeros : List ℕ → ℕ → Type 0
 AreZeros zeros many = (n : ℕ) → n < many → slice_index_or zeros n 0 + length (decimal n) ≡ 4

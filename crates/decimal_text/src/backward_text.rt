@@ -31,7 +31,7 @@ impl<'a> Model for BackwardText<'a> {
 }
 
 impl<'a> BackwardText<'a> {
-    /// An empty text, whose numbers are put by this table.
+    /// An empty text, whose numbers are written by this table.
     pub fn new(digits: &'a FourDigits) -> BackwardText<'a>
         ensures { result ≡ [] }
     {
@@ -42,21 +42,21 @@ impl<'a> BackwardText<'a> {
         }
     }
 
-    /// Takes the text away, so that another can be put. The bytes stay where they were, since setting all of them costs more than a line does.
+    /// Empties the text, so that another can be written. The bytes of the buffer aren't cleared, since that costs more than writing a line.
     pub fn clear(&mut self)
         ensures { self.new ≡ [] }
     {
         self.start = ROOM;
     }
 
-    /// How many bytes can still be put before the text.
+    /// How many bytes can still be written before the text.
     pub fn room(&self) -> usize
         ensures { result + length self.now ≡ ROOM }
     {
         self.start
     }
 
-    /// Puts an ASCII byte before the text.
+    /// Writes an ASCII byte before the text.
     #[inline]
     pub fn put_byte(&mut self, byte: u8)
         requires room { length self.old < ROOM }
@@ -67,7 +67,7 @@ impl<'a> BackwardText<'a> {
         self.bytes[self.start] = byte;
     }
 
-    /// Puts ASCII words before the text.
+    /// Writes ASCII words before the text.
     pub fn put_words(&mut self, words: &str)
         requires room { length words.now + length self.old ≤ ROOM }
         requires ascii { IsAscii words.now }
@@ -78,7 +78,7 @@ impl<'a> BackwardText<'a> {
         self.bytes[self.start..end].copy_from_slice(words.as_bytes());
     }
 
-    /// Puts the decimal digits of a natural number before the text.
+    /// Writes the decimal digits of a natural number before the text.
     #[inline]
     pub fn put_natural(&mut self, n: u64)
         requires room { length self.old + 20 ≤ ROOM }
@@ -88,7 +88,7 @@ impl<'a> BackwardText<'a> {
         self.start = self.digits.writer().write(n, &mut self.bytes, self.start);
     }
 
-    /// Puts so many zeros before the text.
+    /// Writes `count` zeros before the text.
     #[inline]
     fn put_zeros(&mut self, count: usize)
         requires { count + length self.old ≤ ROOM }
@@ -103,7 +103,7 @@ impl<'a> BackwardText<'a> {
         self.put_many_zeros(count);
     }
 
-    /// The same one by one, for more than four or where there is no room for four.
+    /// Writes `count` zeros one by one, for more than four or where there is no room for four.
     #[cold]
     fn put_many_zeros(&mut self, count: usize)
         requires { count + length self.old ≤ ROOM }
@@ -114,7 +114,7 @@ impl<'a> BackwardText<'a> {
         }
     }
 
-    /// Puts a natural number before the text, in so many digits, or in more if it has more.
+    /// Writes a natural number before the text, in `digits` digits, or in more if it has more.
     #[inline]
     pub fn put_in_digits(&mut self, n: u64, digits: usize)
         requires few { digits ≤ 20 }
@@ -129,8 +129,8 @@ impl<'a> BackwardText<'a> {
         self.put_zeros(digits.saturating_sub(written));
     }
 
-    /// Puts a whole number before the text, a minus sign if it is negative and its decimal digits, and before it a byte that parts it from what
-    /// will stand there.
+    /// Writes a whole number before the text, a minus sign if it is negative and its decimal digits, and before it a byte that parts it from
+    /// what will stand there.
     #[inline]
     pub fn put_parted(&mut self, byte: u8, n: i128)
         requires ascii { byte < 128 }
@@ -144,7 +144,8 @@ impl<'a> BackwardText<'a> {
             .write_whole(byte, n, &mut self.bytes, self.start);
     }
 
-    /// Puts whole numbers before the text, the last of them next to it, each with a minus sign if it is negative, and each behind a byte.
+    /// Writes whole numbers before the text, the last of them next to it, each with a minus sign if it is negative, and each behind a
+    /// byte.
     pub fn put_each(&mut self, byte: u8, numbers: &[i128])
         requires ascii { byte < 128 }
         requires room { length self.old + 41 * length numbers.now ≤ ROOM }
@@ -157,8 +158,9 @@ impl<'a> BackwardText<'a> {
             .write_each(byte, numbers, &mut self.bytes, self.start);
     }
 
-    /// Puts pairs of whole numbers before the text: the first numbers of two lists, the second of both, and so on up to those of the number `last`,
-    /// counted from 0. The two of a pair have `between` between them, the first pair stands behind `opening`, and each other one behind `parting`.
+    /// Writes pairs of whole numbers before the text: the first numbers of two lists, the second of both, and so on up to those of the number
+    /// `last`, counted from 0. The two of a pair have `between` between them, the first pair stands behind `opening`, and each other one behind
+    /// `parting`.
     pub fn put_pairs(
         &mut self,
         opening: u8,

@@ -153,7 +153,8 @@ impl<'a> Editing<'a> {
     }
 }
 
-/// Where a round begins in a list that had so many steps at first. What the rounds before it left stands in front.
+/// Where a round begins in a list that had `steps` steps at first. The steps that the rounds before it left are in
+/// front.
 fn place_of(round: u32, steps: u32) -> u32 {
     let at_first = match round / 3 {
         0 => 3,
@@ -163,7 +164,7 @@ fn place_of(round: u32, steps: u32) -> u32 {
     round.saturating_mul(3).saturating_add(at_first)
 }
 
-/// Edits of each kind in a session on so many steps, made and taken back. What follows the first that isn't right is left out.
+/// Edits of each kind in a session on this number of steps, made and taken back. It stops after the first that is wrong.
 pub fn try_edits<W: Write>(
     alloc: Global,
     out: &mut W,

@@ -30,7 +30,7 @@ pub const AFT: Cell = Cell {
     tier: 82,
 };
 
-/// The mass of so many kg, or the greatest that a container has.
+/// This mass in kg, or the greatest that a container has.
 pub fn mass(kg: u32) -> Kg {
     let Some(mass) = Kg::new(kg.min(Kg::MAX)) else {
         unreachable!()
@@ -79,8 +79,8 @@ pub fn two_loads(alloc: Global, kg: u32) -> Result<Vec<Op>, AllocError> {
     Ok(list)
 }
 
-/// A list of so many steps, an even number: a container comes aboard and stays there, the tank is filled, and other containers, each of another
-/// weight, come aboard amidships and go ashore in turn.
+/// A list of this number of steps, which is even: a container comes aboard and stays there, the tank is filled, and other containers, each of
+/// another weight, come aboard amidships and go ashore in turn.
 pub fn turns(alloc: Global, steps: u32) -> Result<Vec<Op>, AllocError> {
     let mut list = Vec::new(alloc);
     list.push(load(FORWARD, 20_500))?;

@@ -72,7 +72,7 @@ fn publications<R: AllocGlobal + Threads + Wait + Sync, W: Write>(
     }
 }
 
-/// Edits of a list of so many steps.
+/// Edits of a list of this number of steps.
 fn edits<W: Write>(
     alloc: Global,
     out: &mut W,

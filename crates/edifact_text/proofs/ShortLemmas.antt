@@ -6,7 +6,7 @@ use Rattle.edifact_text.specs.declared.service.Service.{Service}
 use Rattle.edifact_text.specs.Pieces.{separates, releases, pieces_from, pieces, with_byte}
 use Rattle.edifact_text.specs.Stages.{is_long, is_too_large}
 
--- At most so many pieces; the first has at most so many bytes, the others so many.
+-- At most `count` + 1 pieces; the first has at most `first` bytes, the others at most `most`.
 abbrev AllShort : ℕ → List (List ℕ) → Type 0
 AllShort most [] = Unit {0}
 AllShort most (q ∷ qs) = (length q ≤ most) × AllShort most qs

@@ -118,7 +118,8 @@ past_unt (Ok u) true z place tr e g h = cc
 past_unt (Ok u) false true place tr e g h = refl
 past_unt (Ok u) false false place tr e g h = refl
 
--- What is done once the message trailer is found, where so many segments of a message are these.
+-- What is done once the message trailer is found; `taken n` are the first n segments of the
+-- message.
 abbrev after : Service → ℕ → Stretch → Stretch → (ℕ → List Parts) → Ended → Result (List Parts) EdiFault
 after sv len unb unh taken e = unt_rows sv unh e.trailer e.number >>= λ _. (ends_of sv len unb e.behind >>= λ _. Ok (taken e.number))
 

@@ -12,7 +12,7 @@ use Rattle.edifact_text.specs.Pieces.{pieces, literal}
 use Rattle.edifact_text.specs.Rows.{is_text, type_name, count_of, is_number, is_one}
 use Rattle.edifact_text.specs.Reading.{◌>>=◌, fault, row, trimmed, segment_of, Stretch, stretches, start_of, cut_text}
 
--- The bytes of an element, and of a component, or nothing where there are not so many.
+-- The bytes of an element, and of a component; empty where its number is past the last.
 abbrev pub element_bytes : Service → List ℕ → ℕ → List ℕ
 element_bytes sv segment i = slice_index_or (pieces sv.release sv.element segment) i []
 

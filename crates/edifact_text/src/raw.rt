@@ -111,7 +111,7 @@ impl<'a> Raw<'a> {
         Some(self.bytes)
     }
 
-    /// Puts the literal into `out`, in place of what it held. Where it has more than `MOST` bytes the answer is false, and `out`
+    /// Writes the literal to `out`, in place of what it held. Where it has more than `MOST` bytes the answer is false, and `out`
     /// is empty.
     #[inline(always)]
     pub fn literal_into<const MOST: usize>(self, out: &mut ArrayVec<u8, MOST>) -> bool

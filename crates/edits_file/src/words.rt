@@ -91,7 +91,7 @@ pub fn mass(word: &[u8]) -> Option<Kg>
     Kg::new(number(Kg::MAX, word)?)
 }
 
-/// The bytes of a word as they stand, up to so many.
+/// The bytes of a word, unchanged; `None` where they aren't 1 to `LENGTH`.
 fn text_of<const LENGTH: usize>(word: &[u8]) -> Option<ArrayVec<u8, LENGTH>>
     ensures { result ≡ text_of 1 LENGTH word.now }
 {

@@ -10,7 +10,8 @@ use Rattle.hydrostat.specs.Leading.{IsInUnits, IsLedBy, IsSure, line_base, line_
 use Rattle.hydrostat.specs.declared.particulars.Afloat.{Afloat}
 use Rattle.hydrostat.proofs.Textbook.{draught_is, trim_is}
 
--- what is left over the quotient: so many units, and what the units leave away
+-- the remainder over the quotient: a number of whole units, and the parts that rounding to units
+-- drops
 parts : (u bh sh dh b s d x q : ℤ) → (b -ℤ (s *ℤ x)) -ℤ (q *ℤ d)
     ≡ (((((bh -ℤ (sh *ℤ x)) -ℤ (q *ℤ dh)) *ℤ u) +ℤ (b -ℤ (bh *ℤ u))) -ℤ ((s -ℤ (sh *ℤ u)) *ℤ x)) -ℤ (q *ℤ (d -ℤ (dh *ℤ u)))
 parts u bh sh dh b s d x q = rw (diff_of u, diff_of bh, diff_of sh, diff_of dh, diff_of b, diff_of s, diff_of d, diff_of x, diff_of q) (simp differences (diff_same _ _ _ _ (omega arith)))

@@ -25,7 +25,7 @@ pub record IsLedBy (unit base step divisor : ℤ) (a : Afloat) : Type 0 where
   pub is_step : IsInUnits step unit (line_step a)
   pub is_divisor : IsInUnits divisor unit (line_divisor a)
 
--- q is the whole part of top / divisor, and so far from the whole numbers on both sides that what the units leave away, of these and of a million
+-- q is the whole part of top / divisor, and so far from the whole numbers on both sides that rounding to units, of the base and of a million
 -- times the step and the divisor, changes nothing
 pub record IsSure (q top divisor : ℤ) : Type 0 where
   pub low : pos 0 ≤ℤ q

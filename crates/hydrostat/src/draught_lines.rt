@@ -9,10 +9,11 @@ use crate::numerators::trim_top;
 use crate::particulars::Afloat;
 use units_core::{Mm, floor, is_rest, reciprocal_near, upper_half};
 
-/// What units leave away of a numerator, of a million times the step and of a million times the divisor is less than so many units.
+/// Upper bound, in units, on the total rounding error of base, 10^6 * step and 10^6 * divisor.
 const SLACK: i64 = 2_000_002;
 
-/// The draught along a ship, (base - step x) / divisor, in numbers of 64 bits: each in whole units, rounded down.
+/// The draught along a ship, (base - step x) / divisor, each of base, step and divisor in 64 bits: in whole
+/// units, rounded down.
 #[derive(Clone, Copy)]
 struct Leading {
     unit: i128,
@@ -36,7 +37,7 @@ pub struct DraughtLine {
     ghost leads: { ForSome leading (λ l. IsLedBy l.unit l.base l.step l.divisor of) },
 }
 
-/// A number in whole units, rounded down; `None` where 64 bits don't hold it. `shift` tells how: where the unit isn't 2^`shift`, there is none.
+/// A number in whole units, rounded down; `None` where it doesn't fit 64 bits, or where the unit isn't 2^`shift`.
 fn in_units(whole: i128, unit: i128, shift: u32) -> Option<i64>
     requires { shift < 128 }
     ensures { IfSome result (λ high. IsInUnits high unit whole) }
@@ -121,7 +122,7 @@ fn top_at(base: i64, step: i64, x: i64) -> i64
     base - step * x
 }
 
-/// What a numerator leaves over a quotient.
+/// The remainder of a numerator over a quotient.
 #[inline(always)]
 fn rest_of(top: i64, quotient: i64, divisor: i64) -> i64
     requires top { unsigned_abs top ≤ 2 ^ 62 }
@@ -142,7 +143,7 @@ fn signed(n: u64) -> i64
     n as i64
 }
 
-/// Whether what a quotient leaves is far from 0 and from the divisor.
+/// Whether the remainder of a quotient is far from 0 and from the divisor.
 #[inline(always)]
 fn is_sure(rest: i64, divisor: i64) -> bool
     requires { unsigned_abs divisor ≤ 2 ^ 41 }

@@ -42,7 +42,7 @@ items_add ship f tidy now number (item ∷ more) legal =
     let listed = ap (total f) (filter_first (item_body ship) item more) in
     omega (arith, ints, here, rest, listed, total-append f (option_to_list (item_body ship item)) (filter_map (item_body ship) more))
 
--- a filling comes to a tank that has none
+-- a tank that has no filling gets one
 filled_adds : (ship : ProfileRecord) (f : Mass → ℤ) (now : Aboard) (tank kg : ℕ) → now.tanks tank ≡ None
     → total f (bodies_in_tanks ship (with_tank now (Some tank) kg).tanks) ≡ total f (bodies_in_tanks ship now.tanks) +ℤ total f (option_to_list (tank_body ship tank kg))
 filled_adds ship f now tank kg free =

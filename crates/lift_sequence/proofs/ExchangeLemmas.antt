@@ -1,4 +1,4 @@
--- Steps that don't mind each other, nor a step between them, can be exchanged.
+-- Steps that are independent of each other and of all steps between can be exchanged.
 use Rattle.std.proofs.Common.{◌≡◌, ℕ, zero, suc, ◌+◌, ◌<◌, ◌≢◌, List, [], ◌∷◌, length, get_or, set, None, Some, true, false, nat_lt, refl, sym, ap, ◌∙◌, subst, arith}
 use Rattle.std.specs.Prelude.{⊤, if◌then◌else◌}
 use Rattle.std.specs.List.{swap}
@@ -76,7 +76,7 @@ module _ (ship : ProfileRecord) where
     head [] = e
     head (s ∷ more) = s
 
-    -- the first step goes behind the one that comes next, the others as before, and the one at place k comes to the front
+    -- the first step goes behind the second, and the one at place k to the front; the others stay
     one_more : (at : Aboard) (x m : Op) (more : List Op) (k : ℕ) → AreIndependent x m → AreIndependent (get_or more k d) m
         → CanBeDone at (x ∷ m ∷ more) → (CanBeDone (after_step ship at m) (x ∷ more) → AreExchanged d e (after_step ship at m) x more k)
         → AreExchanged d e at x (m ∷ more) (suc k)

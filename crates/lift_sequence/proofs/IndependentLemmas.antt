@@ -1,4 +1,4 @@
--- Of two steps that don't mind each other either may come first.
+-- Two steps that are independent of each other can be done in either order.
 use Rattle.std.proofs.Common.{◌≡◌, ℕ, ◌+◌, ◌-◌, ◌%◌, ◌&&◌, inl, inr, not, List, [], ◌∷◌, get_or, Option, None, Some, Bool, true, false, cond, nat_eq, nat_le, refl, sym, ap, ◌∙◌, arith, eq-eqb, eqb-true}
 use Rattle.std.specs.Prelude.{find, if◌then◌else◌, position}
 use Rattle.std.specs.List.{range_with_len}

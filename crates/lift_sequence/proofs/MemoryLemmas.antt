@@ -1,4 +1,4 @@
--- No step and no sequence is refused by its definition for want of memory.
+-- By the definitions no step and no sequence is refused as out of memory.
 use Rattle.std.proofs.Common.{◌≡◌, ◌≢◌, ℕ, ◌+◌, List, [], ◌∷◌, length, Option, None, Some, Bool, true, false, nat_lt, ap, ◌∙◌}
 use Rattle.std.specs.Prelude.{⊤, if◌then◌else◌}
 use Rattle.std.specs.Option.{is_none, option_map, option_or}

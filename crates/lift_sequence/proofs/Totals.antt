@@ -72,7 +72,7 @@ module _ {E K V B : Type 0} (key : E → K) (eq : K → K → Bool) (same : (a b
   given_is None v = refl
   given_is (Some x) v = refl
 
-  -- something comes to a key at which nothing stood
+  -- a key that had no value gets one
   pub one_more : (f : B → ℤ) (at : K → Option V) (k : K) (v : V) (es : List E) → at k ≡ None → IsDistinct eq (map key es)
       → total f (rows (update eq at k (Some v)) es) ≡ total f (rows at es) +ℤ total f (given (element es k) v)
   one_more f at k v es free apart =

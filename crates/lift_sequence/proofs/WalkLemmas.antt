@@ -1,4 +1,4 @@
--- Setting one step after another to its new weight comes to the steps of that weight.
+-- Setting one step after another to its new weight gives the steps of that weight.
 use Rattle.std.proofs.Common.{◌≡◌, ℕ, zero, suc, ◌+◌, ◌<◌, ◌≤◌, List, [], ◌∷◌, ◌++◌, length, take, drop, set, get_or, Option, None, Some, Bool, sym, ap, ◌∙◌, subst, refl, append_assoc, append-nil, arith}
 use Rattle.std.specs.Prelude.{slice_get, if◌then◌else◌}
 use Rattle.std.specs.Option.{option_map}
@@ -26,7 +26,7 @@ turned_by kg moved now after place step value inside sets is =
 pub turned_long : (kg : ℕ) (moved : Bool) (now : List Step) (place : ℕ) → length (turned kg moved now place) ≡ length now
 turned_long kg moved now place = length-set now place _
 
--- one turn: what is done and what is left to do come to the same
+-- one turn: the steps done and the steps left to do make the same list as before
 pub one_turn : (kg : ℕ) (cell : Option Cell) (ops : List Op) (now : List Step) (place : ℕ) (op : Op) → place < length ops → length now ≡ length ops → op ≡ get_or ops place op
     → take (place + 1) (turned kg (moves cell op) now place) ++ steps_weighed kg (next_cell cell op) (drop (place + 1) ops) (drop (place + 1) (turned kg (moves cell op) now place))
     ≡ take place now ++ steps_weighed kg cell (drop place ops) (drop place now)

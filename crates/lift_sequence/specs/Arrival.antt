@@ -45,7 +45,7 @@ fills_fault ship number (fill ∷ more) =
 abbrev pub arrival_fault : ProfileRecord → List Item → List TankFill → Option SeqFault
 arrival_fault ship items fills = option_or (items_fault ship nothing 1 items) (fills_fault ship 1 fills)
 
--- a refusal tells the fault, unless it is for want of memory
+-- a refusal gives the fault that is defined, or is out of memory
 abbrev pub TellsAt : Option SeqFault → SeqFault → Type 0
 TellsAt fault f = f.code ≢ NoMemory → fault ≡ Some f
 

@@ -20,7 +20,7 @@ use Rattle.lift_sequence.specs.Aboard.{Aboard, after_step, container_of}
 abbrev pub body_of : Place → Container → Mass
 body_of place container = record { kg = container.kg; place = place; fsm = pos 0 }
 
--- what stands at a place, if something does
+-- the container at a place, if there is one
 abbrev pub body_in : Option Place → Option Container → Option Mass
 body_in None container = None
 body_in (Some place) container = option_map (body_of place) container
@@ -33,7 +33,7 @@ item_body ship item = body_in (place_of ship item.cell) (Some (container_of item
 abbrev pub fill_body : ProfileRecord → TankFill → Option Mass
 fill_body ship fill = tank_body ship fill.tank fill.kg
 
--- what stands in a cell
+-- the container in a cell
 abbrev pub cell_body : ProfileRecord → Aboard → Cell → Option Mass
 cell_body ship at cell = body_in (place_of ship cell) (at.cells cell)
 

@@ -1,5 +1,5 @@
--- What is so of an arrival and of a sequence: nothing is wrong, or the first item, fill or step that can't be has this fault. Items, fills and
--- steps are numbered from 1.
+-- The answers of an arrival and of a sequence: nothing is wrong, or the first item, fill or step that is impossible has this fault. Items,
+-- fills and steps are numbered from 1.
 use Rattle.std.specs.Prelude.{◌≡◌, ◌⊎◌, ℕ, zero, suc, ◌<◌, ◌≤◌, List, length, take, slice_get, Option, None, Some}
 use Rattle.std.specs.Option.{option_and_then}
 use Rattle.stow_messages.specs.declared.items.Item.{Item}

@@ -1,4 +1,5 @@
--- A container on its way through the steps behind its load, and what another weight of it changes of them.
+-- A container on its way through the steps behind its load, and what another weight of the container
+-- changes in these steps.
 use Rattle.std.specs.Prelude.{◌≡◌, ℕ, ◌+◌, ◌≤◌, List, [], ◌∷◌, take, drop, Option, None, Some, option_map, option_and_then, slice_get, slice_set, Bool, true, false, if◌then◌else◌}
 use Rattle.std.specs.Option.{is_some}
 use Rattle.units_core.specs.declared.cells.Cell.{Cell}
@@ -18,7 +19,7 @@ abbrev pub loaded_cell : operation.Op → Option Cell
 loaded_cell (Lift (Load item)) = Some item.cell
 loaded_cell op = None
 
--- the same of the step at a place of a list, the first place being 0
+-- the cell into which the step at a place of a list loads a container, the first place being 0
 abbrev pub loaded_at : List operation.Op → ℕ → Option Cell
 loaded_at ops i = option_and_then loaded_cell (slice_get ops i)
 
@@ -47,7 +48,7 @@ moves (Some c) (Lift (Discharge cell id)) = cell_eq c cell
 moves (Some c) (Fill name kg) = false
 moves (Some c) (Restow from to id) = cell_eq c from
 
--- a step takes it to another cell
+-- a step takes the container to another cell
 abbrev pub restows : Option Cell → operation.Op → Bool
 restows None op = false
 restows (Some c) (Lift (Load item)) = false
@@ -55,7 +56,7 @@ restows (Some c) (Lift (Discharge cell id)) = false
 restows (Some c) (Fill name kg) = false
 restows (Some c) (Restow from to id) = cell_eq c from
 
--- where it stands after a step
+-- the container's cell after a step
 abbrev pub next_cell : Option Cell → operation.Op → Option Cell
 next_cell None op = None
 next_cell (Some c) (Lift (Load item)) = Some c
@@ -63,7 +64,7 @@ next_cell (Some c) (Lift (Discharge cell id)) = if cell_eq c cell then None else
 next_cell (Some c) (Fill name kg) = Some c
 next_cell (Some c) (Restow from to id) = if cell_eq c from then Some to else Some c
 
--- how many of some steps move it, and how many take it to another cell
+-- how many of some steps move the container, and how many take it to another cell
 abbrev pub moves_in : Option Cell → List operation.Op → ℕ
 moves_in cell [] = 0
 moves_in cell (op ∷ more) = (if moves cell op then 1 else 0) + moves_in (next_cell cell op) more
@@ -96,12 +97,12 @@ Reweighs = (ship : ProfileRecord) (at : Aboard) (number : ℕ) (ops : List opera
     → IsLoad ops i → (first_fault ship at number (weighed_at kg i ops) ≡ None)
     × AreReweighed kg i ops (steps_of ship at ops) (steps_of ship at (weighed_at kg i ops))
 
--- the same of a sequence, which has a greatest length too
+-- the law for a sequence, whose length is limited as well
 abbrev pub ReweighsSequences : Type 0
 ReweighsSequences = (ship : ProfileRecord) (at : Aboard) (ops : List operation.Op) (i kg : ℕ) → sequence_fault ship at ops ≡ None
     → IsLoad ops i → sequence_fault ship at (weighed_at kg i ops) ≡ None
 
--- nothing else can have been meant
+-- no other list of steps fits these claims
 abbrev pub AreReweighedOnce : Type 0
 AreReweighedOnce = (kg i : ℕ) (ops : List operation.Op) (old one other : List Step)
     → AreReweighed kg i ops old one → AreReweighed kg i ops old other → one ≡ other

@@ -1,5 +1,5 @@
--- Steps that don't mind each other: no cell of the one is a cell of the other or wants its room, and they don't fill one tank. So it doesn't
--- matter which of them comes first. First as a relation, and then as the test for it.
+-- Steps that are independent of each other: no cell of the one is or overlaps a cell of the other, and they don't fill the same tank. So
+-- they can be done in either order. First as a relation, and then as the test for it.
 use Rattle.std.specs.Prelude.{◌≡◌, ◌↔◌, ◌⊎◌, ℕ, ◌-◌, ◌<◌, ◌≤◌, List, Option, None, Some, slice_get, Bool, true, false, not, ◌&&◌, nat_eq}
 use Rattle.std.specs.List.{insert, remove}
 use Rattle.std.specs.Str.{bytes_eq}
@@ -29,21 +29,22 @@ pub record AreIndependent (a b : operation.Op) : Type 0 where
   pub cells : (one other : Cell) → Touches a one → Touches b other → Conflicts one other → ⊥
   pub tanks : (name : List ℕ) → Fills a name → Fills b name → ⊥
 
--- A step behind another one has the fault and does what it has and does before it, and both leave the same aboard in either order.
+-- A step has the same fault and the same effect before another step and after it, and after both the same is aboard in either
+-- order.
 pub record Commute (ship : ProfileRecord) (at : Aboard) (a b : operation.Op) : Type 0 where
   pub fault : fault_of ship (after_step ship at a) b ≡ fault_of ship at b
   pub step : step_of ship (after_step ship at a) b ≡ step_of ship at b
   pub state : after_step ship (after_step ship at a) b ≡ after_step ship (after_step ship at b) a
 
--- so independent steps do, whatever is aboard
+-- so it is with two independent steps, whatever is aboard
 abbrev pub IndependentCommute : Type 0
 IndependentCommute = (ship : ProfileRecord) (at : Aboard) (a b : operation.Op) → AreIndependent a b → Commute ship at a b × Commute ship at b a
 
--- neither of two cells wants the room of the other
+-- two cells don't overlap
 abbrev pub are_apart : Cell → Cell → Bool
 are_apart a b = not (nat_eq a.row b.row && (nat_eq a.tier b.tier && meet a.bay b.bay))
 
--- a step touches no cell that wants the room of this one
+-- a step touches no cell that overlaps this one
 abbrev pub leaves : operation.Op → Cell → Bool
 leaves (Lift (Load item)) cell = are_apart item.cell cell
 leaves (Lift (Discharge from id)) cell = are_apart from cell
@@ -56,18 +57,18 @@ fills (Lift lift) name = false
 fills (Fill other kg) name = bytes_eq other.items name
 fills (Restow from to id) name = false
 
--- two steps don't mind each other
+-- two steps are independent of each other
 abbrev pub are_independent : operation.Op → operation.Op → Bool
 are_independent (Lift (Load item)) other = leaves other item.cell
 are_independent (Lift (Discharge cell id)) other = leaves other cell
 are_independent (Fill name kg) other = not (fills other name.items)
 are_independent (Restow from to id) other = leaves other from && leaves other to
 
--- the test tells it
+-- the test is true exactly where the steps are independent
 abbrev pub TellsIndependent : Type 0
 TellsIndependent = (a b : operation.Op) → (are_independent a b ≡ true) ↔ AreIndependent a b
 
--- nor do those at two places of a list
+-- the steps at two places of a list are independent of each other
 abbrev pub both_independent : Option operation.Op → Option operation.Op → Bool
 both_independent (Some a) (Some b) = are_independent a b
 both_independent a b = false
@@ -75,14 +76,15 @@ both_independent a b = false
 abbrev pub independent_at : List operation.Op → ℕ → ℕ → Bool
 independent_at ops i j = both_independent (slice_get ops i) (slice_get ops j)
 
--- the steps at two places, the one before the other, don't mind each other, and neither minds a step between them
+-- the steps at two places, the one before the other, are independent of each other and of all steps between
 pub record AreExchangeable (ops : List operation.Op) (i j : ℕ) : Type 0 where
   pub order : i < j
   pub pair : independent_at ops i j ≡ true
   pub first : (k : ℕ) → i < k → k < j → independent_at ops i k ≡ true
   pub last : (k : ℕ) → i < k → k < j → independent_at ops j k ≡ true
 
--- so are two steps, which are named in any order, the first step being 1; a step can be exchanged with itself
+-- two steps can be exchanged; their numbers are given in any order, the first step being 1; a step can be
+-- exchanged with itself
 abbrev pub CanSwap : List operation.Op → ℕ → ℕ → Type 0
 CanSwap ops a b = (a ≡ b) ⊎ (AreExchangeable ops (a - 1) (b - 1) ⊎ AreExchangeable ops (b - 1) (a - 1))
 
@@ -94,7 +96,7 @@ put_in xs j (Some x) = insert xs j x
 abbrev pub moved : {X : Type 0} → List X → ℕ → ℕ → List X
 moved xs i j = put_in (remove xs i) j (slice_get xs i)
 
--- the step at one place minds none of those that it passes on its way to another
+-- the step at one place is independent of all steps that it passes on its way to another
 pub record CanPass (ops : List operation.Op) (i j : ℕ) : Type 0 where
   pub forth : (k : ℕ) → i < k → k ≤ j → independent_at ops i k ≡ true
   pub back : (k : ℕ) → j ≤ k → k < i → independent_at ops i k ≡ true

@@ -20,15 +20,16 @@ use Rattle.lift_sequence.specs.Aboard.{Aboard, with_cell}
 abbrev pub in_bay : Cell → ℕ → Cell
 in_bay cell bay = record { bay = bay; row = cell.row; tier = cell.tier }
 
--- the taken cell of another bay wants the room of this one
+-- the cell of another bay is occupied, and overlaps this one
 abbrev pub is_rival : (Cell → Option Container) → Cell → ℕ → Bool
 is_rival cells cell bay = is_some (cells (in_bay cell bay)) && meet bay cell.bay
 
--- The taken cell that wants the room of this one, and of several the one of least bay. Bays have three digits.
+-- The occupied cell that overlaps this one, and of several the one of least bay. Bays have three digits.
 unfoldable pub overlap : (Cell → Option Container) → Cell → Option Cell
 overlap cells cell = option_map (in_bay cell) (find (is_rival cells cell) (range_with_len 0 1000))
 
--- why a container can't be put into a cell: the ship hasn't the cell, it is taken, or another wants its room
+-- why a container can't be put into a cell: the ship hasn't the cell, it is occupied, or an occupied cell
+-- overlaps it
 abbrev pub place_fault : Option Place → Bool → Option Cell → Option SeqCode
 place_fault None taken rival = Some UnknownCell
 place_fault (Some place) true rival = Some CellTaken
@@ -45,7 +46,8 @@ is_empty (b ∷ bs) = false
 abbrev pub differ : List ℕ → List ℕ → Bool
 differ a b = not (is_empty a) && (not (is_empty b) && not (bytes_eq a b))
 
--- why the container of this identification can't be taken out of a cell: the ship hasn't the cell, it is empty, or another stands there
+-- why the container of this identification can't be taken out of a cell: the ship hasn't the cell, it is empty, or another container is
+-- there
 abbrev pub hold_fault : List ℕ → Option Container → Option SeqCode
 hold_fault id None = Some CellEmpty
 hold_fault id (Some container) = if differ id container.id.items then Some WrongContainer else None
@@ -53,7 +55,7 @@ hold_fault id (Some container) = if differ id container.id.items then Some Wrong
 abbrev pub take_fault : ProfileRecord → Aboard → Cell → List ℕ → Option SeqCode
 take_fault ship at cell id = if is_none (place_of ship cell) then Some UnknownCell else hold_fault id (at.cells cell)
 
--- why a tank can't hold so many kg: its table hasn't that mass, or the ship hasn't the tank
+-- why a tank can't hold a mass: its table hasn't that mass, or the ship hasn't the tank
 abbrev pub over_fault : Option Mass → Option SeqCode
 over_fault None = Some TankOver
 over_fault (Some body) = None
@@ -62,7 +64,8 @@ abbrev pub fill_fault : ProfileRecord → Option ℕ → ℕ → Option SeqCode
 fill_fault ship None kg = Some UnknownTank
 fill_fault ship (Some tank) kg = over_fault (tank_body ship tank kg)
 
--- Why a container can't be taken from one cell to another. It is taken out first, so what it leaves is no rival of the place it goes to.
+-- Why a container can't be taken from one cell to another. It is taken out first, so the cell that it leaves is no rival of the cell
+-- that it goes to.
 abbrev pub restow_fault : ProfileRecord → Aboard → Cell → Cell → List ℕ → Option SeqCode
 restow_fault ship at from to id = option_or (take_fault ship at from id) (stand_fault ship (with_cell at from None) to)
 
@@ -73,6 +76,6 @@ fault_of ship at (Lift (Discharge cell id)) = take_fault ship at cell id.items
 fault_of ship at (Fill name kg) = fill_fault ship (tank_of ship name.items) kg
 fault_of ship at (Restow from to id) = restow_fault ship at from to id.items
 
--- a refusal tells the fault, unless it is for want of memory
+-- a refusal gives the fault that is defined, or is out of memory
 abbrev pub Tells : Option SeqCode → SeqCode → Type 0
 Tells fault code = code ≢ NoMemory → fault ≡ Some code

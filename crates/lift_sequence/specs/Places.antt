@@ -1,4 +1,4 @@
--- What is aboard has its place in the ship, and how many bodies that makes.
+-- Everything aboard has its place in the ship; and how many bodies there are.
 use Rattle.std.specs.Prelude.{◌≡◌, ◌≤◌, ℕ, List, length, Some, true}
 use Rattle.std.specs.List.{filter, range_with_len}
 use Rattle.std.specs.Map.{keys_of}
@@ -10,12 +10,13 @@ use Rattle.stow_messages.specs.declared.step_rows.StepRow.TheVariants as row
 use Rattle.ship_profile.specs.Record.{ProfileRecord, place_of, tank_body}
 use Rattle.lift_sequence.specs.Aboard.{Aboard}
 
--- each taken cell is one of the ship's, and each tank that is filled is one of hers, whose table has what it holds
+-- each occupied cell is one of the ship's, and each filled tank is one of hers, whose table has the mass that it
+-- holds
 pub record HasPlaces (ship : ProfileRecord) (at : Aboard) : Type 0 where
   pub cells : (cell : Cell) → is_some (at.cells cell) ≡ true → is_some (place_of ship cell) ≡ true
   pub tanks : (tank kg : ℕ) → at.tanks tank ≡ Some kg → is_some (tank_body ship tank kg) ≡ true
 
--- her cells that are taken, and the numbers of her tanks that are filled
+-- her occupied cells, and the numbers of her filled tanks
 abbrev pub taken_cells : ProfileRecord → Aboard → List Cell
 taken_cells ship at = filter (λ cell. is_some (at.cells cell)) (keys_of ship.tables.cells)
 

@@ -34,7 +34,7 @@ abbrev pub ops_of : List lift.Lift → Option (List StepRow) → List operation.
 ops_of lifts None = map Lift lifts
 ops_of lifts (Some rows) = filter_map (op_of lifts) rows
 
--- the first step that can't be done with what the steps before it leave aboard
+-- the first step that can't be done with what is aboard after the steps before it
 abbrev pub first_fault : ProfileRecord → Aboard → ℕ → List operation.Op → Option SeqFault
 first_fault ship at number [] = None
 first_fault ship at number (op ∷ more) =

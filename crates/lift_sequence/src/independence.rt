@@ -5,7 +5,7 @@ use crate::operations::Op;
 use stow_messages::Lift;
 use units_core::{Cell, conflicts};
 
-/// Whether neither of two cells wants the room of the other.
+/// Whether two cells don't overlap.
 fn are_apart(a: Cell, b: Cell) -> bool
     ensures { result ≡ are_apart a b }
 {
@@ -13,7 +13,7 @@ fn are_apart(a: Cell, b: Cell) -> bool
 }
 
 impl Op {
-    /// Whether the step touches no cell that wants the room of this one.
+    /// Whether the step touches no cell that overlaps this one.
     fn leaves(&self, cell: Cell) -> bool
         ensures { result ≡ leaves self.now cell }
     {
@@ -35,8 +35,8 @@ impl Op {
         }
     }
 
-    /// Whether the step and another one don't mind each other: no cell of the one is a cell of the other or wants its room, and they
-    /// don't fill one tank.
+    /// Whether two steps are independent of each other: no cell of the one is or overlaps a cell of the other, and they don't fill
+    /// the same tank.
     pub fn is_independent(&self, other: &Op) -> bool
         ensures { result ≡ are_independent self.now other.now }
     {
@@ -49,7 +49,7 @@ impl Op {
     }
 }
 
-/// Whether the steps at two places don't mind each other.
+/// Whether the steps at two places are independent of each other.
 fn independent_at(ops: &[Op], i: usize, j: usize) -> bool
     requires first { i < length ops.now }
     requires second { j < length ops.now }
@@ -58,7 +58,7 @@ fn independent_at(ops: &[Op], i: usize, j: usize) -> bool
     ops[i].is_independent(&ops[j])
 }
 
-/// Whether the steps at two places don't mind each other, and neither minds a step between them.
+/// Whether the steps at two places are independent of each other and of all steps between.
 pub(crate) fn are_exchangeable(ops: &[Op], i: usize, j: usize) -> bool
     requires order { i < j }
     requires within { j < length ops.now }
@@ -75,7 +75,7 @@ pub(crate) fn are_exchangeable(ops: &[Op], i: usize, j: usize) -> bool
     independent_at(ops, i, j)
 }
 
-/// Whether the step at one place minds none of those that it passes on its way to another.
+/// Whether the step at one place is independent of all steps that it passes on its way to another.
 pub(crate) fn can_pass(ops: &[Op], i: usize, j: usize) -> bool
     requires first { i < length ops.now }
     requires second { j < length ops.now }

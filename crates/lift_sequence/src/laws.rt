@@ -23,8 +23,8 @@ ghost use Rattle.lift_sequence.specs.Places.{HasLift, HasPlaces, filled_tanks, t
 ghost use Rattle.lift_sequence.specs.Rivals.{HaveShortBays, HasNoRival, IsLeastRival};
 ghost use Rattle.lift_sequence.specs.Sequence.{ops_of, sequence_fault};
 
-/// An arrival has one answer: nothing is wrong with it, or it has a fault, and one only. What is so by the definitions
-/// (`specs/Faults.antt`) is what [`Arrival::new`](crate::Arrival::new) answers.
+/// An arrival has one answer: nothing is wrong with it, or it has exactly one fault. The answer that the definitions
+/// (`specs/Faults.antt`) give is the one that [`Arrival::new`](crate::Arrival::new) answers.
 pub fn arrivals_have_one_answer()
     ensures fault { (ship : ProfileRecord) (items : List Item) (fills : List TankFill)
         (f : SeqFault) → IsArrivalFault ship items fills f →
@@ -37,7 +37,8 @@ pub fn arrivals_have_one_answer()
         (f : SeqFault) → IsLegalArrival ship items fills → IsArrivalFault ship items fills f → ⊥ }
 {}
 
-/// So has a sequence of steps, from whatever is aboard; it is what [`Sequence::new`](crate::Sequence::new) answers.
+/// A sequence of steps has one answer too, whatever is aboard; it is what [`Sequence::new`](crate::Sequence::new)
+/// answers.
 pub fn sequences_have_one_answer()
     ensures fault { (ship : ProfileRecord) (at : Aboard) (ops : List Op) (f : SeqFault) →
         IsSequenceFault ship at ops f → sequence_fault ship at ops ≡ Some f }
@@ -49,8 +50,8 @@ pub fn sequences_have_one_answer()
         IsLegalSequence ship at ops → IsSequenceFault ship at ops f → ⊥ }
 {}
 
-/// The rival of a cell is named exactly where a taken cell wants its room, and it is the one of least bay (`specs/Rivals.antt`). This is
-/// said of bays of three digits; such are the bays of all that has its place in a ship whose cells are written in a text.
+/// The rival of a cell is named exactly where an occupied cell overlaps it, and is the one of least bay (`specs/Rivals.antt`). The law
+/// is for bays of three digits; such are all bays of a ship whose cells are read from a text.
 pub fn overlaps_are_least()
     ensures none { (cells : Cell → Option Container) (cell : Cell) →
         HaveShortBays cells → (overlap cells cell ≡ None) ↔ HasNoRival cells cell }
@@ -73,8 +74,8 @@ pub fn cargo_has_places()
 {}
 
 /// No body and no step is lost: there are as many bodies on arrival as blocks, fills and items; of all that has its place in the ship as
-/// many as blocks, filled tanks and taken cells, each of which is counted; and as many steps as rows or lifts, where each row of a lift
-/// has the number of one, as in rows among which each lift stands once.
+/// many as blocks, filled tanks and occupied cells, each of which is counted; and as many steps as rows or lifts, where each row of a
+/// lift has the number of a lift that is there.
 pub fn nobody_is_lost()
     ensures arrival { (ship : ProfileRecord) (items : List Item) (fills : List TankFill) →
         arrival_fault ship items fills ≡ None → length (arrival_bodies ship items fills)
@@ -103,8 +104,8 @@ pub fn weights_change_few_steps()
     ensures few { FewMoves }
 {}
 
-/// Two steps are independent where no cell of the one is a cell of the other or wants its room, and they don't fill one tank; the test says
-/// exactly that. Each of them then has the fault, and does what it has and does without the other before it, and both leave the same
+/// Two steps are independent where no cell of the one is or overlaps a cell of the other, and they don't fill the same tank; the test says
+/// exactly that. Each of them then has the same fault and the same effect with and without the other before it, and after both the same is
 /// aboard in either order.
 pub fn independent_steps_commute()
     ensures test { TellsIndependent }

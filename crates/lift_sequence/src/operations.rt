@@ -14,7 +14,7 @@ use units_core::{Cell, Kg};
 pub enum Op {
     /// A lift of the movement instruction.
     Lift(Lift),
-    /// From now on the tank of this name holds so many kg.
+    /// From now on the tank of this name holds this mass.
     Fill {
         name: ArrayVec<u8, 16>,
         kg: u32,
@@ -27,7 +27,7 @@ pub enum Op {
     },
 }
 
-/// Two cells are one.
+/// Whether two cells are equal.
 fn same_cell(a: Cell, b: Cell) -> bool
     ensures { result ≡ cell_eq a b }
 {

@@ -42,7 +42,7 @@ impl Model for Sequence {
     ghost invariant = { λ s. length s.steps.items ≡ length s.ops.items };
 }
 
-/// Does all steps, and tells what each does.
+/// Does all steps, and gives what each does.
 fn make_all(
     alloc: Global,
     profile: &Profile,
@@ -178,9 +178,9 @@ impl Sequence {
         self.ops.as_slice()
     }
 
-    /// Gives the container that step `k` loads, the first step being 1, another weight. That changes what this step puts in, and what the
-    /// steps behind it take out and put in that move the same container; all else stays. Wherever the sequence could be carried out, it
-    /// still can, since no step is judged by a weight. It takes no memory, and time linear in the number of steps.
+    /// Gives the container that step `k` loads, the first step being 1, another weight. That changes the body that this step puts in, and
+    /// the bodies of the later steps that move this container; all else stays. Wherever the sequence could be carried out, it still can,
+    /// since no step is judged by a weight. It takes no memory, and time linear in the number of steps.
     pub fn reweigh(&mut self, k: usize, kg: Kg)
         requires first { 1 ≤ k }
         requires load { IsLoad self.old.ops (k - 1) }
@@ -199,7 +199,8 @@ impl Sequence {
         self.ops[place] = self.ops[place].reweighed(kg);
     }
 
-    /// Exchanges the steps at two places, where neither of them minds the other or a step between them, and tells whether it did.
+    /// Exchanges the steps at two places, where they are independent of each other and of all steps between. Returns whether it
+    /// did.
     fn exchange(&mut self, i: usize, j: usize) -> bool
         requires order { i < j }
         requires within { j < length self.old.ops }
@@ -223,9 +224,9 @@ impl Sequence {
         true
     }
 
-    /// Exchanges two steps, the first step being 1, where it is certain that no step minds: neither of the two minds the other or a step
-    /// between them, as [`Op::is_independent`] says. It tells whether it did; if not, nothing changes. Wherever the sequence could be
-    /// carried out, it still can, and each step does what it did. It takes no memory, and time linear in the number of steps between.
+    /// Exchanges two steps, the first step being 1, where they are independent of each other and of all steps between, as
+    /// [`Op::is_independent`] says. It returns whether it did; if not, nothing changes. Wherever the sequence could be carried out, it
+    /// still can, and each step does what it did. It takes no memory, and time linear in the number of steps between.
     pub fn swap(&mut self, a: usize, b: usize) -> bool
         requires first { (1 ≤ a) × (1 ≤ b) }
         requires last { (a ≤ length self.old.ops) × (b ≤ length self.old.ops) }
@@ -250,10 +251,10 @@ impl Sequence {
         }
     }
 
-    /// Takes a step out and puts it in again so that it stands at the number `to`, the first step being 1, where it is certain that no step
-    /// minds: the step minds none of those that it passes, as [`Op::is_independent`] says. It tells whether it did; if not, nothing
-    /// changes. Wherever the sequence could be carried out, it still can, and each step does what it did. It takes no memory, and time
-    /// linear in the number of steps that are passed.
+    /// Takes a step out and puts it in again so that it stands at the number `to`, the first step being 1, where it is independent of all
+    /// steps that it passes, as [`Op::is_independent`] says. It returns whether it did; if not, nothing changes. Wherever the sequence
+    /// could be carried out, it still can, and each step does what it did. It takes no memory, and time linear in the number of steps that
+    /// are passed.
     pub fn shift(&mut self, from: usize, to: usize) -> bool
         requires first { (1 ≤ from) × (1 ≤ to) }
         requires last { (from ≤ length self.old.ops) × (to ≤ length self.old.ops) }

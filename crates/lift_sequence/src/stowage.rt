@@ -46,7 +46,7 @@ fn body_of(place: Place, kg: Kg) -> Body
 }
 
 impl Stowage {
-    /// Nothing is aboard, and there is room for so many containers.
+    /// Nothing is aboard, and there is room for this number of containers.
     pub(crate) fn with_room(alloc: Global, containers: usize) -> Result<Stowage, AllocError>
         ensures { IfOk result (λ s. cargo_in s ≡ nothing) }
     {
@@ -66,7 +66,7 @@ impl Stowage {
         self.cells.contains_key(&cell)
     }
 
-    /// Whether the cell of another bay is taken, and wants the room of a cell.
+    /// Whether the cell in that bay is occupied and overlaps this one.
     fn is_rival(&self, cell: Cell, bay: u16) -> bool
         ensures { result ≡ is_rival (cargo_in self.now).cells cell bay }
     {
@@ -74,7 +74,7 @@ impl Stowage {
         conflicts(other, cell) && self.is_taken(other)
     }
 
-    /// The taken cell that wants the room of a free cell, the one of least bay: no bay that is more than two away does.
+    /// The occupied cell that overlaps a free cell, the one of least bay; no bay more than two away can overlap.
     fn overlap(&self, cell: Cell) -> Option<Cell>
         ensures { is_some ((cargo_in self.now).cells cell) ≡ false
             → result ≡ overlap (cargo_in self.now).cells cell }
@@ -109,7 +109,7 @@ impl Stowage {
         }
     }
 
-    /// Puts a container into a cell, and gives its body. Where it can't, nothing changes.
+    /// Puts a container into a cell, and gives its body. Where that is impossible, nothing changes.
     pub(crate) fn stow(
         &mut self,
         profile: &Profile,
@@ -132,7 +132,7 @@ impl Stowage {
         }
     }
 
-    /// Makes room in the table for one container more, so that the next one needs no memory.
+    /// Reserves room in the table for one container more, so that the next one needs no memory.
     fn make_room(&mut self) -> Result<(), SeqCode>
         ensures same { cargo_in self.new ≡ cargo_in self.old }
         ensures room { OnOk result (0 < spare self.new.cells) }
@@ -155,7 +155,8 @@ impl Stowage {
         }
     }
 
-    /// Takes the container of this identification out of a cell, and gives its body with it. Where it can't, nothing changes.
+    /// Takes the container of this identification out of a cell, and gives it with its body. Where that is impossible,
+    /// nothing changes.
     fn take(
         &mut self,
         profile: &Profile,
@@ -187,7 +188,7 @@ impl Stowage {
         Ok((body_of(place, container.kg), container))
     }
 
-    /// Leaves so many kg in a tank. Where it can't, nothing changes.
+    /// Fills a tank to a mass. Where that is impossible, nothing changes.
     fn fill(&mut self, profile: &Profile, name: &[u8], kg: u32) -> Result<Step, SeqCode>
         ensures legal { OnOk result
             (fill_fault profile.now (tank_of profile.now name.now) kg ≡ None) }
@@ -218,7 +219,8 @@ impl Stowage {
         })
     }
 
-    /// Takes a container from one cell to another. It is put back where it can't be put there, so that nothing changes.
+    /// Moves a container from one cell to another. If the other cell can't take it, it is put back, and nothing
+    /// changes.
     fn restow(
         &mut self,
         profile: &Profile,
@@ -235,7 +237,7 @@ impl Stowage {
             (Tells (restow_fault profile.now (cargo_in self.old) from to id.now)) }
         ensures same { OnErr result (cargo_in self.new ≡ cargo_in self.old) }
     {
-        // first, so that the container never stands nowhere for want of memory
+        // reserve first: after the container is taken out nothing may fail
         self.make_room()?;
         let (out, container) = self.take(profile, from, id)?;
         match self.free_place(profile, to) {
@@ -254,7 +256,7 @@ impl Stowage {
         }
     }
 
-    /// Does one step, and tells the bodies that it takes out and puts in; or why it can't be done, and then nothing changes.
+    /// Does one step, and gives the bodies that it takes out and puts in; or why it can't be done, and then nothing changes.
     pub(crate) fn make(&mut self, profile: &Profile, op: &Op) -> Result<Step, SeqCode>
         ensures legal { OnOk result (fault_of profile.now (cargo_in self.old) op.now ≡ None) }
         ensures aboard { OnOk result

@@ -14,7 +14,7 @@ use what_if::Session;
 pub enum Told {
     /// As with ample memory.
     Right,
-    /// It wanted memory.
+    /// It ran out of memory.
     Short,
     /// Otherwise.
     Wrong,
@@ -58,7 +58,7 @@ impl<'a> Trial<'a> {
         }
     }
 
-    /// Whether all that can be seen is as it was before a call that wanted memory.
+    /// Whether all that can be seen is as it was before a call that ran out of memory.
     pub fn is_as_before(&self) -> bool {
         match self {
             Trial::Apply(of) => of.is_before(),

@@ -27,7 +27,7 @@ values t Surface = t.fsm
 values t (WeightAft i) = at t.weights_aft i
 values t (MomentAft i) = at t.moments_aft i
 
--- a sum of so many parts, as it is kept
+-- a sum of this number of parts, as it is kept
 abbrev pub kept_of : Sum → ℕ → Kept
 kept_of s parts = record {
   kg = s Weight;

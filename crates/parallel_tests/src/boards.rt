@@ -84,7 +84,7 @@ fn board_without_chunks(rt: HostRuntime) -> Result<(), Fail> {
     Ok(())
 }
 
-/// A worker that has come to some stage, and the events that aren't enabled there.
+/// A worker that has reached some stage, and the events that aren't enabled there.
 struct Case {
     begins: &'static [u32],
     found: &'static [Option<u32>],

@@ -28,7 +28,7 @@ pub struct Notes {
     gave_up: AtomicBool,
 }
 
-/// Of runs of so many workers over as many chunks.
+/// Notes of runs of a number of workers over as many chunks.
 pub fn notes_of(count: u8) -> Notes {
     Notes {
         count: u64::from(count),

@@ -23,7 +23,7 @@ static VALUES: [Last; 3] = [
     },
 ];
 
-/// The value that so many parts are joined to.
+/// The join of this number of parts.
 fn joined(value: Option<u32>, parts: u32) -> Last
     ensures { result.parts ≡ parts }
 {
@@ -100,7 +100,8 @@ fn faults_of_cuts(rt: HostRuntime) {
     same(&rt, fault_of(rt.alloc(), &[1, 3], 3), None);
 }
 
-/// The chunks of so many numbers each: their count, and where the last one begins and ends.
+/// Chunks of one length, over a number of values: how many there are, and where the last one begins
+/// and ends.
 static EVERY: [(u32, u32, usize, u32, u32); 5] = [
     (2, 3, 2, 2, 3),
     (2, 4, 2, 2, 4),

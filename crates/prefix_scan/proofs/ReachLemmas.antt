@@ -1,4 +1,4 @@
--- How the fold of the first so many values is found from row to row.
+-- How the fold of the first k values is found from row to row.
 use Rattle.std.proofs.Common.{◌≡◌, ℕ, ◌+◌, ◌*◌, ◌<◌, ◌≤◌, List, [], length, take, get_or, sum_by, sym, ap, ◌∙◌, refl, arith}
 use Rattle.std.proofs.lemmas.List.Sums.{sum_by-take-le, fold_more, sum_by_more}
 use Rattle.std.specs.List.{fold}

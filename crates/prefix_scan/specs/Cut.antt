@@ -25,7 +25,7 @@ IsFault ends len NotRising = (0 < length ends) × (0 < len) × (IsRising ends �
 IsFault ends len WrongEnd = (0 < length ends) × (0 < len) × IsRising ends × (start_of ends (length ends) ≢ len)
 IsFault ends len NoMemory = Divides ends len × (0 < len)
 
--- the same of chunks of one length
+-- the chunks where all but the last have one length
 abbrev pub IsFaultOfEvery : ℕ → ℕ → CutFault → Type 0
 IsFaultOfEvery n len Empty = (n ≡ 0) ⊎ (len ≡ 0)
 IsFaultOfEvery n len NotRising = ⊥

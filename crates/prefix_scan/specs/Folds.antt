@@ -1,12 +1,12 @@
--- What a list of values is joined to, as a whole and up to each of them.
+-- The join of a list of values, of all and of those up to each value.
 use Rattle.std.specs.Prelude.{ℕ, List, take}
 use Rattle.std.specs.List.{fold, scan}
 
--- the value of nothing for no values, else all but the last joined with the last
+-- the unit for no values, else the fold of all but the last joined with the last
 abbrev pub folded : {M : Type 0} → M → (M → M → M) → List M → M
 folded empty op xs = fold op empty xs
 
--- the fold of the first so many
+-- the fold of the first k values
 abbrev pub prefix : {M : Type 0} → M → (M → M → M) → List M → ℕ → M
 prefix empty op xs k = folded empty op (take k xs)
 

@@ -8,7 +8,7 @@ paired op [] = []
 paired op (x ∷ []) = []
 paired op (x ∷ y ∷ xs) = op x y ∷ paired op xs
 
--- so many rows up
+-- the row that is a number of rows further up
 abbrev pub lifted : {M : Type 0} → (M → M → M) → ℕ → List M → List M
 lifted op zero xs = xs
 lifted op (suc l) xs = paired op (lifted op l xs)

@@ -4,10 +4,10 @@ ghost use Rattle.prefix_scan.specs.Laws.{most_parts};
 
 use crate::monoids::Monoid;
 
-/// One join, by which the count rises by one. At its greatest value the count stays. The sizes of the two values add up to at most
+/// One join, which adds one to the count; a count at its greatest value stays. The sizes of the two values add up to at most
 /// [`crate::MAX_PARTS`].
 ///
-/// Every join of a tree's `set` and `prefix` is made here, so that the count tells them all.
+/// Every join of a tree's `set` and `prefix` is made here, so that all of them are counted.
 pub fn counted_join<M: Monoid>(count: &mut u64, left: &M, right: &M) -> M
     requires { M.weight left.now + M.weight right.now ≤ most_parts }
     ensures value { result ≡ M.op left.now right.now }

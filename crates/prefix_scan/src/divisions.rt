@@ -94,8 +94,8 @@ impl Cuts {
         Ok(Cuts { ends })
     }
 
-    /// Chunks that end where told. The first fault is answered: [`CutFault::Empty`] where there is no end or `len` is 0, `NotRising` where an
-    /// end isn't above the one before it or the first is 0, `WrongEnd` where the last isn't `len`.
+    /// Chunks that end at these places. The first fault is answered: [`CutFault::Empty`] where there is no end or `len` is 0, `NotRising`
+    /// where an end isn't above the one before it or the first is 0, `WrongEnd` where the last isn't `len`.
     pub fn at(alloc: Global, ends: &[u32], len: u32) -> Result<Cuts, CutFault>
         ensures ok { IfOk result (λ c. (c ≡ ends.now) × (0 < len) × Divides ends.now len) }
         ensures err { IfErr result (λ fault. IsFault ends.now len fault) }

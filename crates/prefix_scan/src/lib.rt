@@ -1,7 +1,7 @@
-//! A scan over the values of any monoid that tells their sizes, in the order in which they stand: what they are joined to, what those before
-//! each are joined to, and where a list is cut into chunks. A tree tells the same of a list whose values change, and counts its joins.
+//! A scan over the values of any monoid whose values have a size, in their order: the join of all values, the join of those before each, and
+//! where a list is cut into chunks. A tree gives these joins of a list whose values change, and counts the joins that it makes.
 //!
-//! Nothing here rests on the order of two values: `join` isn't commutative. It knows no ship.
+//! The order of the values is kept, since `join` isn't commutative. The crate knows no ship.
 #![tactic(auto)]
 
 mod chunk_offsets;

@@ -56,7 +56,7 @@ module _ (task : Task) (inputs : Inputs) (edits : List ℕ) where
     by run.NoMemory untouched short = nothing old new (IsLeft task inputs edits NoMemory) (untouched refl) (inl refl)
     by (run.Write m) untouched short = short m refl
 
--- what inputs and edits come to, as what the files of a line come to
+-- a claim about inputs and edits, as a claim about the files of a line
 module _ (known : List ℕ → Known) (line : Line) (inputs : Inputs) (texts : RunTexts) (edits : List ℕ) (are : texts_in inputs texts.edits ≡ texts)
     (named : edits ≡ edits_text texts.edits) (read : AreTexts known line texts) where
   on_files : (holds : Inputs → List ℕ → Type 0) → holds inputs edits → OnFiles known line holds

@@ -1,4 +1,4 @@
--- What a run comes to, by the files that its command line names.
+-- The result of a run, by the files that its command line names.
 use Rattle.std.specs.Prelude.{◌≡◌, ◌⊎◌, ℕ, List, [], Bool, true, Option, Ok, Err}
 use Rattle.clap.specs.Words.{Text}
 use Rattle.edits_file.specs.declared.files.EditsFault.TheVariants.{Line as LineFault}
@@ -82,8 +82,8 @@ abbrev pub HasBadEdits : Task → Inputs → List ℕ → ℕ → Type 0
 HasBadEdits task inputs edits number =
     (task ≡ WhatIf) × ((outcome : Outcome) × (outcome_of inputs ≡ Ok outcome)) × (edits_of edits ≡ Err (LineFault number))
 
--- Why inputs have no report that was written, by whether the sink has failed: a refusal is theirs or that of the edits, only a sink that has failed is told as one,
--- and the words aren't at fault any more.
+-- Why no report on the inputs was written, by whether the sink has failed: a refusal is one of the inputs or of the edits, a fault of the sink is reported only
+-- where the sink has failed, and the words of the command line are without fault here.
 abbrev pub IsStopOn : Task → Inputs → List ℕ → Bool → Stop → Type 0
 IsStopOn task inputs edits failed (Refused fault) = outcome_of inputs ≡ Err fault
 IsStopOn task inputs edits failed (Edits number) = HasBadEdits task inputs edits number

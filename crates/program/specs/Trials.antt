@@ -1,4 +1,5 @@
--- What the lines of an edits file come to, tried one after another on a list of steps, and what is printed of each.
+-- The results of the lines of an edits file, tried one after another on a list of steps, and what is printed of
+-- each.
 use Rattle.std.specs.Prelude.{ℕ, ◌+◌, List, [], ◌∷◌, ◌++◌, take, codes, Option, None, Some}
 use Rattle.std.specs.Fmt.{decimal}
 use Rattle.lift_sequence.specs.declared.operations.Op.{Op}

@@ -1,4 +1,4 @@
--- What is written, told of any writer whose bytes are known.
+-- What is written to a writer whose bytes are known.
 use Rattle.std.specs.Prelude.{◌≡◌, ℕ, ◌<◌, List, ◌∷◌, length, take, Option, option_map}
 use Rattle.std.specs.Io.KnownBytes.{Appends}
 

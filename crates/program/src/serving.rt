@@ -18,7 +18,7 @@ use std::io::Write;
 use std::sync::Wait;
 use std::thread::Threads;
 
-/// How a line wants the report made.
+/// The options of the report that a line asks for.
 fn options_of(line: Line<'_>) -> Options<'static>
     requires workers { (1 ≤ line.workers) × (line.workers ≤ 16) }
     ensures workers { result.workers ≡ line.entry.workers }

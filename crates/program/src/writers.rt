@@ -5,8 +5,8 @@ use std::io::Write;
 
 /// A caller's writer, as it is lent to a sink for one run.
 ///
-/// Functions over any sink say what was added to what it holds, and not whether it is the same sink still. So what this one holds is told behind a mark, the
-/// name that the proof has for the loan: where something was only added, the mark is the same, and the caller's writer holds what was written.
+/// Functions over any sink say what was added to its contents, and not whether it is still the same sink. So the contents of this one begin with a mark, the
+/// name that the proof has for the loan: where something was only added, the mark is unchanged, and the caller's writer has what was written.
 #[derive(Drop)]
 pub struct Lent<'a, O> {
     /// The caller's.

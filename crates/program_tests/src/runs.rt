@@ -390,7 +390,7 @@ fn steps_file(rt: HostRuntime) {
 /// The words of a run with a file of edits.
 const WITH_EDITS: [&str; 5] = ["whatif", "box", "plan.edi", "moves.edi", "edits.txt"];
 
-// A file of edits that fails is told as every other file is.
+// A file of edits that can't be read is reported as every other file is.
 #[test]
 fn unread_edits(rt: HostRuntime) {
     for content in FAILING {
@@ -513,7 +513,8 @@ impl Write for Failing {
     }
 }
 
-/// A run whose output takes so many bytes, so many a call, writes the front of this text, and says that it failed where that isn't all of it.
+/// A run whose output takes a limited number of bytes, in all and per call, writes the front of this text, and says that it failed where that
+/// isn't all of it.
 fn check_front(
     rt: &(impl Abort + AllocGlobal + Threads + Wait + Sync),
     words: &[&str],

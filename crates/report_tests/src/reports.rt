@@ -85,8 +85,8 @@ fn check_refusal(
 static EMPTY_REPORT: &[u8] =
     b"STEP LIFT KG GM MEAN AFT FWD TRIM LIST A30 A40 A3040 GZ ANGLE CLOSE FRAMES VERDICT\n0 - 8200000 4333 4000 4000 4000 0 0 31509 50888 19379 1958 35 0 0/0;0/0;0/0;0/0;0/0 PASS\nALL PASS\n";
 
-// With ample memory and a sound sink the answer is Ok: bodies that always want memory, or whose sink always fails, meet every contract, and are
-// caught here (always_no_memory, always_write_fault).
+// With ample memory and a sound sink the answer is Ok: bodies that are always out of memory, or whose sink always fails, meet every contract,
+// and are caught here (always_no_memory, always_write_fault).
 #[test]
 fn empty_plan(rt: HostRuntime) {
     let (outcome, text) = written_by(&rt, NO_MOVES, &options(2, PLAN));

@@ -36,6 +36,6 @@ AreLevers l o = (y : ℕ → Ratio) × (o ≡ Some y) × AreOrdinates l.num l.de
 abbrev pub AreLeversIfAny : Option Levers → Option (ℕ → Ratio) → Type 0
 AreLeversIfAny result o = MatchOption result (o ≡ None) (λ l. AreLevers l o)
 
--- the same, where the table that the displacement lies outside of is told
+-- the levers, or the table that the displacement lies outside of
 abbrev pub AreLeversOf : Result Levers Outside → Option (ℕ → Ratio) → Type 0
 AreLeversOf result o = MatchResult result (λ l. AreLevers l o) (λ outside. (outside ≡ OutsideLevers) × (o ≡ None))

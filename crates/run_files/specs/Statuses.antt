@@ -36,7 +36,7 @@ stop_text NoMemory = codes "no memory"
 stop_text (Read name) = codes "read fault " ++ string_bytes name
 stop_text Write = codes "write fault"
 
--- a file can't be read: its name is told, unless memory is short
+-- a file can't be read: its name is given, or memory ran out
 abbrev pub IsUnread : Stop → Type 0
 IsUnread NoMemory = Unit {0}
 IsUnread (Read name) = Unit {0}

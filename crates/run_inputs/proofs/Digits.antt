@@ -1,4 +1,4 @@
--- Numbers in so many digits.
+-- Numbers in a fixed number of digits.
 use Rattle.std.proofs.Common.{◌≡◌, ℕ, ◌-◌, ◌^◌, [], ◌++◌, length, replicate, false, arith, decimal}
 use Rattle.std.proofs.lemmas.List.{append-nil}
 use Rattle.std.specs.Fmt.{padded_integral, format_spec, char_count}

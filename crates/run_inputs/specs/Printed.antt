@@ -1,4 +1,5 @@
--- What stands behind `refused` in the line on a run without a report: the code of the input, that of its fault, and the place.
+-- What is printed behind `refused` in the line on a run without a report: the code of the input, that of its fault, and the
+-- place.
 use Rattle.std.specs.Prelude.{ℕ, List, [], ◌++◌, codes}
 use Rattle.std.specs.Fmt.{decimal}
 use Rattle.ship_profile.specs.Printed.{profile_fault_text}

@@ -1,10 +1,10 @@
--- How a cell and a byte of a name stand in print.
+-- How a cell and a byte of a name are printed.
 use Rattle.std.specs.Prelude.{ℕ, ◌-◌, List, ◌++◌, length, replicate, if◌then◌else◌}
 use Rattle.std.specs.Char.{is_ascii_graphic}
 use Rattle.std.specs.Fmt.{decimal}
 use Rattle.units_core.specs.declared.cells.Cell.{Cell}
 
--- a number in so many digits, with zeros (code 48) before it
+-- a number in `count` digits, with zeros (code 48) before it
 abbrev pub in_digits : ℕ → ℕ → List ℕ
 in_digits count n = replicate (count - length (decimal n)) 48 ++ decimal n
 

@@ -17,7 +17,7 @@ pub enum RunFault {
     Profile(ProfileFault),
     /// F2: the bay plan is refused.
     Baplie(StowFault),
-    /// F3: an item of the bay plan can't stand where the plan has it, or a tank can't hold its fill.
+    /// F3: an item of the bay plan can't be in its cell, or a tank can't hold its fill.
     Arrival(SeqFault),
     /// F4: the movement instruction is refused.
     Movins(StowFault),
@@ -29,7 +29,7 @@ pub enum RunFault {
     Cuts(CutFault),
     /// F7: out of memory; nothing was written.
     NoMemory,
-    /// F8: the sink failed, once it held so many bytes of the report.
+    /// F8: the sink failed after it took this number of bytes of the report.
     Write(usize),
 }
 

@@ -93,7 +93,7 @@ fn rows(alloc: Global, text: Option<&[u8]>, lifts: u32) -> Result<Option<Vec<Ste
     Ok(Some(steps(alloc, text, lifts).map_err(steps_refusal)?))
 }
 
-/// The steps that the lifts come to, with the steps file.
+/// The steps that the lifts and the steps file order.
 fn orders_on(alloc: Global, inputs: &Inputs<'_>, lifts: Vec<Lift>) -> Result<Vec<Op>, RunFault>
     requires { length lifts.items ≤ 200000 }
     ensures ok { IfOk result (λ o. orders_on inputs.now lifts.items ≡ Ok o.items) }

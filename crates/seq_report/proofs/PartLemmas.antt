@@ -1,4 +1,4 @@
--- A text that is put part by part: how much of it is put, and what is left of it.
+-- A text that is written part by part: how much of it is written, and what is left of it.
 use Rattle.std.proofs.Common.{◌≡◌, ◌∙◌, ℕ, suc, ◌+◌, ◌<◌, ◌≤◌, List, [], ◌∷◌, ◌++◌, length, take, drop, get_or, Option, ap, sym, subst, arith}
 use Rattle.std.specs.Io.KnownBytes.{Appends}
 use Rattle.std.proofs.KnownBytes.{Appends-trans}
@@ -36,7 +36,7 @@ module _ (whole : List ℕ) (put : ℕ) (sections : List Part) (i : ℕ) (last p
   pub last_part : length sections ≤ i → part ≡ last → drop put whole ≡ part ++ []
   last_part past this = left ∙ ap (λ (l : List Part). text_in l ++ last) (drop_all i sections past) ∙ sym this ∙ sym (append-nil part)
 
--- a part is put, whole or in its beginning
+-- a part is written, whole or in its beginning
 module _ (a b c : Option (List ℕ)) (whole part rest : List ℕ) (put : ℕ)
     (inside : put ≤ length whole) (left : drop put whole ≡ part ++ rest) (before : Appends a b (take put whole)) where
   pub part_put : (n : ℕ) → n ≡ put + length part → Appends b c part → Appends a c (take n whole)

@@ -16,7 +16,7 @@ fault_of_every n lines NotRising some told h = absurd h
 fault_of_every n lines WrongEnd some told h = absurd h
 fault_of_every n lines NoMemory some told h = absurd (told refl)
 
--- what holds of a fault that isn't out of memory holds of the one that is told
+-- what is true of a fault other than out of memory is true of the refusal's fault
 pub told_fault : (P : CutFault → Type 0) (f g : CutFault) → (f ≢ NoMemory → P f) → cuts_refusal f ≡ Cuts g → P g
 told_fault P Empty g h is = let same : Empty ≡ g = cc in subst P same (h (λ e. absurd (cc)))
 told_fault P NotRising g h is = let same : NotRising ≡ g = cc in subst P same (h (λ e. absurd (cc)))

@@ -29,7 +29,7 @@ no_cut (Cuts f) fault h is = h
 no_cut NoMemory fault h is = absurd (cc)
 no_cut (Write m) fault h is = absurd (cc)
 
--- and tells of memory as itself
+-- and out of memory is reported as itself
 pub tells : (e : RunFault) → IsOfRun e → TellsMemory e
 tells (Profile f) h = absurd h
 tells (Baplie f) h = absurd h

@@ -8,7 +8,7 @@ spaced-append [] ys = refl
 spaced-append (x ∷ xs) ys =
     ap (λ (t : List ℕ). (32 ∷ x) ++ t) (spaced-append xs ys) ∙ sym (append_assoc (32 ∷ x) (spaced xs) (spaced ys))
 
--- words, one word and further words, put before a line from the last to the first
+-- words, one word and further words, written before a line from the last to the first
 pub around_one : (front : List (List ℕ)) (word : List ℕ) (back : List (List ℕ)) (line behind with all : List ℕ) → behind ≡ spaced back ++ line
     → with ≡ (32 ∷ word) ++ behind → all ≡ spaced front ++ with → all ≡ spaced (front ++ (word ∷ back)) ++ line
 around_one front word back line behind with all put-back put-word put-front =

@@ -53,7 +53,7 @@ IsFirstStep case ends least = IsLeastFound (Some least) (first_step_in case ends
 abbrev pub sum_in : Case → ℕ → Sum
 sum_in case k = sum_to case.profile.ship.frames case.arrival.bodies case.sequence.steps k
 
--- Inputs tell of this case: its ship, the items and the fills that are aboard on arrival, and its list of steps.
+-- Inputs define this case: its ship, the items and the fills that are aboard on arrival, and its list of steps.
 pub record IsToldBy (inputs : Inputs) (case : Case) : Type 0 where
   pub ship : ship_in inputs ≡ Ok case.profile
   pub items : items_in inputs ≡ Ok case.arrival.items

@@ -54,7 +54,8 @@ headings_text = spaced (map heading_of columns)
 abbrev pub numbers_text : Printed → List ℕ
 numbers_text f = spaced (map (λ c. number_text (figure_of f c)) columns)
 
--- the shear force and the bending moment at the i-th frame; at the frames up to the n-th; and at so many frames
+-- the shear force and the bending moment at the i-th frame; at the frames up to the n-th; and at the first n
+-- frames
 abbrev pub frame_text : Printed → ℕ → List ℕ
 frame_text f i = signed_decimal (f.shear i) ++ (codes "/" ++ signed_decimal (f.bending i))
 

@@ -1,4 +1,4 @@
--- Where a report is cut into chunks: the plan fits so many lines, or has a fault.
+-- Where a report is cut into chunks: the plan fits the number of lines, or has a fault.
 use Rattle.std.specs.Prelude.{◌≡◌, ℕ, ◌<◌}
 use Rattle.prefix_scan.specs.Cut.{Divides, IsFault}
 use Rattle.prefix_scan.specs.declared.divisions.CutFault.{CutFault}

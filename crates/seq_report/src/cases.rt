@@ -151,8 +151,8 @@ fn arrived_by(
     }
 }
 
-/// The case that the inputs tell of, or the first refusal: by what came of the first three inputs, and what was read of the others. The contract alone
-/// speaks of `inputs`.
+/// The case that the inputs define, or the first refusal: by the results of the first three inputs, and by what was read of the others. Only the
+/// contract uses `inputs`.
 fn case_by(
     alloc: Global,
     inputs: &Inputs<'_>,
@@ -183,12 +183,12 @@ fn case_by(
     }
 }
 
-/// Whether an input couldn't be read for want of memory.
+/// Whether reading an input ran out of memory.
 fn ran_out<T>(reading: &Result<T, RunFault>) -> bool {
     matches!(reading, Err(RunFault::NoMemory))
 }
 
-/// The case that the inputs tell of, or the first refusal, the profile and both messages as they were read.
+/// The case that the inputs define, or the first refusal, the profile and both messages as they were read.
 fn case_read(
     alloc: Global,
     inputs: &Inputs<'_>,
@@ -214,13 +214,13 @@ fn case_read(
     let orders = orders_by(alloc, inputs, moves);
     match case_by(alloc, inputs, arrived, orders) {
         Ok(case) => Ok(case),
-        // a reader that ran out of memory is told, also behind the refusal of another input
+        // a reader that ran out of memory is reported, even if another input is refused
         Err(_) if short => Err(RunFault::NoMemory),
         Err(fault) => Err(fault),
     }
 }
 
-/// The case that the inputs tell of, or the first refusal, in the order of [`crate::report`]. Out of memory may stand for any refusal.
+/// The case that the inputs define, or the first refusal, in the order of [`crate::report`]. Out of memory may stand for any refusal.
 pub fn case_of(alloc: Global, inputs: &Inputs<'_>) -> Result<Case, RunFault>
     ensures ok { IfOk result (λ case. outcome_of inputs.now ≡ Ok (outcome_in case)) }
     ensures told { IfOk result (IsToldBy inputs.now) }
@@ -238,8 +238,8 @@ pub fn case_of(alloc: Global, inputs: &Inputs<'_>) -> Result<Case, RunFault>
     case_read(alloc, inputs, profile, plan, moves)
 }
 
-/// The same case, the inputs read in as many threads as there are workers, three at most: of several refusals the first in the order of the inputs is told
-/// all the same. A thread that isn't started is told as out of memory.
+/// The case that the inputs define, or the first refusal. The inputs are read in as many threads as there are workers, three at most; the first refusal in
+/// the order of the inputs is reported, whichever thread ends first. A thread that can't be started is reported as out of memory.
 pub fn case_in<R: Threads + Wait + Sync>(
     rt: &R,
     alloc: Global,

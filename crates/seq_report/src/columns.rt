@@ -84,7 +84,7 @@ pub fn write_headings(text: &mut String) -> Result<(), AllocError>
     Ok(())
 }
 
-/// Puts the list, or a dash where there is none, behind a space, before the line.
+/// Writes the list, or a dash where there is none, behind a space, before the line.
 fn put_list(line: &mut BackwardText<'_>, list: Option<i128>)
     requires room { length line.old + 41 ≤ 2048 }
     ensures text { line.new ≡ (32 ∷ number_text list) ++ line.old }
@@ -99,7 +99,8 @@ fn put_list(line: &mut BackwardText<'_>, list: Option<i128>)
     }
 }
 
-/// Puts the figures of the columns, each behind a space, before the line: those behind the list, the list, which may lack, and those before it.
+/// Writes the figures of the columns, each behind a space, before the line: those behind the list, the list, if there is one, and those before
+/// it.
 fn put_numbers(line: &mut BackwardText<'_>, figures: &RoundedFigures)
     requires room { length line.old + 492 ≤ 2048 }
     ensures text { line.new ≡ numbers_text (read figures.now) ++ line.old }
@@ -125,7 +126,8 @@ fn put_numbers(line: &mut BackwardText<'_>, figures: &RoundedFigures)
     line.put_each(b' ', &before);
 }
 
-/// Puts the shear forces and bending moments at so many frames, behind a space, before the line.
+/// Writes the shear forces and bending moments at the first `frames` frames, behind a space, before
+/// the line.
 fn put_frames(line: &mut BackwardText<'_>, figures: &RoundedFigures, frames: usize)
     requires some { 1 ≤ frames }
     requires few { frames ≤ 16 }
@@ -144,7 +146,7 @@ fn put_frames(line: &mut BackwardText<'_>, figures: &RoundedFigures, frames: usi
     );
 }
 
-/// Puts all figures of a line, each behind a space, before what follows them.
+/// Writes all figures of a line, each behind a space, before the rest of the line.
 pub fn put_figures(line: &mut BackwardText<'_>, figures: &RoundedFigures, frames: usize)
     requires some { 1 ≤ frames }
     requires few { frames ≤ 16 }

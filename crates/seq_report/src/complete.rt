@@ -75,7 +75,8 @@ fn is_countable(heading: usize, sections: &[Section], last: usize) -> bool
     heading.checked_add(rest).is_some()
 }
 
-/// Puts a heading, the texts of sections in their order and a last line, or says how many bytes of all these the sink took before it failed.
+/// Writes a heading, the texts of sections in their order and a last line, or says how many bytes of all these the sink took before it
+/// failed.
 fn put_parts<S: Sink>(
     sink: &mut S,
     heading: &str,
@@ -107,7 +108,7 @@ fn put_parts<S: Sink>(
 }
 
 impl CompleteReport {
-    /// The report of these sections in their order, which have so many lines, between the heading and the last line.
+    /// The report of these sections in their order, which have `lines` lines, between the heading and the last line.
     pub fn join(
         alloc: Global,
         sections: Vec<Section>,
@@ -134,7 +135,7 @@ impl CompleteReport {
         })
     }
 
-    /// Puts the whole text, or says how many bytes of it the sink took before it failed.
+    /// Writes the whole text, or says how many bytes of it the sink took before it failed.
     pub fn put_into<S: Sink>(&self, sink: &mut S) -> Result<(), usize>
         requires { S.has_failed sink.old ≡ false }
         ensures ok { OnOk result (Appends (S.contents sink.old) (S.contents sink.new) self.now.text) }

@@ -62,7 +62,7 @@ pub struct Lines<'a> {
 #[derive(Drop)]
 pub struct Texts<'a> {
     pub lines: &'a Lines<'a>,
-    /// By which all numbers are put, made once for all workers.
+    /// The table by which all numbers are written, made once for all workers.
     pub digits: FourDigits,
 }
 

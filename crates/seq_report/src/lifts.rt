@@ -8,7 +8,7 @@ use run_inputs::shown;
 use stow_messages::Lift;
 use units_core::Cell;
 
-/// Puts a cell in its seven digits before the line.
+/// Writes a cell in its seven digits before the line.
 fn put_cell(line: &mut BackwardText<'_>, cell: Cell)
     requires room { length line.old + 60 ≤ 2048 }
     ensures text { line.new ≡ cell_text cell ++ line.old }
@@ -19,7 +19,7 @@ fn put_cell(line: &mut BackwardText<'_>, cell: Cell)
     line.put_in_digits(u64::from(cell.bay), 3);
 }
 
-/// Puts the name of a tank before the line.
+/// Writes the name of a tank before the line.
 fn put_name(line: &mut BackwardText<'_>, name: &[u8])
     requires room { length name.now + length line.old ≤ 2048 }
     ensures { line.new ≡ map shown name.now ++ line.old }
@@ -31,7 +31,7 @@ fn put_name(line: &mut BackwardText<'_>, name: &[u8])
     }
 }
 
-/// Puts the two cells of a restow before the line.
+/// Writes the two cells of a restow before the line.
 fn put_cells(line: &mut BackwardText<'_>, from: Cell, to: Cell)
     requires room { length line.old + 121 ≤ 2048 }
     ensures text { line.new ≡ (cell_text from ++ (codes ">" ++ cell_text to)) ++ line.old }
@@ -42,7 +42,7 @@ fn put_cells(line: &mut BackwardText<'_>, from: Cell, to: Cell)
     put_cell(line, from);
 }
 
-/// Puts a step before the line: a letter for its kind, and the cell, the tank or both cells.
+/// Writes a step before the line: a letter for its kind, and the cell, the tank or both cells.
 fn put_op(line: &mut BackwardText<'_>, op: &Op)
     requires room { length line.old + 122 ≤ 2048 }
     ensures text { line.new ≡ op_text op.now ++ line.old }
@@ -68,7 +68,8 @@ fn put_op(line: &mut BackwardText<'_>, op: &Op)
     }
 }
 
-/// Puts what leads to a step before the rest of its line; nothing leads to the condition on arrival.
+/// Writes what leads to a step before the rest of its line; nothing leads to the condition on
+/// arrival.
 pub fn put_lift(line: &mut BackwardText<'_>, lift: Option<&Op>)
     requires room { length line.old + 122 ≤ 2048 }
     ensures text { line.new ≡ lift_text (option_map (λ op. op.now) lift.entry) ++ line.old }

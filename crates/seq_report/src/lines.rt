@@ -88,7 +88,7 @@ pub fn write_header(text: &mut String) -> Result<(), AllocError>
     write_judged_headings(text)
 }
 
-/// Puts the criterion that fails, behind the word for it, before the end of a line.
+/// Writes the criterion that fails, behind the word for it, before the end of a line.
 fn put_failure(end: &mut BackwardText<'_>, criterion: Criterion)
     requires room { length end.old + 9 ≤ 2048 }
     ensures text { end.new ≡ (codes " FAIL " ++ code_of criterion) ++ end.old }
@@ -98,7 +98,8 @@ fn put_failure(end: &mut BackwardText<'_>, criterion: Criterion)
     end.put_words(" FAIL ");
 }
 
-/// Puts the table outside of which a condition lies, behind the word for it, before the end of a line.
+/// Writes the table outside of which a condition lies, behind the word for it, before the end of a
+/// line.
 fn put_outside(end: &mut BackwardText<'_>, outside: Outside)
     requires room { length end.old + 16 ≤ 2048 }
     ensures text { end.new ≡ (codes " OUTSIDE " ++ cause_of outside) ++ end.old }
@@ -108,7 +109,8 @@ fn put_outside(end: &mut BackwardText<'_>, outside: Outside)
     end.put_words(" OUTSIDE ");
 }
 
-/// Puts how a step is judged before the end of its line: its figures and the verdict, or what lies outside of the tables.
+/// Writes how a step is judged before the end of its line: its figures and the verdict, or what lies outside of the
+/// tables.
 fn put_verdict(end: &mut BackwardText<'_>, line: &StepLine)
     requires room { length end.old + 1813 ≤ 2048 }
     ensures text { end.new ≡ verdict_text line.now.frames (told_with line.now.judged line.now.figures) ++ end.old }
@@ -127,7 +129,8 @@ fn put_verdict(end: &mut BackwardText<'_>, line: &StepLine)
     }
 }
 
-/// Puts the displacement, how it is judged, and the end of the line at the end of a text.
+/// Writes the displacement, how the condition is judged, and the end of the line at the end of a
+/// text.
 fn put_judged(end: &mut BackwardText<'_>, line: &StepLine)
     requires room { length end.old + 1855 ≤ 2048 }
     ensures text { end.new ≡ judged_text (said line.now) ++ end.old }
@@ -138,7 +141,8 @@ fn put_judged(end: &mut BackwardText<'_>, line: &StepLine)
     end.put_parted(b' ', line.kg);
 }
 
-/// Puts together the line of a step, with the lift that leads to it, in place of what `end` held before.
+/// Writes the line of a step, with the lift that leads to it, to `end`, in place of what `end` held
+/// before.
 fn put_line(end: &mut BackwardText<'_>, lift: Option<&Op>, line: &StepLine)
     ensures { end.new ≡ line_of (option_map (λ op. op.now) lift.entry) (said line.now) }
 {
@@ -149,7 +153,7 @@ fn put_line(end: &mut BackwardText<'_>, lift: Option<&Op>, line: &StepLine)
     end.put_natural(u64::from(line.step));
 }
 
-/// Writes the line of a step, with the lift that leads to it. The line is put together in `end`, whatever that held before.
+/// Writes the line of a step, with the lift that leads to it. The line is built in `end`, whatever that held before.
 pub fn write_line(
     text: &mut String,
     end: &mut BackwardText<'_>,

@@ -12,13 +12,13 @@ use std::alloc::Global;
 /// Where the lines of a report are cut into chunks. The report is the same for every plan.
 #[derive(Clone, Copy, Debug)]
 pub enum CutPlan<'a> {
-    /// Chunks of so many lines, the last with what is left.
+    /// Chunks of this number of lines, the last with what is left.
     Every(u32),
     /// Chunks that end before these lines, the first line being 0; the last end is the number of lines.
     At(&'a [u32]),
 }
 
-/// How a report is made. It is the same whatever stands here.
+/// How a report is made. The report is the same for all options.
 #[derive(Clone, Copy, Debug)]
 pub struct Options<'a> {
     /// How many threads work at it.
@@ -27,7 +27,7 @@ pub struct Options<'a> {
     pub cuts: CutPlan<'a>,
 }
 
-/// The cuts that a plan makes of so many lines, or the first fault of the plan.
+/// The cuts of a plan for this number of lines, or the first fault of the plan.
 fn divided(alloc: Global, plan: CutPlan<'_>, lines: u32) -> Result<Cuts, CutFault>
     requires { 0 < lines }
     ensures cut { IfOk result (λ cuts. Divides cuts lines) }

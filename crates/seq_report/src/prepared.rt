@@ -99,7 +99,7 @@ fn chunked<G: Gate, R: Threads + Wait + Sync>(
     }
 }
 
-/// The case that the inputs tell of, in the chunks of a plan, or the first refusal.
+/// The case that the inputs define, in the chunks of a plan, or the first refusal.
 pub fn prepare<G: Gate, R: Threads + Wait + Sync>(
     rt: &R,
     alloc: Global,

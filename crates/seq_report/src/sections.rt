@@ -35,7 +35,7 @@ impl Model for Section {
 }
 
 impl Section {
-    /// No line, with room for a text of so many bytes.
+    /// No line, with room for a text of `room` bytes.
     fn new(alloc: Global, room: usize) -> Result<Section, AllocError>
         ensures { IfOk result (λ s. s ≡ record { text = []; first = None }) }
     {
@@ -45,7 +45,7 @@ impl Section {
         })
     }
 
-    /// Adds the line of a step, with the lift that leads to it. The line is put together in `end`.
+    /// Adds the line of a step, with the lift that leads to it. The line is built in `end`.
     fn add(
         &mut self,
         end: &mut BackwardText<'_>,
@@ -88,12 +88,12 @@ pub struct Chunk {
     pub first: Totals,
 }
 
-/// About how many bytes a line of this ship's report has: room for so many saves copies, and a text that is longer grows.
+/// About how many bytes a line of this ship's report has: reserving them saves copies, and a longer text grows.
 fn line_room(profile: &Profile) -> usize {
     100 + 24 * profile.frames().as_slice().len()
 }
 
-/// The lines of a chunk, their numbers put by this table.
+/// The lines of a chunk, their numbers written by this table.
 pub fn make_section(
     alloc: Global,
     case: CaseView<'_>,

@@ -80,7 +80,7 @@ impl<W: Write + Drop> Sink for Through<W> {
     }
 }
 
-/// Puts all of `bytes`, or says how many of them the sink took before it failed.
+/// Writes all of `bytes`, or says how many of them the sink took before it failed.
 pub fn put_all<S: Sink>(sink: &mut S, bytes: &[u8]) -> Result<(), usize>
     requires { S.has_failed sink.old ≡ false }
     ensures ok { OnOk result (Appends (S.contents sink.old) (S.contents sink.new) bytes.now) }
@@ -99,8 +99,8 @@ pub fn put_all<S: Sink>(sink: &mut S, bytes: &[u8]) -> Result<(), usize>
     Ok(())
 }
 
-/// Puts a part of a text behind the `before` bytes of it that are put already, and says how many these are then; or, where the sink fails, how
-/// many it took.
+/// Writes a part of a text behind its first `before` bytes, which are written already, and returns how many are written then; or, where the
+/// sink fails, how many it took.
 pub fn put_part<S: Sink>(sink: &mut S, before: usize, part: &[u8]) -> Result<usize, usize>
     requires sound { S.has_failed sink.old ≡ false }
     requires room { before + length part.now ≤ 18446744073709551615 }

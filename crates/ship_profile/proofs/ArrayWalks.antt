@@ -1,4 +1,4 @@
--- What is made one by one, each after those before it, comes to all of them, or to the fault of the first that is refused.
+-- Elements that are made one after another give all of them, or the fault of the first that is refused.
 use Rattle.std.proofs.Common.{◌≡◌, ◌∙◌, ◌⊎◌, inl, inr, ℕ, zero, suc, ◌<◌, ◌≤◌, nat_le, true, false, List, [], ◌∷◌, ◌++◌, length, take, append_assoc, append-nil, Option, Some, None, Result, Ok, Err, refl, ap, sym, subst, arith}
 use Rattle.std.specs.Prelude.{slice_get}
 use Rattle.std.proofs.lemmas.Bool.{cases_lt}
@@ -13,7 +13,7 @@ use Rattle.ship_profile.specs.Keys.{name_of, items_in, elements_of, elements_at,
 use Rattle.ship_profile.specs.Outcome.{one_by_one}
 use Rattle.ship_profile.specs.Faults.{HasOneAnswer, AreMadeOf, IsFirstRefused, AreElements, IsArrayFault, AreElementsAt, IsArrayFaultAt, AreOptionalAt, IsOptionalFaultAt}
 
--- one answer of a result, where each of two meanings tells it
+-- one answer of a result, where each of two claims determines it
 pub one_answer : {A : Type 0} (r : Result A ProfileFault) (P : A → Type 0) (Q : ProfileFault → Type 0) → ((a : A) → P a → r ≡ Ok a)
     → ((f : ProfileFault) → Q f → r ≡ Err f) → ((a : A) × P a) ⊎ ((f : ProfileFault) × Q f) → HasOneAnswer r P Q
 one_answer r P Q good bad either = record {

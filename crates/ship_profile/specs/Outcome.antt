@@ -1,4 +1,4 @@
--- What the elements of an array come to, up to the first fault.
+-- The result of reading the elements of an array, up to the first fault.
 use Rattle.std.specs.Prelude.{List, [], ◌∷◌, ◌++◌, Result, Ok}
 use Rattle.units_core.specs.Outcome.{◌>>=◌}
 

@@ -91,7 +91,7 @@ number_of r cell = tables.number_of r.tables cell
 abbrev pub tank_of : ProfileRecord → List ℕ → Option ℕ
 tank_of r name = tables.tank_of r.tables name
 
--- a tank that holds so many kg, as a body
+-- a tank that holds this mass, as a body
 abbrev pub tank_body : ProfileRecord → ℕ → ℕ → Option Mass
 tank_body r tank kg = tables.tank_body r.tables tank kg
 

@@ -198,7 +198,8 @@ impl Profile {
         self.tables.tank(name)
     }
 
-    /// A tank that holds so many kg, as a body; `None` for an unknown tank, and for a mass outside of the tank's table.
+    /// A tank that holds the mass `kg`, as a body; `None` for an unknown tank, and for a mass outside of the tank's
+    /// table.
     pub fn tank_item(&self, tank: u16, kg: u32) -> Option<Body>
         ensures { result ≡ tank_body self.now tank kg }
     {

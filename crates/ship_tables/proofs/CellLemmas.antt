@@ -1,4 +1,4 @@
--- Where a cell stands in a list each of whose cells is told to stand where it does.
+-- The index of a cell in a list, where a function gives the index of each cell of the list.
 use Rattle.std.proofs.Common.{◌≡◌, ◌∙◌, ℕ, zero, suc, ◌<◌, Bool, true, false, List, [], ◌∷◌, length, get_or, None, Some, option_map, refl, ap, sym, arith}
 use Rattle.std.proofs.lemmas.Bool.Decides.{Decides-and}
 use Rattle.std.specs.Cmp.{unsigned_Decides}
@@ -49,7 +49,7 @@ unlike r a b f e s =
     absurd (cc)
 
 module _ (tell : Cell → ℕ) (cells : List Cell) (all : (i : ℕ) (d : Cell) → i < length cells → tell (get_or cells i d) ≡ i) (cell : Cell) where
-  -- no other place has the cell than the one that is told
+  -- no other index has the cell than the one that the function gives
   elsewhere : (j : ℕ) (d : Cell) → j < length cells → (tell cell ≡ j → ⊥) → cell_eq cell (get_or cells j d) ≡ false
   elsewhere j d inside apart = by_cases (cell_eq cell (get_or cells j d)) refl where
     by_cases : (b : Bool) → cell_eq cell (get_or cells j d) ≡ b → b ≡ false

@@ -1,4 +1,4 @@
--- The fields of a record come to a row, or to the fault of the first that is refused.
+-- The fields of a record give a row, or the fault of the first that is refused.
 use Rattle.std.proofs.Common.{◌≡◌, ◌∙◌, ◌⊎◌, inl, inr, ℕ, ◌==◌, true, false, List, [], ◌∷◌, ◌++◌, length, map, zip, Result, Ok, Err, refl, ap, arith}
 use Rattle.std.proofs.lemmas.Bool.{cases_eq}
 use Rattle.std.proofs.lemmas.Bool.Decides.{nat_tests}

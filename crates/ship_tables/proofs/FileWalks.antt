@@ -1,4 +1,4 @@
--- The records of a file come to their rows, or to the first fault.
+-- The records of a file give their rows, or the first fault.
 use Rattle.std.proofs.Common.{◌≡◌, ◌∙◌, ◌⊎◌, inl, inr, ℕ, zero, suc, ◌+◌, List, [], ◌∷◌, ◌++◌, length, take, append-nil, append_assoc, Bool, true, false, Option, Some, None, Result, Ok, Err, refl, ap, sym, subst, arith}
 use Rattle.std.specs.Prelude.{slice_get}
 use Rattle.std.specs.List.{fold, flat_map}

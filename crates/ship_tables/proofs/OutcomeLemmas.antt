@@ -44,7 +44,7 @@ module _ {A B : Type 0} where
       → in_turn add done rest ≡ Err e
   in_turn-stop add done x xs rest e is h = rw (is, h) refl
 
--- what a chain comes to by a result that went on, and by one that didn't
+-- the result of a chain whose first result is Ok, and of one whose first result is Err
 pub by_ok : {A B E : Type 0} (w : Result A E) (a : A) (k : A → Result B E) (all : Result B E) → w ≡ Ok a → k a ≡ all → w >>= k ≡ all
 by_ok w a k all is e = ap (λ v. v >>= k) is ∙ e
 

@@ -147,7 +147,7 @@ read_of-other form rest more heading e h =
 pub read_of-none : (form : Form) (rest : List Fields) → rest ≡ [] → read_of form rest ≡ enough form heading_read
 read_of-none form rest none = rw none refl
 
--- so many rows in the tables, where none has more than m
+-- at most m rows for each table: the bound on all rows, where no table has more than m
 pub tables-length : (m : ℕ) (ended : List (List Row)) (rows : List Row) → length rows ≤ m → length ended * m + length rows ≤ length (tables_after ended rows) * m
 tables-length m ended [] h = omega arith
 tables-length m ended (row ∷ rows) h =

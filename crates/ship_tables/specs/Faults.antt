@@ -24,7 +24,7 @@ AreUnderHeading form text records =
     ((heading : Fields) × (records_of text ≡ heading ∷ records) × (length heading ≡ length form.columns))
     ⊎ ((records_of text ≡ []) × (records ≡ []))
 
--- Each record has so many fields.
+-- Each record has n fields.
 abbrev pub HaveFields : ℕ → List Fields → Type 0
 HaveFields n records = (k : ℕ) (fields : Fields) → slice_get records k ≡ Some fields → length fields ≡ n
 

@@ -1,4 +1,4 @@
--- Bookkeeping: what a reader of a file holds, as what was read of the file.
+-- Bookkeeping: the state of a reader of a file, as what was read of the file.
 use Rattle.std.specs.Prelude.{◌≡◌, ℕ, ◌+◌, ◌*◌, ◌≤◌, List, [], ◌∷◌, ◌++◌, length, map, Option, Some, if◌then◌else◌}
 use Rattle.std.specs.List.{list_any}
 use Rattle.units_core.specs.declared.cells.Cell.{Cell}

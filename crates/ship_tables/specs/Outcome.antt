@@ -1,4 +1,4 @@
--- What a list of fields, or of records, comes to, up to the first fault.
+-- The result of reading a list of fields, or of records, up to the first fault.
 use Rattle.std.specs.Prelude.{List, [], ◌∷◌, Result, Ok}
 use Rattle.units_core.specs.Outcome.{◌>>=◌}
 

@@ -235,7 +235,7 @@ abbrev pub least_gm_in : Option (List ℕ) → Result (Option CurveTable) TableF
 least_gm_in None = Ok None
 least_gm_in (Some text) = curves_in least_gm_form 1 text >>= (λ c. Ok (Some c))
 
--- the tables that the texts write for a ship of this extent and so many stations
+-- the tables that the texts write for a ship of this extent and number of stations
 abbrev pub tables_of : Extent → ℕ → Texts → Result TablesRecord TableFault
 tables_of extent stations texts =
     places_in extent texts.cells >>= (λ cells.
@@ -258,7 +258,7 @@ number_of t cell = position (cell_eq cell) (keys_of t.cells)
 abbrev pub tank_of : TablesRecord → List ℕ → Option ℕ
 tank_of t name = position (λ tank. bytes_eq name tank.name) t.tanks
 
--- the body of a filling of so many kg in the i-th interval of its tank's table, each figure read there and rounded down
+-- the body of a filling of mass kg in the i-th interval of its tank's table, each figure read there and rounded down
 abbrev pub filling : TankTable → ℕ → ℕ → Mass
 filling t kg i = record {
   kg = kg;
@@ -305,13 +305,13 @@ pub record IsHydroTable (h : HydroTable) : Type 0 where
   pub mct_positive : IsPositive h.mct
   pub mct_within : IsWithin (10 ^ 9) h.mct
 
--- a curve has a value for each of so many arguments, from 0 to m
+-- a curve has a value from 0 to m for each of its arguments, which are `count`
 pub record IsCurve (count m : ℕ) (column : List ℤ) : Type 0 where
   pub rows : length column ≡ count
   pub least : IsAtLeast (pos 0) column
   pub within : IsWithin m column
 
--- curves of values from 0 to m can be read: they have 2 to so many rows
+-- curves of values from 0 to m can be read: they have 2 to `count` rows
 pub record AreCurves (count m : ℕ) (c : CurveTable) : Type 0 where
   pub rows : 2 ≤ length c.arguments
   pub most : length c.arguments ≤ count
@@ -395,8 +395,8 @@ abbrev pub StandsWithin : Extent → Tank → Type 0
 StandsWithin extent tank = (k : ℕ) → k < length tank.rows.kg
     → holds extent (record { x = at tank.rows.x k; y = at tank.rows.y k; z = at tank.rows.z k; half = at tank.rows.half k }) ≡ true
 
--- what the tables of a ship of this extent and so many stations keep: also, a curve of areas for each station, and containers and tanks
--- that stand within the extent
+-- what is true of the tables of a ship of this extent and number of stations: besides AreTables, there is a curve of areas for each
+-- station, and containers and tanks are within the extent
 pub record IsSound (extent : Extent) (stations : ℕ) (t : TablesRecord) : Type 0 where
   pub tables : AreTables t
   pub curves : length t.bonjean.columns ≡ stations

@@ -130,7 +130,7 @@ rule_fault rule.Distinct file line rows row = double_fault line (cells_in rows) 
 rule_fault (rule.Rising gap) file line rows row = rise_fault file line gap 0 row (slice_get rows (length rows - 1))
 rule_fault (rule.Together gap tables) file line rows row = rise_fault file line (Some gap) 1 row (slice_get rows (length rows - 1))
 
--- why a table of so many rows can't take one more, if it can't
+-- why a table of this number of rows can't take one more, if it can't
 abbrev pub room_fault : File → ℕ → ℕ → ℕ → Option TableFault
 room_fault file line most rows = if nat_lt rows most then None else Some (OutOfLimits file line)
 

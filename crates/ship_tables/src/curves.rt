@@ -125,7 +125,7 @@ fn bonjean_columns(alloc: Global, stations: usize) -> Result<Vec<Column>, TableF
     Ok(columns)
 }
 
-/// The Bonjean curves that the text of `bonjean.csv` writes for a ship of so many stations.
+/// The Bonjean curves that the text of `bonjean.csv` writes for a ship of this number of stations.
 pub fn read_bonjean(alloc: Global, stations: usize, text: &[u8]) -> Result<Curves, TableFault>
     ensures ok { IfOk result (λ c. curves_in (bonjean_form stations) stations text.now ≡ Ok c) }
     ensures refused { IfErr result (λ e. e ≢ TableFault.NoMemory

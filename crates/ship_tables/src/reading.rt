@@ -130,7 +130,7 @@ fn rule_fault(
     }
 }
 
-/// Why a table of so many rows can't take one more.
+/// Why a table of `rows` rows can't take one more.
 fn room_fault(file: File, line: u32, most: usize, rows: usize) -> Option<TableFault>
     ensures { result ≡ room_fault file line most rows }
 {
@@ -245,7 +245,7 @@ fn row_fault(layout: &Layout<'_>, gathered: &Gathered, row: &Row) -> Option<Tabl
     }
 }
 
-/// Keeps the cell of one more row in mind, where the rule asks for it.
+/// Remembers the cell of one more row, where the rule asks for it.
 fn remember(rule: Rule, seen: &mut IndexSet<Cell>, cell: Option<Cell>) -> Result<(), TableFault>
     ensures kept { OnOk result (seen.new.keys ≡ remembered rule seen.old.keys cell) }
     ensures memory { IfErr result (λ e. e ≡ TableFault.NoMemory) }

@@ -36,7 +36,7 @@ impl Model for Tables {
 }
 
 impl Tables {
-    /// Reads the tables that the texts of their files write, for a ship of this extent and so many stations, or the first fault
+    /// Reads the tables that the texts of their files write, for a ship of this extent and number of stations, or the first fault
     /// of them: the files come in the order `cells.csv`, `hydro.csv`, `kn.csv`, `bonjean.csv`, `tanks.csv`, `gm.csv`, and each is
     /// read from its beginning. Each number of the tables is the one that stands in its file, in its column and in the record of
     /// its row. Only this takes memory; where it is refused the answer is [`TableFault::NoMemory`].
@@ -130,7 +130,7 @@ impl Tables {
         self.tanks.number(name)
     }
 
-    /// The filling of a tank with so many kg, as its table says; `None` for an unknown tank, and for a mass outside its table.
+    /// The filling of mass `kg` of a tank, by its table; `None` for an unknown tank, and for a mass outside its table.
     pub fn tank_item(&self, tank: u16, kg: u32) -> Option<Body>
         ensures value { result ≡ tank_body self.now tank kg }
         ensures placed { IfSome result (λ b. IsPlace b.place) }

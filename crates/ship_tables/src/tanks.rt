@@ -94,7 +94,7 @@ fn moment_at(arguments: &[i128], column: &[i128], row: usize, x: i128) -> i64
 }
 
 impl TankRows {
-    /// Where a filling with so many kg stands, by its interval of the table.
+    /// The place of a filling of mass `kg`, by its interval of the table.
     fn place(&self, row: usize, kg: u32) -> Place
         requires { Encloses self.now.kg row (pos kg) }
         ensures value { result ≡ (filling self.now kg row).place }
@@ -111,7 +111,7 @@ impl TankRows {
         }
     }
 
-    /// The free surface moment of a filling with so many kg, by its interval of the table.
+    /// The free surface moment of a filling of mass `kg`, by its interval of the table.
     fn moment(&self, row: usize, kg: u32) -> i64
         requires { Encloses self.now.kg row (pos kg) }
         ensures value { result ≡ (filling self.now kg row).fsm }
@@ -120,7 +120,7 @@ impl TankRows {
         moment_at(self.kg.as_slice(), self.fsm.as_slice(), row, i128::from(kg))
     }
 
-    /// The filling with so many kg; `None` outside of the table.
+    /// The filling of mass `kg`; `None` outside of the table.
     fn item(&self, kg: u32) -> Option<Body>
         ensures value { result ≡ option_map (filling self.now kg) (interval self.now.kg (pos kg)) }
         ensures placed { IfSome result (λ b. IsPlace b.place) }
@@ -157,7 +157,7 @@ fn same_tables(a: &[TankRows], b: &[TankRows]) -> bool
     true
 }
 
-/// The filling with so many kg by the table of a number.
+/// The filling of mass `kg` by the table of a number.
 fn filling_of(tables: &[TankRows], number: usize, kg: u32) -> Option<Body>
     ensures value { result ≡ filling_in kg (slice_get tables.now number) }
     ensures placed { IfSome result (λ b. IsPlace b.place) }

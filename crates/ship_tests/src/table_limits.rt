@@ -498,7 +498,7 @@ fn number_ranges_of_each_file(rt: HostRuntime) -> Result<(), Fail> {
     Ok(())
 }
 
-/// Writes so many rows, numbered from 1 in seven digits, with what stands before the number and behind it.
+/// Writes `count` rows, numbered from 1 in seven digits, with the text before the number and behind it.
 fn write_rows(text: &mut String, before: &str, count: u32, after: &str) -> Result<(), Fail> {
     for row in 0..count {
         let number = row + 1;
@@ -507,7 +507,7 @@ fn write_rows(text: &mut String, before: &str, count: u32, after: &str) -> Resul
     Ok(())
 }
 
-/// Writes so many tables of so many rows; those of tanks begin with their names.
+/// Writes `tables` tables of `count` rows; the rows of tanks begin with the tank's name.
 fn write_tables(
     alloc: Global,
     text: &mut String,
@@ -526,7 +526,8 @@ fn write_tables(
     Ok(())
 }
 
-/// Reads a heading, so many tables of so many rows, and a last row, and compares the words of their fault.
+/// Reads a heading, a number of tables of a number of rows, and a last row, and compares the words of
+/// their fault.
 fn check_rows(
     rt: &(impl Abort + AllocGlobal),
     file: File,

@@ -108,7 +108,7 @@ pub fn refusal(alloc: Global, extent: &Extent, file: File, text: &str) -> Result
     words(alloc, fault_of(alloc, extent, &texts))
 }
 
-/// Compares words with those that are wanted of a case.
+/// Compares words with the expected ones of a case.
 pub fn check_words(rt: &impl Abort, words: &str, want: &str, case: &str) {
     same_row(rt, case, words, want);
 }
@@ -167,7 +167,7 @@ enum Asked {
     Cell(Cell),
     /// The number of a tank by its name, and how many tanks there are.
     Tank(&'static str),
-    /// The filling of a tank with so many kg.
+    /// The filling of a tank with this mass, in kg.
     Filling(u16, u32),
 }
 

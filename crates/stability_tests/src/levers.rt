@@ -18,7 +18,7 @@ static TIED: &str = "kg,0,5,10,15,20,25,30,35,40,45,50,55,60
 12300000,0,900,1790,2650,4230,4230,4000,3800,3600,3400,3200,3000,2800
 ";
 
-/// The levers with one body amidships of so many kg, at so many mm from the middle line and above the keel; none where its mass lies outside
+/// The levers with one body amidships of mass `kg`, `y` mm from the centre line and `z` mm above the keel; none where its mass lies outside
 /// of the cross curves.
 fn told(profile: &Profile, kg: u32, y: i32, z: i32) -> Result<Option<Levers>, Fail> {
     let totals = sum_of(profile, &[(kg, [50_000, y, z, 50_000])])?;
@@ -51,7 +51,7 @@ static UPRIGHT: [i128; 13] = [
     0, 377, 748, 1_097, 1_417, 1_694, 1_900, 1_958, 1_893, 1_737, 1_513, 1_235, 913,
 ];
 
-/// The centre of gravity at so many mm from the middle line and 6,000 mm above the keel, and the levers so.
+/// The levers where the centre of gravity is `y` mm from the centre line and 6,000 mm above the keel.
 #[derive(Clone, Copy)]
 struct Listing {
     y: i32,
@@ -116,7 +116,7 @@ fn outside_of_the_cross_curves(rt: HostRuntime) -> Result<(), Fail> {
     on_box_ship(&rt, &Displacements)
 }
 
-/// The angle of so many degrees.
+/// The angle of this number of degrees.
 fn angle(degrees: u8) -> Result<Angle, Fail> {
     Ok(Angle::new(degrees / 5).ok_or("an angle")?)
 }

@@ -16,7 +16,7 @@ pub type Mass = (u32, [i32; 4]);
 /// The box ship without cargo.
 pub const BLOCK: Mass = (8_200_000, [50_000, 0, 6_000, 50_000]);
 
-/// The length of so many millimetres.
+/// The length of this number of millimetres.
 pub fn length(mm: i32) -> Result<Mm, Fail> {
     Ok(Mm::new(mm).ok_or("a length")?)
 }

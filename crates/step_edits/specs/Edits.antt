@@ -35,7 +35,7 @@ edited ops (Remove at) = remove ops (place_of at)
 edited ops (Insert at op) = insert ops (place_of at) op
 edited ops (Reweigh at kg) = weighed_at kg (place_of at) ops
 
--- a number is that of a step in a list of so many
+-- a number is that of a step in a list of `count` steps
 abbrev pub is_number : ℕ → ℕ → Bool
 is_number count number = nat_le 1 number && nat_le number count
 

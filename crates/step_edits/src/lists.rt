@@ -9,7 +9,7 @@ use std::alloc::{AllocError, Global};
 use stow_messages::Lift;
 use units_core::Kg;
 
-/// A number is that of a step in a list of so many.
+/// Whether a number is that of a step in a list of `count` steps.
 fn is_number(count: usize, number: u32) -> bool
     ensures { result ≡ is_number count number }
 {

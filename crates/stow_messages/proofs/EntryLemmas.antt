@@ -1,4 +1,4 @@
--- A walk over the parts of a message comes to the entries that they give, or to the first fault.
+-- A walk over the parts of a message gives their entries, or the first fault.
 use Rattle.std.proofs.Common.{◌≡◌, ◌∙◌, ◌⊎◌, inl, inr, ℕ, ◌<◌, ◌≤◌, List, [], ◌∷◌, ◌++◌, append_assoc, append-nil, length, length-append, Option, Some, None, Result, Ok, Err, Bool, true, false, refl, sym, ap, subst, arith}
 use Rattle.std.specs.Prelude.{is_ok, flat_map, nat_lt, option_to_list}
 use Rattle.std.specs.List.{list_all}
@@ -17,7 +17,7 @@ pub followed : {A B E : Type 0} (r : Result A E) (f : A → Result B E) (all : B
 followed (Ok a) f all P e go = go a refl e
 followed (Err x) f all P e go = cc e
 
--- what a result is, where it has one of two meanings, each of which tells it
+-- what a result is, where one of two claims is true, each of which determines it
 pub told : {A E : Type 0} (r : Result A E) (P : A → Type 0) (Q : E → Type 0) → ((a : A) → P a → r ≡ Ok a) → ((e : E) → Q e → r ≡ Err e)
     → ((a : A) × P a) ⊎ ((e : E) × Q e) → (a : A) → r ≡ Ok a → P a
 told r P Q good bad (inl h) a e =

@@ -51,7 +51,8 @@ item_by mark f cell id None = if is_some f.equipment then Err (fault_at NoWeight
 abbrev pub item_of : ℕ → Found → Cell → ArrayVec ℕ → Result (Option Item) StowFault
 item_of mark f cell id = item_by mark f cell id (measure_of f)
 
--- the entries with one more, if the group at this location gives one: a message has at most so many
+-- the entries with one more, if the group at this location gives one: a message has at most `most`
+-- entries
 abbrev pub with_entry : {X : Type 0} → ℕ → List X → Numbered → Option X → Result (List X) StowFault
 with_entry most entries location None = Ok entries
 with_entry most entries location (Some entry) =

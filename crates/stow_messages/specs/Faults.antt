@@ -14,15 +14,15 @@ use Rattle.stow_messages.specs.Groups.{Found, HandledPart, location_of}
 use Rattle.stow_messages.specs.Items.{item_in, item_groups}
 use Rattle.stow_messages.specs.Lifts.{lift_under, lift_parts}
 
--- What the items of a text come to: it is a message, no group of it has a fault, and the items are those that the groups give, in their
--- order, at most 30,000.
+-- What the items of a text are: the text is a message, no group of it has a fault, and the items are those that the groups give, in
+-- their order, at most 30,000.
 abbrev pub AreItems : List ℕ → List Item → Type 0
 AreItems text items =
     (m : Opened) × IsMessage Baplie text m.mark m.segments × AreEntries (item_in m.mark) (item_groups m) items
     × (length items ≤ 30000)
 
--- What its lifts come to: it is a message, no part of it has a fault under the last handling before it, and the lifts are those that the
--- parts give, in their order, at most 200,000.
+-- What the lifts of a text are: the text is a message, no part of it has a fault under the last handling before it, and the lifts are
+-- those that the parts give, in their order, at most 200,000.
 abbrev pub AreLifts : List ℕ → List Lift → Type 0
 AreLifts text lifts =
     (m : Opened) × IsMessage Movins text m.mark m.segments × AreEntries (lift_under m.mark) (lift_parts m) lifts

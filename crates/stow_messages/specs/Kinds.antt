@@ -1,4 +1,4 @@
--- What a segment is in a message, told by its tag and, where that asks for it, by its qualifier.
+-- The kind of a segment in a message, by its tag and, for some tags, by its qualifier.
 use Rattle.std.specs.Prelude.{ℕ, List, Bool, true, false, if◌then◌else◌, codes}
 use Rattle.std.specs.Str.{bytes_eq}
 use Rattle.edifact_text.specs.Interchange.{Numbered, component}

@@ -24,7 +24,7 @@ pub record AreRows (lifts : ℕ) (records : List Fields) (rows : List StepRow) :
 abbrev pub NoLiftTwice : List StepRow → Type 0
 NoLiftTwice rows = (n : ℕ) → length (filter (is_lift n) rows) ≤ 1
 
--- The text is a steps file for so many lifts, with these rows.
+-- The text is a steps file for this number of lifts, with these rows.
 pub record AreSteps (lifts : ℕ) (text : List ℕ) (rows : List StepRow) : Type 0 where
   pub records : List Fields
   pub under : AreUnderHeading text records
@@ -71,6 +71,6 @@ pub record IsMissing (lifts : ℕ) (text : List ℕ) (f : StepsFault) : Type 0 w
   pub missing : stands f.at rows ≡ false
   pub least : (n : ℕ) → 1 ≤ n → n < f.at → stands n rows ≡ true
 
--- The fault of a text that is no steps file for so many lifts.
+-- The fault of a text that is no steps file for this number of lifts.
 abbrev pub IsStepsFault : ℕ → List ℕ → StepsFault → Type 0
 IsStepsFault lifts text f = IsHeadingFault text f ⊎ (IsRecordFault lifts text f ⊎ IsMissing lifts text f)

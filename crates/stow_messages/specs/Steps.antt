@@ -16,7 +16,7 @@ use Rattle.stow_messages.specs.declared.step_faults.StepsCode.{StepsCode}
 use Rattle.stow_messages.specs.declared.step_faults.StepsCode.TheVariants.{BadCsv, BadKind, BadField, NoLift, LiftTwice, LiftMissing, TooMany, NoMemory}
 use Rattle.units_core.specs.Outcome.{◌>>=◌, or_fault}
 
--- a number from the lowest to the highest, a text of so many bytes
+-- a number from the lowest to the highest, a text whose length is within two limits
 abbrev pub within : ℕ → ℕ → ℤ → Option ℕ
 within low high (pos n) = if nat_le low n && nat_le n high then Some n else None
 within low high (negsuc n) = None
@@ -102,7 +102,7 @@ abbrev pub rows_under : ℕ → List Fields → Result (List StepRow) StepsFault
 rows_under lifts [] = Ok []
 rows_under lifts (heading ∷ records) = if length heading == 4 then rows_from lifts [] records else Err (fault_at BadCsv 1)
 
--- the least lift that doesn't stand among the rows: of so many from lift n on, and of all
+-- the least lift that isn't among the rows: of a number of lifts from lift n on, and of all
 abbrev pub missing_from : List StepRow → ℕ → ℕ → Option ℕ
 missing_from rows n zero = None
 missing_from rows n (suc more) = if stands n rows then missing_from rows (n + 1) more else Some n
@@ -122,6 +122,6 @@ steps_of lifts text = rows_under lifts (records_of text) >>= complete lifts
 abbrev pub IsFaultOf : {A : Type 0} → Result A StepsFault → StepsFault → Type 0
 IsFaultOf defined e = e.code ≢ NoMemory → defined ≡ Err e
 
--- What this comes to: of the rows, one is lift n for each n from 1 to the number of lifts, and none for any other n.
+-- In other words: of the rows, one is lift n for each n from 1 to the number of lifts, and none for any other n.
 abbrev pub EachLiftOnce : ℕ → List StepRow → Type 0
 EachLiftOnce lifts rows = (n : ℕ) → length (filter (is_lift n) rows) ≡ (if nat_le 1 n && nat_le n lifts then 1 else 0)

@@ -22,7 +22,7 @@ const MAX_TANK_KG: u32 = 1_000_000_000;
 pub enum StepRow {
     /// The lift of this number in the movement instruction, the first being 1.
     Lift(u32),
-    /// From now on the tank of this name, of 1 to 16 bytes, holds so many kg, at most 10^9.
+    /// From now on the tank of this name, of 1 to 16 bytes, holds this mass, in kg, at most 10^9.
     Tank {
         name: ArrayVec<u8, 16>,
         kg: u32,
@@ -163,7 +163,7 @@ fn row_by(
     }
 }
 
-/// The row of a record, where so many lifts are to be done.
+/// The row of a record, where this number of lifts are to be done.
 pub fn row_of(lifts: u32, fields: &ByteRecord) -> Result<StepRow, StepsCode>
     ensures value { result ≡ row_of lifts (fields_of fields.now) }
     ensures within { IfOk result (λ row. IsWithin lifts row) }

@@ -16,8 +16,8 @@ use Rattle.strength.specs.declared.loads.FrameLoad.{FrameLoad}
 use Rattle.strength.specs.declared.loads.Loads.{Loads}
 use Rattle.strength.specs.declared.loads.Strains.{Strains}
 
--- at so many frames in their order, by the shear force and the bending moment of each number, and
--- the closing error
+-- the loads at the first `frames` frames in their order, by the shear force and the bending moment
+-- at each, and the closing error
 abbrev pub frame_load : (ℕ → ℤ) → (ℕ → ℤ) → ℕ → FrameLoad
 frame_load shear bending i = record { shear = shear i; bending = bending i }
 
@@ -46,7 +46,7 @@ IsAlong (Err outside) is s None ship = outside ≡ Bonjean
 abbrev pub AreLoadsBy : Result Loads Outside → Sum → Option (ℕ → ℤ) → ShipRecord → Type 0
 AreLoadsBy result s areas ship = IsAlong result (λ l areas. AreLoads l s areas ship) s areas ship
 
--- the same of the numbers from which the loads are made
+-- the relation between the numbers from which the loads are made
 abbrev pub AreStrainsOr : Result Strains Outside → Sum → Option (ℕ → ℤ) → ShipRecord → Type 0
 AreStrainsOr result s areas ship = IsAlong result (λ r areas. AreStrains r s areas ship) s areas ship
 

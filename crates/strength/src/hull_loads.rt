@@ -43,7 +43,7 @@ pub fn strains_afloat(
 }
 
 impl Strains {
-    /// The loads at the first so many frames, and the closing error.
+    /// The loads at the first `frames` frames, and the closing error.
     pub fn loads(&self, frames: usize) -> Loads
         requires few { frames ≤ 16 }
         ensures { AreLoadsAt result (λ i. at self.now.shear i) (λ i. at self.now.bending i) frames

@@ -25,7 +25,8 @@ fn shown(alloc: Global, row: &StepRow) -> Result<String, AllocError> {
     }
 }
 
-/// What a steps file answers where there are so many lifts: its rows one after another, or its fault.
+/// The result of reading a steps file where there are `lifts` lifts: its rows one after another, or
+/// its fault.
 fn answer(alloc: Global, text: &[u8], lifts: u32) -> Result<String, AllocError> {
     let rows = match steps(alloc, text, lifts) {
         Ok(rows) => rows,

@@ -219,8 +219,8 @@ fn spans_of_bays(rt: HostRuntime) {
     }
 }
 
-/// The bay of a cell on the centre line in tier 82, then bay, row and tier of another, and whether the two want the same room. A 40-foot bay
-/// stands over its two odd neighbours, and two of them may share one.
+/// The bay of a cell on the centre line in tier 82, then bay, row and tier of another, and whether the two overlap. A 40-foot bay covers its
+/// two odd neighbours, and two 40-foot bays may share one of these.
 static ROOMS: [(u16, u16, u8, u8, bool); 14] = [
     (1, 2, 0, 82, true),
     (2, 1, 0, 82, true),

@@ -35,11 +35,11 @@ cell_in text = None
 abbrev pub span_of : ℕ → ℕ × ℕ
 span_of bay = if nat_eq (bay % 2) 1 then (bay, bay) else (bay - 1, bay + 1)
 
--- the 20-foot bays that two bays stand over meet
+-- two bays have a 20-foot bay in common
 abbrev pub meet : ℕ → ℕ → Bool
 meet a b = nat_le (span_of a).0 (span_of b).1 && nat_le (span_of b).0 (span_of a).1
 
--- two cells want the same room: row and tier are equal, and the bays meet
+-- two cells overlap: row and tier are equal, and they have a 20-foot bay in common
 pub record Conflicts (a b : Cell) : Type 0 where
   pub row : a.row ≡ b.row
   pub tier : a.tier ≡ b.tier

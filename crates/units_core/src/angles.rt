@@ -36,7 +36,7 @@ impl Model for Angle {
 }
 
 impl Angle {
-    /// The angle of so many steps of 5 degrees; `None` above 12.
+    /// The angle of this number of steps of 5 degrees; `None` above 12.
     pub fn new(step: u8) -> Option<Angle>
         ensures { SomeIff result (step ≤ 12) step }
     {

@@ -66,7 +66,7 @@ pub fn span(cell: Cell) -> (u16, u16)
     }
 }
 
-/// Whether two cells want the same room: row and tier are equal, and the bays that they stand over meet.
+/// Whether two cells overlap: row and tier are equal, and they have a 20-foot bay in common.
 pub fn conflicts(a: Cell, b: Cell) -> bool
     ensures { IsTrue result ↔ Conflicts a b }
 {

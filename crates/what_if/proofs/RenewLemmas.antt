@@ -107,7 +107,7 @@ cell_at [] i op h e = absurd (omega (arith, h))
 cell_at (x ∷ xs) zero op h e = ap loaded_cell e
 cell_at (x ∷ xs) (suc i) op h e = cell_at xs i op (omega (arith, h)) e
 
--- what the joins come to
+-- the number of joins
 pub costs : (cell : Option Cell) (ops : List Op) (place : ℕ) (op : Op) (k joins after most : ℕ) → place < length ops → get_or ops place op ≡ op
     → joins + moves_in cell (drop place ops) * (k + 1) ≤ most → after ≤ joins + (if moves cell op then 1 else 0) * (k + 1)
     → after + moves_in (next_cell cell op) (drop (place + 1) ops) * (k + 1) ≤ most

@@ -1,4 +1,5 @@
--- A ship and what is aboard of her on arrival, from which lists of steps go on, and what a list comes to there.
+-- A ship and what is aboard of her on arrival, from which lists of steps go on, and the sums and verdicts of a
+-- list from there.
 use Rattle.std.specs.Prelude.{ℕ, ◌^◌, ◌<◌, ◌≤◌, List, length, map, Option, MatchOption}
 use Rattle.std.specs.List.{AllByRecursion}
 use Rattle.stow_messages.specs.declared.items.Item.{Item}
@@ -57,7 +58,7 @@ report_on base ops = outcome_on (lines_of base.ship (aboard_first base) ops)
 abbrev pub assessment_at : Base → List Op → ℕ → Assessment
 assessment_at base ops k = assessment_of base.ship (sum_at base.ship (aboard_first base) ops k)
 
--- the verdict on it; none where the list hasn't so many steps
+-- the verdict on it; none where the list has fewer steps
 abbrev pub IsJudgedAt : Option Verdict → Base → List Op → ℕ → Type 0
 IsJudgedAt result base ops k =
     MatchOption result (length ops < k) (λ verdict. (k ≤ length ops) × IsVerdict verdict base.ship.ship (assessment_at base ops k))

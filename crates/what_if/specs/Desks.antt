@@ -9,7 +9,7 @@ pub record DeskRecord : Type 0 where
   pub base : Base
   pub lists : Shelves
 
--- a number, and the place of the list, which is told by the place alone
+-- a number, and the list at that place of the desk; the place alone determines the list
 pub record TicketRecord : Type 0 where
   pub place : ℕ
   pub list : Where (Vec Op Global)

@@ -18,7 +18,7 @@ use Rattle.step_edits.specs.declared.faults.EditFault.TheVariants.{Sequence}
 use Rattle.step_edits.specs.Edits.{edited, edit_fault, place_of}
 use Rattle.what_if.specs.Bases.{Base, changes_on, list_fault, steps_on}
 
--- Inputs tell of a base, and of a list of steps that can be done from there.
+-- Inputs define a base, and a list of steps that can be done from there.
 pub record AreTold (inputs : Inputs) (base : Base) (ops : List Op) : Type 0 where
   pub ship : ship_in inputs ≡ Ok base.ship
   pub items : items_in inputs ≡ Ok base.arrival.items

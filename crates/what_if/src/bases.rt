@@ -77,7 +77,8 @@ impl Ground {
         &self.arrival
     }
 
-    /// Everything that is aboard on arrival, added up. What is known of every base is told with it.
+    /// Everything that is aboard on arrival, added up. Its clause also gives what is known of every
+    /// base.
     pub(crate) fn total(&self) -> &Totals
         ensures { IsBase self.now.ship self.now.arrival result.now }
     {

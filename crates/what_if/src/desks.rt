@@ -66,7 +66,8 @@ impl Desk {
         let base = Arc::try_clone(&self.base)?;
         match Session::new(self.alloc, base, list) {
             Ok(session) => Ok(session),
-            // A published list is one of a session on an equal base, so that all its steps can be done: only memory can be wanting.
+            // A published list is one of a session on an equal base, so all its steps can be done: the only possible error is out
+            // of memory.
             Err(_) => Err(AllocError),
         }
     }

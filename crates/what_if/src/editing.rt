@@ -29,9 +29,9 @@ fn list_refusal(fault: SeqFault) -> EditFault
 }
 
 impl SummedList {
-    /// Makes an edit. Where it is refused, or out of memory, everything is as it was. Another weight of a load is checked in no step and takes no
-    /// memory, and no more does an exchange of two steps that mind neither each other nor a step between; any other edit makes the sequence and
-    /// its sums anew.
+    /// Makes an edit. Where it is refused, or out of memory, everything is as it was. Another weight of a load checks no step and takes no
+    /// memory; nor does an exchange of two steps that are independent of each other and of all steps between. Any other edit makes the sequence
+    /// and its sums anew.
     pub fn edit(&mut self, edit: &Edit) -> Result<(), EditFault>
         ensures legal { OnOk result (refusal self.old.base self.old.ops edit.now ≡ None) }
         ensures base { self.new.base ≡ self.old.base }
@@ -61,7 +61,8 @@ impl SummedList {
         }
     }
 
-    /// Exchanges two steps, where it is certain that neither minds. It answers whether it did; if not, everything is as it was.
+    /// Exchanges two steps, where they are independent of each other and of all steps between. It returns whether it did; if
+    /// not, everything is as it was.
     fn exchange(&mut self, a: usize, b: usize) -> bool
         requires first { (1 ≤ a) × (1 ≤ b) }
         requires last { (a ≤ length self.old.ops) × (b ≤ length self.old.ops) }

@@ -163,8 +163,8 @@ impl Session {
         Ok(true)
     }
 
-    /// How the condition after the first `k` steps is judged, 0 being the one on arrival; `None` where the list hasn't so many. It takes at most l + 1 joins, where the
-    /// list has at most 2^l steps.
+    /// How the condition after the first `k` steps is judged, 0 being the one on arrival; `None` where the list has fewer steps. It takes at most l + 1 joins, where
+    /// the list has at most 2^l steps.
     pub fn judge(&mut self, k: u32) -> Option<Verdict>
         ensures judged { IsJudgedAt result self.old.base self.old.ops k }
         ensures base { self.new.base ≡ self.old.base }

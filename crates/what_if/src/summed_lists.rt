@@ -106,7 +106,8 @@ impl SummedList {
         self.sequence.ops()
     }
 
-    /// How the condition after the first `k` steps is judged, 0 being the one on arrival; `None` where the list hasn't so many.
+    /// How the condition after the first `k` steps is judged, 0 being the one on arrival; `None` where the list has fewer
+    /// steps.
     pub fn judge(&mut self, k: u32) -> Option<Verdict>
         ensures judged { IsJudgedAt result self.old.base self.old.ops k }
         ensures base { self.new.base ≡ self.old.base }

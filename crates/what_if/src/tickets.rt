@@ -4,7 +4,7 @@ use boxcar::Pushed;
 use lift_sequence::Op;
 use std::marker::Model;
 
-/// What opens a list at the desk where it was published. It has no list itself: the list stands at the desk.
+/// What opens a list at the desk where it was published. It has no list itself: the list is at the desk.
 #[derive(Drop)]
 pub struct Ticket {
     place: usize,
@@ -31,7 +31,7 @@ impl Ticket {
         Ticket { place, pushed }
     }
 
-    /// The number of the list, which a colleague is told.
+    /// The number of the list, which is passed on to a colleague.
     pub fn place(&self) -> usize
         ensures { result ≡ self.now.place }
     {

@@ -19,7 +19,7 @@ pub fn masses(alloc: Global, bodies: &[Body]) -> Result<Vec<u32>, AllocError> {
     Ok(masses)
 }
 
-/// The fault of an arrival with a container in each of these cells and so many kg in the tank.
+/// The fault of an arrival with a container in each of these cells and this mass in the tank.
 fn fault_of_arrival(
     alloc: Global,
     profile: &Profile,
@@ -30,7 +30,7 @@ fn fault_of_arrival(
     Ok(Arrival::new(alloc, profile, items, &[TankFill { tank: 0, kg }]).err())
 }
 
-/// The masses of what is aboard on arrival with a container in each of these cells and so many kg in the tank.
+/// The masses of what is aboard on arrival with a container in each of these cells and this mass in the tank.
 fn masses_on_arrival(
     alloc: Global,
     profile: &Profile,

@@ -12,7 +12,7 @@ use std::test::Fail;
 use stow_messages::Item;
 use units_core::{Cell, Kg};
 
-/// A condition: containers of this identification and mass in these cells, and so many kg in the tank.
+/// A condition: containers of this identification and mass in these cells, and this mass in the tank.
 #[derive(Clone, Copy)]
 struct Condition {
     name: &'static str,
@@ -178,7 +178,7 @@ fn with_ship<'a>(files: ProfileBytes<'a>, ship: &'a [u8]) -> ProfileBytes<'a> {
     ProfileBytes { ship, ..files }
 }
 
-/// Whether the arrival of a ship in the plain condition is equal to that of the box ship with a block of so many kg.
+/// Whether the arrival of a ship in the plain condition is equal to that of the box ship with a block of this mass.
 fn is_same_with_block(alloc: Global, profile: &Profile, kg: u32) -> Result<bool, Fail> {
     let ship = format!(in alloc;
         "{LIMITS}[[blocks]]\nkg = {kg}\nx_mm = 50000\ny_mm = 0\nz_mm = 6000\nhalf_mm = 50000\n"

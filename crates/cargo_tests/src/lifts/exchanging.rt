@@ -201,7 +201,7 @@ static KEPT: [Case; 4] = [
         did: false,
         want: &[Order::Fill("DB1", 500_000), Order::Fill("DB1", 300_000)],
     },
-    // the step between minds the first
+    // the step between depends on the first
     Case {
         aboard: &[],
         orders: &[
@@ -217,7 +217,7 @@ static KEPT: [Case; 4] = [
             Order::Weighing(AFT, 7_300),
         ],
     },
-    // the step between minds the last
+    // the step between depends on the last
     Case {
         aboard: &[AFT],
         orders: &[
@@ -315,7 +315,8 @@ fn step_is_shifted(rt: HostRuntime) -> Result<(), Fail> {
     on_box_ship(&rt, &Shifts)
 }
 
-/// Fillings of two tanks don't mind each other, nor do a filling and a lift; a restow minds steps in both of its cells.
+/// Fillings of two tanks are independent of each other, and so are a filling and a lift; a restow depends on steps in
+/// both of its cells.
 #[test]
 fn independent_steps(rt: HostRuntime) {
     let filling = op(&Order::Fill("DB1", 500_000));

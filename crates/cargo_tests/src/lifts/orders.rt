@@ -27,17 +27,17 @@ pub enum Order {
     Load(Cell),
     /// A container of another identification does.
     Loaded(Cell, &'static str),
-    /// A container of so many kg does.
+    /// A load of a container of this mass, in kg.
     Weighing(Cell, u32),
     /// The container of an identification goes ashore from a cell.
     Discharge(Cell, &'static str),
-    /// A tank holds so many kg.
+    /// A tank holds this mass, in kg.
     Fill(&'static str, u32),
     /// The container in the first cell goes into the second.
     Restow(Cell, Cell),
 }
 
-/// A text of at most so many bytes.
+/// A text of at most `MOST` bytes.
 pub fn short<const MOST: usize>(text: &str) -> ArrayVec<u8, MOST> {
     let mut bytes = ArrayVec::new();
     let _ = bytes.try_extend_from_slice(text.as_bytes());

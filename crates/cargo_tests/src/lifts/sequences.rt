@@ -176,7 +176,7 @@ static RESTOWS: [Case; 10] = [
             at: 2,
         }),
     },
-    // what can't be taken out is told before what can't be put in
+    // a container that can't be taken out is reported before one that can't be put in
     Case {
         aboard: &[],
         orders: &[Order::Restow(MIDDLE, ASHORE)],

@@ -33,7 +33,7 @@ pub const BOX: Row = Row {
     fsm: 11,
 };
 
-/// The length of so many millimetres.
+/// The length of this number of millimetres.
 pub fn length(mm: i32) -> Result<Mm, Fail> {
     Ok(Mm::new(mm).ok_or("a length")?)
 }

@@ -11,7 +11,7 @@ use std::sync::atomic::{AtomicBool, AtomicU64};
 use std::test::Fail;
 use std::thread::Threads;
 
-/// The values of so many pieces by so many workers, of which there are 1 to 16.
+/// The values of a number of pieces, made by 1 to 16 workers.
 fn by<J: Job, G: Gate, R: Threads + Wait + Sync>(
     rt: &R,
     alloc: Global,

@@ -1,4 +1,4 @@
-// Waits with a limit, gates that hold a worker until another has come to a place, and a job of squares.
+// Waits with a limit, gates that stop a worker until another has reached a place, and a job of squares.
 use claim_run::{Gate, Job};
 use std::alloc::{AllocError, Global};
 use std::sync::atomic::AtomicBool;

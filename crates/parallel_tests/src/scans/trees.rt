@@ -12,8 +12,8 @@ const FIVE: Last = Last {
     parts: 1,
 };
 
-// Of 1, none, 3 the first two come to 1 and all three to 3. With 5 in the place of none the first two come to 5, and before the chunks from 0
-// to 2 and from 2 to 3 stand nothing and the first two.
+// Of 1, none, 3 the first two are joined to 1, and all three to 3. With 5 in the place of none the first two are joined to 5. Before the
+// chunk from 0 to 2 is nothing, and before the one from 2 to 3 are the first two.
 #[test]
 fn scan_and_cuts(rt: HostRuntime) -> Result<(), Fail> {
     let mut tree = TotalsTree::build(rt.alloc(), &VALUES)?;
@@ -119,7 +119,7 @@ fn counted_joins(rt: HostRuntime) -> Result<(), Fail> {
     Ok(())
 }
 
-/// Whether two lists tell the same prefixes, of each length.
+/// Whether two lists give the same prefixes, of each length.
 fn agree<A: Prefixes<Last>, B: Prefixes<Last>>(left: &mut A, right: &mut B) -> bool
     requires { length (A.values left.old) ≡ length (B.values right.old) }
     ensures { A.values left.new ≡ A.values left.old }
@@ -133,7 +133,8 @@ fn agree<A: Prefixes<Last>, B: Prefixes<Last>>(left: &mut A, right: &mut B) -> b
     left.prefix(n) == right.prefix(n)
 }
 
-/// Whether a tree over so many values agrees with the plain form after each of them was replaced in turn.
+/// Whether a tree over this number of values agrees with the plain form after each of them was replaced
+/// in turn.
 fn agrees_after_each_set(alloc: Global, n: u32) -> Result<bool, AllocError>
     requires { n ≤ 20 }
 {

@@ -141,7 +141,7 @@ fn calls_of_the_gate(rt: HostRuntime) -> Result<(), Fail> {
     Ok(())
 }
 
-/// Plans that don't fit three lines, and what is told of each.
+/// Plans that don't fit three lines, and the refusal of each.
 static UNFIT: [(CutPlan<'static>, &str); 8] = [
     (CutPlan::Every(0), "F6 K1"),
     (CutPlan::At(&[]), "F6 K1"),
@@ -165,7 +165,7 @@ fn plans_that_do_not_fit(rt: HostRuntime) -> Result<(), Fail> {
 const EMPTY_CELL_OUT: &[u8] =
     b"UNB+UNOA:2+PLAN+SHIP+250101:1200+8'UNH+1+MOVINS:D:95B:UN'HAN+DIS'LOC+147+0050082'EQD+CN+ABCU1234560'UNT+5+1'UNZ+1+8'";
 
-// A sequence that can't be is told before a plan that doesn't fit.
+// An impossible sequence is reported before a plan that doesn't fit.
 #[test]
 fn sequence_before_plan(rt: HostRuntime) -> Result<(), Fail> {
     check_refusal(&rt, EMPTY_CELL_OUT, CutPlan::Every(0), "F5 S4 step 1")

@@ -37,7 +37,7 @@ impl<'a> Write for Failing<'a> {
     }
 }
 
-/// What the report on an instruction comes to that so many workers write to this writer.
+/// The result of the report on an instruction that this number of workers write to this writer.
 fn written_to(
     rt: &(impl AllocGlobal + Threads + Wait + Sync),
     movins: &[u8],

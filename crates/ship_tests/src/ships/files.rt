@@ -103,7 +103,7 @@ fn write_key(text: &mut String, name: &str, value: &str) -> Result<(), Fail> {
     Ok(())
 }
 
-/// Writes the first keys of a box ship, so many of them, one of them with another value.
+/// Writes the first `count` keys of a box ship, one of them with another value.
 fn write_keys(text: &mut String, count: usize, key: &str, value: &str) -> Result<(), Fail> {
     for (name, own) in KEYS.iter().take(count) {
         if *name == key {
@@ -115,7 +115,7 @@ fn write_keys(text: &mut String, count: usize, key: &str, value: &str) -> Result
     Ok(())
 }
 
-/// The first keys of a box ship, so many of them, one of them with another value; an empty one leaves the key out.
+/// The first `count` keys of a box ship, one of them with another value; an empty value leaves the key out.
 pub fn first_keys(alloc: Global, count: usize, key: &str, value: &str) -> Result<String, Fail> {
     let mut text = String::new(alloc);
     write_keys(&mut text, count, key, value)?;
@@ -174,7 +174,7 @@ pub fn refusal(alloc: Global, files: &ProfileBytes<'_>) -> Result<String, Fail> 
     words(alloc, Profile::read(alloc, files).err())
 }
 
-/// Compares words with those that are wanted of a case.
+/// Compares words with the expected ones of a case.
 pub fn check_words(rt: &impl Abort, words: &str, want: &str, case: &str) {
     same_row(rt, case, words, want);
 }

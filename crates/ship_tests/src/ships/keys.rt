@@ -60,7 +60,8 @@ frames = [{x_mm = -25000, shear_max_kg = 0, hog_max_kgmm = 0, sag_max_kgmm = 0}]
     ),
 ];
 
-/// Reads a `ship.toml` of so many keys, one of them with this value, and what follows them.
+/// Reads a `ship.toml` of the first `count` keys, one of them with this value, and what follows
+/// them.
 fn check_keys(
     rt: &(impl Abort + AllocGlobal),
     count: usize,
@@ -568,7 +569,7 @@ fn ranges_of_numbers(rt: HostRuntime) -> Result<(), Fail> {
     Ok(())
 }
 
-/// Writes so many elements, numbered from 1, with what stands before the number and behind it.
+/// Writes `count` elements, numbered from 1, with the text before the number and behind it.
 fn write_elements(text: &mut String, before: &str, count: u32, after: &str) -> Result<(), Fail> {
     for place in 0..count {
         let number = place + 1;
@@ -606,7 +607,8 @@ static ARRAYS: [(usize, &str, &str, u32, &str, &str); 10] = [
         ", x_mm = 1, y_mm = 0, z_mm = 0, half_mm = 0}, ",
         "P6 ship.toml 0",
     ),
-    // the box ship's table of areas has five stations, so this ship of more is told by it
+    // the box ship's table of areas has five stations, so the fault of this ship, which has more,
+    // is in that table
     (
         6,
         "stations_mm = [1, 2, 3, 4, 5, 6, 7, 8, 9, 10, 11, 12, 13, 14, 15, 16, 17, 100000]
@@ -646,7 +648,7 @@ frames = [",
     ),
 ];
 
-/// Reads a `ship.toml` of so many keys and an array of so many elements.
+/// Reads a `ship.toml` of the first keys and an array of a number of elements.
 fn check_elements(
     rt: &(impl Abort + AllocGlobal),
     keys: usize,

@@ -109,7 +109,7 @@ enum Asked {
     CellNumber(Cell),
     /// The number of a tank by its name.
     Tank(&'static str),
-    /// A tank that holds so many kg.
+    /// A tank that holds this mass, in kg.
     Filling(u16, u32),
 }
 
@@ -175,7 +175,7 @@ fn answer(alloc: Global, files: &ProfileBytes<'_>, asked: Asked) -> Result<Strin
     seen(read, |profile: &Profile| shown(alloc, profile, asked))?
 }
 
-/// Compares an answer of these files with the one that is wanted.
+/// Compares an answer of these files with the expected one.
 fn check_answer(
     rt: &(impl Abort + AllocGlobal),
     files: &ProfileBytes<'_>,

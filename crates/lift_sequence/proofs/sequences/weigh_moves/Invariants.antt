@@ -2,7 +2,7 @@ use Rattle.std.proofs.Common.{◌≡◌, ◌++◌, length, take, drop}
 use Rattle.lift_sequence.specs.Follow.{steps_weighed}
 use Rattle.lift_sequence.proofs.sequences.weigh_moves.Given as goal
 
--- the steps that are done, and those behind them with what is left to do, come to what was to be done
+-- the steps done, followed by the others with what is left to do, are the list that was to be made
 abbrev pub invariant-loop-place : goal.invariant-loop-place
 invariant-loop-place l = record {
   as_many : length l.steps ≡ length l.ops;
