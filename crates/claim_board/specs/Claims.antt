@@ -6,7 +6,7 @@ use Rattle.claim_board.specs.declared.events.Status.TheVariants.{Stopped}
 use Rattle.claim_board.specs.Entries.{total, Each, numbers, is, is_ended, posts, NotBefore}
 use Rattle.claim_board.specs.Board.{Hand, State, entry_lists, found_of}
 
--- each number below next stands in one hand, once, and no other number stands in any
+-- each number below next is in one hand, once, and no other number is in any
 abbrev pub IsFair : ℕ → List (List Entry) → Type 0
 IsFair next hands = (k : ℕ) → total (numbers (is k)) hands ≡ cond (nat_lt k next) 1 0
 
@@ -15,7 +15,7 @@ abbrev pub IsLeastPosted : Option ℕ → List (List Entry) → Type 0
 IsLeastPosted None hands = (f : ℕ) → total (posts f) hands ≡ 0
 IsLeastPosted (Some l) hands = (0 < total (posts l) hands) × ((f : ℕ) → 0 < total (posts f) hands → l ≤ f)
 
--- A chunk is skipped only where its look gave a step before it, which stands posted in some hand; a chunk whose look gave such a step is
+-- A chunk is skipped only where its look gave a step before it, which is posted in some hand; a chunk whose look gave such a step is
 -- never worked nor posted.
 pub record IsRightlySkipped (begin : ℕ → ℕ) (hands : List (List Entry)) (e : Entry) : Type 0 where
   pub skipped : e.stage ≡ Skipped → (l : ℕ) × (e.looked ≡ Some l) × (l < begin e.number) × (0 < total (posts l) hands)

@@ -5,9 +5,9 @@ ghost use Rattle.claim_board.specs.Claims.{IsProblem, NumbersAreFair, LeastIsPos
 
 /// What is true of a board after every list of events, for every number of workers and all chunks. It does nothing; its clauses are the laws.
 ///
-/// - `numbers`: each number below the next stands in exactly one worker's entries, once, and no other number stands in any.
+/// - `numbers`: each number below the next is in exactly one worker's entries, once, and no other number is in any.
 /// - `least`: the least step is the least of all posted steps, and none where none is posted.
-/// - `skips`: a chunk is skipped only where its worker saw a step before the chunk's first, and that step stands posted in some worker's
+/// - `skips`: a chunk is skipped only where its worker saw a step before the chunk's first, and that step is posted in some worker's
 ///   entries. A chunk whose worker saw such a step is never worked or posted.
 /// - `done`: where no chunk has a failing step before its first step, there is a worker, and all workers have stopped and none is refused:
 ///   every chunk was drawn and is skipped, posted, or worked with no failing step, and the least step is the least that any chunk has.

@@ -82,7 +82,7 @@ impl<'a, S: Scout> Board<'a, S> {
         self.inner.join(hand, other);
     }
 
-    /// The next number and the least posted step, none where none is posted, once every hand is joined: the numbers below the next one stand in
+    /// The next number and the least posted step, none where none is posted, once every hand is joined: the numbers below the next one are in
     /// the hand, each once.
     pub fn close(self, hand: Hand) -> (u64, Option<u32>)
         requires hand { IsHandOf S.begins S.finds S.pieces self hand }

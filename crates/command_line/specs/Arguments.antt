@@ -3,7 +3,7 @@ use Rattle.std.specs.Prelude.{◌≡◌, ℕ, List, map, if◌then◌else◌}
 use Rattle.std.specs.Char.{is_ascii}
 use Rattle.std.specs.Str.{IsUtf8}
 
--- A byte of a word that isn't UTF-8. NUL stands in no name of a file, so the word names none.
+-- A byte of a word that isn't UTF-8. NUL is in no name of a file, so the word names none.
 abbrev pub masked : ℕ → ℕ
 masked byte = if is_ascii byte then byte else 0
 

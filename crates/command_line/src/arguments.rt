@@ -8,7 +8,7 @@ use std::rt::Env;
 /// How many bytes of a word are asked for at first.
 const ROOM: usize = 256;
 
-/// A byte of a word that isn't UTF-8: one beyond ASCII becomes NUL, which stands in no name of a file.
+/// A byte of a word that isn't UTF-8: one beyond ASCII becomes NUL, which is in no name of a file.
 fn masked(byte: u8) -> u8
     ensures { result ≡ masked byte }
 {

@@ -34,7 +34,7 @@ pub struct Nearby {
     least_gm: usize,
 }
 
-/// How the ship is judged, once the loads are known, which stand in the figures.
+/// How the ship is judged, once the loads are known and in the figures.
 #[inline(always)]
 fn judge_loaded(
     profile: &Profile,

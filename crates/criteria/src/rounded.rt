@@ -30,7 +30,7 @@ pub struct RoundedFigures {
 
 impl RoundedFigures {
     /// Makes them those of a ship of this length afloat, with these draughts along her and measures
-    /// of her levers; the loads on her hull stand there already. They are written where they are,
+    /// of her levers; the loads on her hull are there already. They are written where they are,
     /// since a move of them is a copy of 700 bytes.
     #[inline(always)]
     pub(crate) fn set(&mut self, a: &Afloat, length: Mm, line: &DraughtLine, curve: &CurveMeasures)

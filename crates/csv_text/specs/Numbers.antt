@@ -1,4 +1,4 @@
--- The number that a field writes: spaces (code 32) may stand at both ends, then a minus (45) or none, then 1 to 18 digits.
+-- The number that a field writes: spaces (code 32) may be at both ends, then a minus (45) or none, then 1 to 18 digits.
 use Rattle.std.specs.Prelude.{ℕ, ℤ, pos, neg_ℤ, List, [], ◌∷◌, ◌==◌, ◌&&◌, if◌then◌else◌, nat_le, length, Option, Some, None, option_map}
 use Rattle.std.specs.List.{list_all}
 use Rattle.std.specs.Char.{is_ascii_digit}

@@ -130,7 +130,7 @@ impl<'a> BackwardText<'a> {
     }
 
     /// Writes a whole number before the text, a minus sign if it is negative and its decimal digits, and before it a byte that parts it from
-    /// what will stand there.
+    /// what will be there.
     #[inline]
     pub fn put_parted(&mut self, byte: u8, n: i128)
         requires ascii { byte < 128 }
@@ -159,7 +159,7 @@ impl<'a> BackwardText<'a> {
     }
 
     /// Writes pairs of whole numbers before the text: the first numbers of two lists, the second of both, and so on up to those of the number
-    /// `last`, counted from 0. The two of a pair have `between` between them, the first pair stands behind `opening`, and each other one behind
+    /// `last`, counted from 0. The two of a pair have `between` between them, the first pair is behind `opening`, and each other one behind
     /// `parting`.
     pub fn put_pairs(
         &mut self,

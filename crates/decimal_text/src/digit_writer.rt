@@ -41,7 +41,7 @@ fn write_four(table: &[[u8; 4]], n: u64, bytes: &mut [u8], at: usize)
     write_over(&mut bytes[at..at + 4], table[n as usize]);
 }
 
-/// Writes a byte that ends at `end`, and answers where it stands.
+/// Writes a byte that ends at `end`, and answers where it is.
 #[inline(always)]
 fn write_byte(bytes: &mut [u8], end: usize, byte: u8) -> usize
     requires room { 1 ≤ end }
@@ -86,7 +86,8 @@ fn write_wide(byte: u8, n: i128, bytes: &mut [u8], end: usize) -> usize
 }
 
 impl<'a> DigitWriter<'a> {
-    /// How many zeros stand in front of a number among its four digits. They are looked up, since no processor foretells how long the next number is.
+    /// How many zeros are in front of a number among its four digits. They are looked up in a table, since a branch on the length of the next
+    /// number is mispredicted.
     #[inline(always)]
     fn zeros(self, n: u64) -> usize
         requires { n < 10000 }
@@ -151,7 +152,7 @@ impl<'a> DigitWriter<'a> {
     }
 
     /// Writes a whole number so that it ends at `end`, a minus sign if it is negative and its decimal digits, and before it a byte that parts it from
-    /// what will stand there, and answers where that byte stands. Most numbers of a line have no sign, so they take the short way.
+    /// what will be there, and answers where that byte is. Most numbers of a line have no sign, so they take the short way.
     #[inline(always)]
     pub(crate) fn write_whole(self, byte: u8, n: i128, bytes: &mut [u8], end: usize) -> usize
         requires ascii { byte < 128 }

@@ -34,7 +34,7 @@ fn digits_of(n: u64) -> [u8; 4]
     ]
 }
 
-/// How many zeros stand in front of a number among its four digits; of 0 the last one is its digit.
+/// How many zeros are in front of a number among its four digits; of 0 the last one is its digit.
 fn zeros_before(n: u64) -> u8
     requires { n < 10000 }
     ensures { result + length (decimal n) ≡ 4 }

@@ -12,7 +12,7 @@ use Rattle.edifact_text.specs.Spelling.{Segments, AreBlanks, begins_blank}
 abbrev pub parts_of : List Placed → List Parts
 parts_of = map (λ s. s.parts)
 
--- No row applies to any of the segments, and none stands behind the interchange trailer.
+-- No row applies to any of the segments, and none is behind the interchange trailer.
 abbrev pub AreClean : Kind → List Placed → Type 0
 AreClean kind segments =
     (before : List Placed) (s : Placed) (behind : List Placed) → segments ≡ before ++ s ∷ behind →
@@ -112,7 +112,7 @@ pub record IsCut (kind : Kind) (sv : Service) (len at : ℕ) (bytes : List ℕ) 
   pub no_more : (s : Placed) (e : ℕ) (r : List ℕ) → Segments sv end (s ∷ []) rest e r → ⊥
   pub fault_is : f ≡ record { code = Truncated; place = len }
 
--- Something else than blanks stands behind the interchange. The place is that of the first byte that is no blank.
+-- A byte that is no blank follows the interchange. The place is that of the first byte that is no blank.
 pub record IsTrailed (kind : Kind) (sv : Service) (at : ℕ) (bytes : List ℕ) (f : EdiFault) : Type 0 where
   pub before : List Placed
   pub end : ℕ

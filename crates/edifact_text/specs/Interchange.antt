@@ -24,7 +24,7 @@ abbrev pub numbered : ℕ → List Parts → List Numbered
 numbered number [] = []
 numbered number (parts ∷ more) = record { number = number; parts = parts } ∷ numbered (number + 1) more
 
--- A segment of the text: its parts, and how many bytes stand before its first one.
+-- A segment of the text: its parts, and how many bytes are before its first one.
 pub record Placed : Type 0 where
   pub place : ℕ
   pub parts : Parts

@@ -29,7 +29,7 @@ abbrev pub as_result : Option EdiCode → ℕ → Result ⊤ EdiFault
 as_result None place = Ok tt
 as_result (Some code) place = fault code place
 
--- What stands behind the blanks.
+-- The text behind the blanks.
 abbrev pub trimmed : List ℕ → List ℕ
 trimmed [] = []
 trimmed (b ∷ bs) = if is_blank b then trimmed bs else b ∷ bs
@@ -45,7 +45,7 @@ segment_of sv bytes = map (element_of sv) (pieces sv.release sv.element bytes)
 abbrev pub cut_text : Service → List ℕ → List (List ℕ)
 cut_text sv bytes = pieces sv.release sv.terminator bytes
 
--- A segment's bytes without its terminator, and how many bytes of the text stand before them.
+-- A segment's bytes without its terminator, and how many bytes of the text are before them.
 pub record Stretch : Type 0 where
   pub place : ℕ
   pub bytes : List ℕ

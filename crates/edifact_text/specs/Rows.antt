@@ -1,4 +1,4 @@
--- The rows of the fault table: what is asked of a segment, by the segments that stand before it.
+-- The rows of the fault table: what is asked of a segment, by the segments that are before it.
 use Rattle.std.specs.Prelude.{ℕ, ◌+◌, ◌-◌, ◌*◌, List, [], ◌∷◌, ◌++◌, length, Option, Some}
 use Rattle.std.specs.Prelude.{None, Bool, false, nat_lt, nat_le, nat_eq, not, ◌&&◌, ◌||◌, if◌then◌else◌, codes}
 use Rattle.std.specs.List.{list_any}

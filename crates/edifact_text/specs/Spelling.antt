@@ -44,7 +44,7 @@ begins_blank (b ∷ bs) = is_blank b
 abbrev pub terminated : Service → List ℕ → List ℕ → List ℕ
 terminated sv bytes behind = bytes ++ sv.terminator ∷ behind
 
--- These segments stand one behind the other from the place `at` to the place `end`: each has blanks before it, any number of them,
+-- These segments are one behind the other from the place `at` to the place `end`: each has blanks before it, any number of them,
 -- doesn't begin with a blank itself, and ends with the terminator. The rest of the bytes is behind them.
 abbrev pub Segments : Service → ℕ → List Placed → List ℕ → ℕ → List ℕ → Type 0
 Segments sv at [] bytes end rest = (at ≡ end) × (bytes ≡ rest)

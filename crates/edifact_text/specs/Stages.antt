@@ -95,7 +95,7 @@ unz_rows sv unb s = do
   _ ← row (not (is_one (part sv s.bytes 1 0))) InterchangeCount s.place
   row (not (is_text (part sv s.bytes 2 0) (part sv unb.bytes 5 0))) InterchangeRef s.place
 
--- Nothing but blanks stands behind the interchange.
+-- Only blanks follow the interchange.
 abbrev pub end_rows : List Stretch → Result ⊤ EdiFault
 end_rows [] = Ok tt
 end_rows (s ∷ []) = row (nat_lt 0 (length s.bytes)) Trailing s.place

@@ -20,7 +20,7 @@ impl<'a> Cursor<'a> {
     ghost use Rattle.edifact_text.specs.Stages.{next_of, ended_ones};
     ghost use Rattle.edifact_text.specs.Views.{ahead, seen};
 
-    /// What stands before the next terminator, and what is behind that; without one, all that is left.
+    /// The text before the next terminator, and the text behind it; without one, all that is left.
     #[inline(always)]
     pub(crate) fn take(self) -> (SegmentText<'a>, Option<Cursor<'a>>)
         ensures first { MatchOption result.1 (ahead self.entry ≡ seen result.0 ∷ [])

@@ -28,13 +28,13 @@ pub enum EdiCode {
     SegmentCount,
     /// The message trailer's reference isn't its header's.
     MessageRef,
-    /// Behind the message trailer stands something else than the interchange trailer.
+    /// The message trailer isn't followed by the interchange trailer.
     SeveralMessages,
     /// The interchange trailer doesn't count one message.
     InterchangeCount,
     /// The interchange trailer's reference isn't its header's.
     InterchangeRef,
-    /// A byte that is no blank stands behind the interchange trailer.
+    /// A byte that is no blank follows the interchange trailer.
     Trailing,
     /// A segment is empty, or its tag.
     EmptySegment,
@@ -42,7 +42,7 @@ pub enum EdiCode {
     TooManyElements,
 }
 
-/// A cause, and its place: how many bytes of the text stand before it. It prints as `E7 at 57`.
+/// A cause, and its place: how many bytes of the text are before it. It prints as `E7 at 57`.
 #[derive(Clone, Copy, Debug, PartialEq, Eq)]
 pub struct EdiFault {
     pub code: EdiCode,

@@ -7,9 +7,9 @@ ghost use Rattle.edifact_text.specs.Spelling.{Segment, Apart, terminated};
 ghost use Rattle.edifact_text.specs.Faults.{IsMessage, IsFault};
 ghost use Rattle.edifact_text.specs.Reading.{cut_text, segment_of, opened};
 
-/// A text has one reading: it is a message of the kind, and of one only, or it has a fault, and one only. What is so by the
-/// definitions (`specs/Spelling.antt`, `specs/Rows.antt`, `specs/Faults.antt`) is what [`open`](crate::open) answers.
-/// Of one segment: where it is spelt before a terminator, it is read there, and what is read there is spelt so.
+/// A text has one reading: it is exactly one message of the kind, or it has exactly one fault. [`open`](crate::open)
+/// answers what the definitions say (`specs/Spelling.antt`, `specs/Rows.antt`, `specs/Faults.antt`). Of one segment: where
+/// it is spelt before a terminator, it is read there, and what is read there is spelt so.
 pub fn one_reading()
     ensures message { (kind : Kind) (text : List ℕ) (mark : ℕ) (segments : List Numbered) →
         IsMessage kind text mark segments → opened kind text ≡ Ok (record { mark = mark; segments = segments }) }

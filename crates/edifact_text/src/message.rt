@@ -7,7 +7,7 @@ use crate::service::Service;
 /// The message of an interchange: the segments between its header and its trailer. It borrows the text.
 #[derive(Clone, Copy)]
 pub struct Message<'a> {
-    /// What stands behind the message header.
+    /// The text behind the message header.
     pub(crate) behind: Cursor<'a>,
     /// How many segments of that are the message's.
     pub(crate) count: u64,
@@ -29,7 +29,7 @@ pub struct Segment<'a> {
 /// The segments of a message that are left, in their order.
 #[derive(Clone, Copy)]
 pub struct Segments<'a> {
-    /// What stands behind the last segment that was given.
+    /// The text behind the last segment that was given.
     pub(crate) left: Cursor<'a>,
     /// How many segments of that are the message's.
     pub(crate) count: u64,

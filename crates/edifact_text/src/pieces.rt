@@ -54,7 +54,7 @@ fn quiet_length(bytes: &[u8], release: Option<u8>, separator: u8) -> usize
     }
 }
 
-/// How many of the first 32 bytes stand before one that is this byte: 32 where none is.
+/// How many of the first 32 bytes are before one that is this byte: 32 where none is.
 #[inline(always)]
 fn place_in_vector(bytes: &[u8], byte: u8) -> usize
     requires { 32 ≤ length bytes.now }
@@ -88,7 +88,7 @@ fn near_length(bytes: &[u8], release: Option<u8>, separator: u8) -> Option<usize
     if at < 32 { Some(at) } else { None }
 }
 
-/// The index of the first separator that cuts, where it may stand far off. Only from a release character on is each byte
+/// The index of the first separator that cuts, where it may be far off. Only from a release character on is each byte
 /// looked at.
 #[inline(always)]
 #[tactic(auto, using(crate::proofs::FarLemmas::ends_at))]
@@ -117,7 +117,7 @@ fn end_behind(bytes: &[u8], release: Option<u8>, separator: u8) -> Option<usize>
     }
 }
 
-/// The bytes before this end, and those behind the separator that stands there; all of them where there is none.
+/// The bytes before this end, and those behind the separator that is there; all of them where there is none.
 #[inline(always)]
 fn parted(
     bytes: &[u8],
@@ -158,7 +158,7 @@ pub(crate) fn cut(bytes: &[u8], release: Option<u8>, separator: u8) -> (&[u8], O
     parted(bytes, release, separator, end_of(bytes, release, separator))
 }
 
-/// The same, where the separator may stand far off.
+/// The same, where the separator may be far off.
 #[inline(always)]
 pub(crate) fn far_cut(bytes: &[u8], release: Option<u8>, separator: u8) -> (&[u8], Option<&[u8]>)
     ensures first { MatchOption result.1 (pieces release separator bytes.now ≡ result.0.now ∷ [])

@@ -94,7 +94,7 @@ impl<'a> Raw<'a> {
         }
     }
 
-    /// The literal as it stands in the text, where no byte of it is released.
+    /// The literal, unchanged from the text, where no byte of it is released.
     #[inline(always)]
     #[tactic(auto, unfolding(crate::specs::Views::meant))]
     fn unreleased(self) -> Option<&'a [u8]>

@@ -1,4 +1,4 @@
-//! A segment where it stands in the text, and what is asked of any segment.
+//! A segment at its place in the text, and what can be asked of any segment.
 ghost use Rattle.std.specs.Prelude.{◌≡◌, ◌≤◌, length, []};
 ghost use Rattle.std.specs.List.{list_any};
 ghost use Rattle.edifact_text.specs.Rows.{is_text, is_number, count_of};

@@ -68,7 +68,7 @@ impl<'a> Segment<'a> {
         }
     }
 
-    /// What stands behind a plain tag and its separator.
+    /// The text behind a plain tag and its separator.
     #[inline(always)]
     fn behind_tag(&self) -> &'a [u8]
         ensures { result.now ≡ drop 4 self.now.bytes.now }

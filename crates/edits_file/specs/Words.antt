@@ -12,7 +12,7 @@ abbrev pub lines_in : List ℕ → List (List ℕ)
 lines_in [] = []
 lines_in (c ∷ cs) = if c == 10 then [] ∷ lines_in cs else onto_first c (lines_in cs)
 
--- the words of a line: one space (code 32) stands between two of them
+-- the words of a line: one space (code 32) is between two of them
 abbrev pub words_in : List ℕ → List (List ℕ)
 words_in line = slice_split (λ c. c == 32) line
 

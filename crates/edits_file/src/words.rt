@@ -15,7 +15,8 @@ const MOST_DIGITS: usize = 10;
 /// The greatest number of a step, and the greatest mass of a tank's filling in kg.
 const MOST: u32 = 1_000_000_000;
 
-/// What stands before the first of these bytes, and what stands behind it; the whole text where it has none of them.
+/// The text before the first of these bytes, and the text behind it; the whole text where it has none of
+/// them.
 pub fn cut(text: &[u8], end: u8) -> (&[u8], Option<&[u8]>)
     ensures before { All (λ c. (c == end) ≡ false) result.0.now }
     ensures parts { MatchOption result.1 (text.now ≡ result.0.now)

@@ -1,4 +1,5 @@
--- What is aboard: what stands in each cell, and how much each tank holds; and what one step makes of it.
+-- What is aboard: the container in each cell, and the mass in each tank; and what is aboard after
+-- one step.
 use Rattle.std.specs.Prelude.{ℕ, List, [], ◌∷◌, Option, None, Some, nat_eq}
 use Rattle.std.specs.Map.{update}
 use Rattle.indexmap.specs.IndexMap.{get}

@@ -14,7 +14,7 @@ use Rattle.lift_sequence.specs.Bodies.{bodies, fill_body, item_body}
 use Rattle.lift_sequence.specs.Legal.{stand_fault, over_fault}
 use Rattle.units_core.specs.Totals.{total}
 
--- what is aboard once the items stand in their cells, and the tanks are filled
+-- what is aboard once the items are in their cells, and the tanks are filled
 abbrev pub with_items : Aboard → List Item → Aboard
 with_items at [] = at
 with_items at (item ∷ more) = with_items (with_item at item) more
@@ -30,7 +30,8 @@ on_arrival items fills = with_fills (with_items nothing items) fills
 abbrev pub fault_at : ℕ → SeqCode → SeqFault
 fault_at number code = record { code = code; at = number }
 
--- the first item that can't stand where those before it do, and the first fill that its tank can't hold; both are numbered from 1
+-- the first item that its cell can't take after those before it, and the first fill that its tank can't hold; both are
+-- numbered from 1
 abbrev pub items_fault : ProfileRecord → Aboard → ℕ → List Item → Option SeqFault
 items_fault ship at number [] = None
 items_fault ship at number (item ∷ more) =

@@ -1,5 +1,5 @@
--- The bodies aboard: the parts of the light ship, what each tank holds, and what stands in each of the ship's cells; and those that a
--- step takes out and puts in.
+-- The bodies aboard: the parts of the light ship, the filling of each tank, and the container in each of the ship's cells; and
+-- those that a step takes out and puts in.
 use Rattle.std.specs.Prelude.{ℕ, pos, List, [], ◌∷◌, ◌++◌, length, flat_map, Option, None, Some, option_map}
 use Rattle.std.specs.List.{range_with_len}
 use Rattle.std.specs.Option.{option_to_list}

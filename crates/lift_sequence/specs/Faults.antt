@@ -14,7 +14,7 @@ use Rattle.lift_sequence.specs.Arrival.{with_items}
 use Rattle.lift_sequence.specs.Bodies.{fill_body}
 use Rattle.lift_sequence.specs.Legal.{fault_of, over_fault, stand_fault}
 
--- what is wrong with an item where those before it stand in their cells, with a fill of a tank, and with a step after those before it
+-- what is wrong with an item where those before it are in their cells, with a fill of a tank, and with a step after those before it
 abbrev pub fault_of_item : ProfileRecord → List Item → Item → Option SeqCode
 fault_of_item ship before item = stand_fault ship (with_items nothing before) item.cell
 
@@ -43,7 +43,8 @@ pub record IsLegalArrival (ship : ProfileRecord) (items : List Item) (fills : Li
   pub each_item : AreLegal (fault_of_item ship) items
   pub each_fill : AreLegal (fault_of_fill ship) fills
 
--- its fault: that of the first item that can't stand, or where all can, that of the first fill that its tank can't hold
+-- its fault: that of the first item that its cell can't take, or if there is none, that of the first fill that its
+-- tank can't hold
 abbrev pub IsArrivalFault : ProfileRecord → List Item → List TankFill → SeqFault → Type 0
 IsArrivalFault ship items fills f =
     IsFirst (fault_of_item ship) items f ⊎ (AreLegal (fault_of_item ship) items × IsFirst (fault_of_fill ship) fills f)

@@ -40,7 +40,7 @@ with_step ops i (Some op) = slice_set ops i op
 abbrev pub weighed_at : ℕ → ℕ → List operation.Op → List operation.Op
 weighed_at kg i ops = with_step ops i (option_map (reweighed kg) (slice_get ops i))
 
--- A step moves the container that stands in this cell. None: it is ashore, and no step moves it.
+-- A step moves the container that is in this cell. None: it is ashore, and no step moves it.
 abbrev pub moves : Option Cell → operation.Op → Bool
 moves None op = false
 moves (Some c) (Lift (Load item)) = false

@@ -88,7 +88,7 @@ pub record AreExchangeable (ops : List operation.Op) (i j : ℕ) : Type 0 where
 abbrev pub CanSwap : List operation.Op → ℕ → ℕ → Type 0
 CanSwap ops a b = (a ≡ b) ⊎ (AreExchangeable ops (a - 1) (b - 1) ⊎ AreExchangeable ops (b - 1) (a - 1))
 
--- a list with the element at one place taken out, and put in again so that it stands at another
+-- a list with the element at one place taken out, and put in again so that it is at another
 abbrev pub put_in : {X : Type 0} → List X → ℕ → Option X → List X
 put_in xs j None = xs
 put_in xs j (Some x) = insert xs j x

@@ -32,7 +32,7 @@ impl Model for Arrival {
     ghost view = { λ a. record { items = a.items.items; fills = a.fills.items; bodies = a.bodies.items } };
 }
 
-/// Puts an item aboard, where it can stand.
+/// Puts an item aboard, if its cell can take it.
 fn stow_item(stowage: &mut Stowage, profile: &Profile, item: &Item) -> Result<Body, SeqCode>
     ensures legal { OnOk result
         (stand_fault profile.now (cargo_in stowage.old) item.now.cell ≡ None) }
@@ -45,7 +45,7 @@ fn stow_item(stowage: &mut Stowage, profile: &Profile, item: &Item) -> Result<Bo
     stowage.stow(profile, item.cell, container_of(item))
 }
 
-/// Puts the items aboard, each of which can stand where those before it do, and gives their bodies.
+/// Puts the items aboard one after another, if each cell can take its item, and gives their bodies.
 fn stow_items(
     profile: &Profile,
     stowage: &mut Stowage,
@@ -75,7 +75,7 @@ fn stow_items(
     Ok(())
 }
 
-/// The bodies of the items, where they can all stand.
+/// The bodies of the items, if all cells can take them.
 fn item_bodies(alloc: Global, profile: &Profile, items: &[Item]) -> Result<Vec<Body>, SeqFault>
     requires { IsSound profile.now }
     ensures legal { OnOk result (items_fault profile.now nothing 1 items.now ≡ None) }

@@ -10,13 +10,13 @@ use units_core::Cell;
 pub enum SeqCode {
     /// The ship has no such cell.
     UnknownCell,
-    /// A container stands in the cell.
+    /// A container is in the cell.
     CellTaken,
     /// A container in this other cell overlaps; of several, the one of least bay is named.
     Overlap(Cell),
-    /// No container stands in the cell.
+    /// No container is in the cell.
     CellEmpty,
-    /// Another container stands in the cell: both identifications are there, and they differ.
+    /// Another container is in the cell: both identifications are there, and they differ.
     WrongContainer,
     /// The table of the tank hasn't this mass.
     TankOver,

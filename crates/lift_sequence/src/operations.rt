@@ -77,7 +77,7 @@ impl Op {
         }
     }
 
-    /// Whether the step moves the container that stands in a cell. No step moves one that is ashore (`None`).
+    /// Whether the step moves the container that is in a cell. No step moves one that is ashore (`None`).
     pub fn moves(&self, cell: Option<Cell>) -> bool
         ensures { result ≡ moves cell self.now }
     {
@@ -88,7 +88,8 @@ impl Op {
         }
     }
 
-    /// Where the container that stood in a cell stands after the step; `None` where it is ashore.
+    /// The cell of a container after the step, by its cell before the step; `None` where it is
+    /// ashore.
     pub fn next_cell(&self, cell: Option<Cell>) -> Option<Cell>
         ensures { result ≡ next_cell cell self.now }
     {

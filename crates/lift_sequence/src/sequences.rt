@@ -73,7 +73,7 @@ fn make_all(
     Ok(steps)
 }
 
-/// Gives another weight to the bodies of a step that moves the container which stands in `cell` before it.
+/// Gives another weight to the bodies of a step that moves the container which is in `cell` before it.
 fn weigh_move(op: &Op, step: &mut Step, cell: Option<Cell>, kg: Kg)
     ensures { step.new ≡ (if moves cell op.now then step_weighed kg step.old else step.old) }
 {
@@ -82,7 +82,7 @@ fn weigh_move(op: &Op, step: &mut Step, cell: Option<Cell>, kg: Kg)
     }
 }
 
-/// Gives another weight to the bodies of those steps, from the place `first` on, that move the container which stands in `cell` before
+/// Gives another weight to the bodies of those steps, from the place `first` on, that move the container which is in `cell` before
 /// them.
 fn weigh_moves(ops: &[Op], steps: &mut [Step], first: usize, cell: Option<Cell>, kg: Kg)
     requires { length steps.old ≡ length ops.now }
@@ -251,7 +251,7 @@ impl Sequence {
         }
     }
 
-    /// Takes a step out and puts it in again so that it stands at the number `to`, the first step being 1, where it is independent of all
+    /// Takes a step out and puts it in again so that it is at the number `to`, the first step being 1, where it is independent of all
     /// steps that it passes, as [`Op::is_independent`] says. It returns whether it did; if not, nothing changes. Wherever the sequence
     /// could be carried out, it still can, and each step does what it did. It takes no memory, and time linear in the number of steps that
     /// are passed.

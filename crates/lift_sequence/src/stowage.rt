@@ -17,7 +17,7 @@ use std::hash::BuildHasherDefault;
 use stow_messages::Lift;
 use units_core::{Body, Cell, Kg, Place, Step, conflicts};
 
-/// What is aboard: what stands in each cell, and how much each tank holds.
+/// What is aboard: the container in each cell, and the mass in each tank.
 #[derive(Debug, Drop)]
 pub(crate) struct Stowage {
     pub(crate) cells: IndexMap<Cell, Container, BuildHasherDefault<CellHasher>>,
@@ -58,7 +58,7 @@ impl Stowage {
         })
     }
 
-    /// Whether a container stands in a cell.
+    /// Whether a container is in a cell.
     #[inline(always)]
     fn is_taken(&self, cell: Cell) -> bool
         ensures { result ≡ is_some ((cargo_in self.now).cells cell) }

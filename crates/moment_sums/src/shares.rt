@@ -31,7 +31,7 @@ pub fn kg(body: &Body) -> i64
     i64::from(body.kg())
 }
 
-/// How far a frame stands before the after end of a body.
+/// How far a frame is forward of the after end of a body.
 #[inline(always)]
 fn apart(frame: i64, x: i64, half: i64) -> i64
     requires frame { unsigned_abs frame ≤ 10 ^ 6 }
@@ -42,7 +42,7 @@ fn apart(frame: i64, x: i64, half: i64) -> i64
     frame - x + half
 }
 
-/// Whether `a` is at most `b - half`: a frame stands at the after end of a body or aft of it.
+/// Whether `a` is at most `b - half`: a frame is at the after end of a body or aft of it.
 #[inline(always)]
 fn is_before(a: i64, b: i64, half: i64) -> bool
     requires b { unsigned_abs b ≤ 10 ^ 6 }
@@ -52,7 +52,7 @@ fn is_before(a: i64, b: i64, half: i64) -> bool
     a <= b - half
 }
 
-/// Whether `a` is at least `b + half`: a frame stands at the fore end of a body or before it.
+/// Whether `a` is at least `b + half`: a frame is at the fore end of a body or before it.
 #[inline(always)]
 fn is_behind(a: i64, b: i64, half: i64) -> bool
     requires b { unsigned_abs b ≤ 10 ^ 6 }

@@ -9,8 +9,8 @@ use crate::tree_rows::{join_first, replace, rows_over};
 use std::alloc::{AllocError, Global};
 use std::marker::Model;
 
-/// A list of values, kept with the joins of its parts, so that a value is changed or a prefix is read with about log2 of the number of values
-/// joins. It counts those joins.
+/// A list of values, kept with the joins of its parts, so that changing a value or reading a prefix takes about as many joins as the number
+/// of values has binary digits. It counts those joins.
 ///
 /// To its callers it is the list `values` and the number `joins`.
 #[derive(Drop)]

@@ -15,7 +15,7 @@ use Rattle.what_if.specs.Sessions.{SessionRecord, refusal}
 use Rattle.program.specs.declared.trials.Answer.{Answer}
 use Rattle.program.specs.declared.trials.Answer.TheVariants.{Done, Refused, Nothing}
 
--- a list of steps as it stands, and the earlier lists that an `undo` can take, newest first
+-- a list of steps as it is, and the earlier lists that an `undo` can take, newest first
 pub record Lists : Type 0 where
   pub ops : List Op
   pub past : List (List Op)

@@ -47,7 +47,8 @@ pub record AreElements {A : Type 0} (key : Key) (least most : ℕ) (next : List 
   pub made : AreMadeOf next (items_in items) xs
   pub some : least ≤ length xs
 
--- What stands at a key is no array, or has too many elements, or one of them is refused, or it has too few.
+-- The value at a key is no array, or has too many elements, or one of them is refused, or it has too
+-- few.
 abbrev pub IsArrayFault : {A : Type 0} → Key → ℕ → ℕ → (List A → Data → Result A ProfileFault) → Data → ProfileFault → Type 0
 IsArrayFault {A} key least most next d f =
     ((as_array d ≡ None) × (f ≡ BadKey key))
@@ -78,7 +79,7 @@ keys =
     key.Lbp ∷ key.Downflooding ∷ key.DraughtMax ∷ key.TrimMax ∷ key.ListMax ∷ key.ClosingMax ∷ key.Stations ∷ key.Blocks ∷ key.Frames ∷ key.Fills
     ∷ []
 
--- what is wrong with what stands at a key, if anything is; the blocks and the frames are judged by the stations
+-- the fault of the value at a key, if it has one; the blocks and the frames are judged by the stations
 abbrev pub key_fault : Members → Key → Option ProfileFault
 key_fault ms key.Lbp = result_err (number_at key.Lbp (pos 1) (pos 1000000) ms)
 key_fault ms key.Downflooding = result_err (downflooding_of ms)

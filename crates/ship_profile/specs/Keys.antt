@@ -1,4 +1,5 @@
--- The document of `ship.toml` as TOML (toml.io, version 1.1) and the kit's `toml` define it, and what stands at its keys.
+-- The document of `ship.toml` as TOML (toml.io, version 1.1) and the kit's `toml` define it, and the values at its
+-- keys.
 use Rattle.std.specs.Prelude.{codes, ℕ, ℤ, pos, neg_ℤ, List, [], ◌∷◌, if◌then◌else◌, nat_le, length, Option, Some, None, Result, Ok}
 use Rattle.std.specs.Str.{is_utf8}
 use Rattle.toml.specs.Data.{Data, Items, no_items, item, Members, get_member, as_integer, as_str, as_array, as_table}

@@ -79,7 +79,7 @@ profile_of ms texts =
 abbrev pub record_of : Texts → Result ProfileRecord ProfileFault
 record_of texts = document_in texts.ship >>= (λ ms. profile_of ms texts.tables)
 
--- where a container in a cell stands
+-- the place of a container in a cell
 abbrev pub place_of : ProfileRecord → Cell → Option Place
 place_of r cell = tables.place_of r.tables cell
 

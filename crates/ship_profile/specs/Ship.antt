@@ -30,7 +30,7 @@ is_above (Some last) x = int_lt last x
 abbrev pub last_of : {A : Type 0} → List A → Option A
 last_of xs = slice_get xs (length xs - 1)
 
--- a station: where it stands, and above the one before it
+-- a station: its place, which is above that of the one before it
 abbrev pub station_of : List ℤ → Data → Result ℤ ProfileFault
 station_of before d =
     number_of key.Stations (neg_ℤ (pos 1000000)) (pos 1000000) d >>= (λ x.
@@ -40,7 +40,7 @@ station_of before d =
 abbrev pub stations_of : Members → Result (List ℤ) ProfileFault
 stations_of ms = elements_at key.Stations 2 64 station_of ms
 
--- the block of the light ship that a table says: its mass, and where it stands
+-- the block of the light ship that a table gives: its mass and its place
 abbrev pub block_in : Members → Result Mass ProfileFault
 block_in ms =
     number_in_table key.Blocks (codes "kg") (pos 1) (pos 1000000000) ms >>= (λ kg.
@@ -61,7 +61,7 @@ block_of extent before d =
 abbrev pub blocks_of : Extent → Members → Result (List Mass) ProfileFault
 blocks_of extent ms = elements_at key.Blocks 1 200 (block_of extent) ms
 
--- the frame that a table says: where it stands, and the greatest shear force and bending moments there
+-- the frame that a table gives: its place, and the greatest shear force and bending moments there
 abbrev pub frame_in : Members → Result Frame ProfileFault
 frame_in ms =
     length_in_table key.Frames (codes "x_mm") ms >>= (λ x.

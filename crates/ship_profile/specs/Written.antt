@@ -1,5 +1,5 @@
--- What a profile says is what its files say: each number of `ship.toml` stands at its key in the document, each station, block, frame and fill
--- in its array at the same place, and each number of the tables stands in its column.
+-- What a profile says is what its files say: each number of `ship.toml` is at its key in the document, each station, block, frame and fill
+-- in its array at the same place, and each number of the tables is in its column.
 use Rattle.std.specs.Prelude.{◌≡◌, codes, ℕ, ℤ, pos, List, [], ◌∷◌, Option, Some, None}
 use Rattle.std.specs.Bool.{⊤}
 use Rattle.toml.specs.Data.{Data, string, integer, array, table, Items, Members, get_member}
@@ -12,7 +12,7 @@ use Rattle.ship_profile.specs.Keys.{document_of, items_in}
 use Rattle.ship_profile.specs.Record.{Texts, ProfileRecord}
 use Rattle.ship_profile.specs.Ship.{ShipRecord, NamedFill}
 
--- an integer stands at a key
+-- an integer is at a key
 abbrev pub HasNumber : Members → List ℕ → ℤ → Type 0
 HasNumber ms name z = get_member name ms ≡ Some (integer z)
 
@@ -22,7 +22,7 @@ Pairwise R [] [] = ⊤
 Pairwise R (x ∷ xs) (y ∷ ys) = R x y × Pairwise R xs ys
 Pairwise R _ _ = ⊥
 
--- an array stands at a key, and its elements are related to these one by one
+-- an array is at a key, and its elements are related to these one by one
 pub record HasArray {A : Type 0} (R : A → Data → Type 0) (ms : Members) (name : List ℕ) (xs : List A) : Type 0 where
   pub items : Items
   pub there : get_member name ms ≡ Some (array items)

@@ -62,7 +62,7 @@ impl fmt::Display for Key {
 }
 
 /// Why the files of a profile are refused. It prints as its code and its place: the key, or the file and the number of the
-/// CSV record, the heading being 1. For `ship.toml` that number is 0, or the number of the block where it stands
+/// CSV record, the heading being 1. For `ship.toml` that number is 0, or the number of the block where it is
 /// outside of the stations. Blocks, frames and fills are counted from 1.
 #[derive(Clone, Copy, Debug, PartialEq, Eq)]
 pub enum ProfileFault {
@@ -76,13 +76,13 @@ pub enum ProfileFault {
     BadCsv(File, u32),
     /// P5: a field is no number, or no cell where a cell is asked.
     BadNumber(File, u32),
-    /// P6: a number is out of its limits, an element or a row is one too many, or a row stands too far from the one before it.
+    /// P6: a number is out of its limits, an element or a row is one too many, or a row is too far from the one before it.
     OutOfLimits(File, u32),
-    /// P7: a number isn't above that of the row or the element before it, or the rows of a tank don't stand together.
+    /// P7: a number isn't above that of the row or the element before it, or the rows of a tank aren't together.
     NotRising(File, u32),
     /// P8: a row's cell is that of an earlier row of `cells.csv`.
     DoubleCell(u32),
-    /// P9: a frame stands at no station.
+    /// P9: a frame is at no station.
     FrameNotStation(u32),
     /// P10: a block, a container's place or a tank's row reaches beyond the first or the last station.
     OutsideStations(File, u32),

@@ -18,7 +18,7 @@ const MAX_BENDING: i64 = 1_000_000_000_000_000;
 /// A frame at which the loads on the hull are judged, and the greatest loads there.
 #[derive(Clone, Copy, Debug, PartialEq, Eq)]
 pub struct Frame {
-    /// Where it stands: at one of the stations.
+    /// Its place: at one of the stations.
     pub x: Mm,
     /// The greatest shear force either way, in kg.
     pub shear_max: i64,

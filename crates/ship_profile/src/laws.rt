@@ -7,8 +7,8 @@ ghost use Rattle.ship_profile.specs.Faults.{AreElementsAt, AreOptionalAt, HasOne
 ghost use Rattle.ship_profile.specs.Record.{ProfileRecord, Texts, record_of};
 ghost use Rattle.ship_profile.specs.Ship.{block_of, blocks_of, frame_of, frames_of, named_fill_of, named_fills_of, station_of, stations_of};
 
-/// What stands at the key of an array has its elements, each read after those before it, or it has a fault, and one only: there is no
-/// array, or it has too many elements, or the first element that is refused has this fault, or it has too few
+/// The value at the key of an array has its elements, each read after those before it, or it has a fault, and one only: there is
+/// no array, or it has too many elements, or the first element that is refused has this fault, or it has too few
 /// (`specs/Faults.antt`). No element is lost: there are as many as the array has. The fills may be missing.
 pub fn one_array()
     ensures stations { (ms : Members) → HasOneAnswer (stations_of ms)

@@ -76,8 +76,8 @@ fn read_tables(alloc: Global, ship: &Ship, bytes: &ProfileBytes<'_>) -> Result<T
 impl Profile {
     /// Reads the profile that the texts of its files write, or the first fault of them: `ship.toml` whole, then the tables
     /// in the order `cells.csv`, `hydro.csv`, `kn.csv`, `bonjean.csv`, `tanks.csv`, `gm.csv`, then the tanks of the fills.
-    /// Each number of the profile is the one that stands in its file: at its key, or in its column and in the record of its row.
-    /// Only this takes memory; where it is refused the answer is [`ProfileFault::NoMemory`].
+    /// Each number of the profile is the one in its file: at its key, or in its column and in the record of its row. Only
+    /// this takes memory; where it is refused the answer is [`ProfileFault::NoMemory`].
     pub fn read(alloc: Global, bytes: &ProfileBytes<'_>) -> Result<Profile, ProfileFault>
         ensures ok { IfOk result (λ p. record_of (texts_of bytes.now) ≡ Ok p) }
         ensures refused { IfErr result
@@ -177,7 +177,8 @@ impl Profile {
         self.fills.as_slice()
     }
 
-    /// Where a container in a cell stands, in constant time; `None` for a cell that the ship hasn't.
+    /// The place of a container in a cell, in constant time; `None` for a cell that the ship
+    /// hasn't.
     pub fn cell(&self, cell: Cell) -> Option<Place>
         ensures { result ≡ place_of self.now cell }
     {

@@ -40,7 +40,7 @@ positive_column = column.Number (pos 1) (pos 1000000000)
 abbrev pub area_column : Column
 area_column = column.Number (pos 0) (pos 100000000)
 
--- `cells.csv`: the cell, then x, y, z and half of the container that stands in it
+-- `cells.csv`: the cell, then x, y, z and half of the container that is in it
 abbrev pub cells_form : Extent → Form
 cells_form extent = record {
   file = file.Cells;
@@ -86,7 +86,7 @@ bonjean_form stations = record {
   stands = None;
 }
 
--- `tanks.csv`: the tank's name, the mass of its filling in kg, where that stands (x, y, z, half in mm), and its free surface moment in kg mm
+-- `tanks.csv`: the tank's name, the mass of its filling in kg, its place (x, y, z, half in mm), and its free surface moment in kg mm
 abbrev pub tanks_form : Extent → Form
 tanks_form extent = record {
   file = file.Tanks;
@@ -109,11 +109,11 @@ least_gm_form = record {
   stands = None;
 }
 
--- where the container of a row of `cells.csv` stands
+-- the place of the container of a row of `cells.csv`
 abbrev pub place_at : Row → Place
 place_at fields = record { x = number_at fields 1; y = number_at fields 2; z = number_at fields 3; half = number_at fields 4 }
 
--- the cells that the text of `cells.csv` writes, each with where its container stands
+-- the cells that the text of `cells.csv` writes, each with the place of its container
 abbrev pub places_in : Extent → List ℕ → Result (List (Cell × Place)) TableFault
 places_in extent text = file_in (cells_form extent) text >>= (λ r. Ok (zip (cells_in r.rows) (map place_at r.rows)))
 
@@ -162,7 +162,8 @@ curve_table n rows = record { arguments = numbers_of 0 rows; columns = columns_f
 abbrev pub curves_in : Form → ℕ → List ℕ → Result CurveTable TableFault
 curves_in form n text = file_in form text >>= (λ r. Ok (curve_table n r.rows))
 
--- the table of a tank: at each mass of its filling in kg where that stands, and its free surface moment
+-- the table of a tank: for each mass of its filling, in kg, the place and the free surface moment
+-- of the filling
 pub record TankTable : Type 0 where
   pub kg : List ℤ
   pub x : List ℤ
@@ -246,7 +247,7 @@ tables_of extent stations texts =
     least_gm_in texts.least_gm >>= (λ least_gm.
     Ok (record { cells = cells; hydro = hydro; levers = levers; bonjean = bonjean; tanks = tanks; least_gm = least_gm })))))))
 
--- where a container in a cell stands
+-- the place of a container in a cell
 abbrev pub place_of : TablesRecord → Cell → Option Place
 place_of t cell = lookup (cell_eq cell) t.cells
 
@@ -375,8 +376,8 @@ pub record IsPlace (p : Place) : Type 0 where
   pub half_least : pos 0 ≤ℤ p.half
   pub half_within : unsigned_abs p.half ≤ 10 ^ 6
 
--- what the tables of every ship keep: 1 to 30,000 cells of which none stands twice, at most 200 tanks of different names, and tables
--- that can be read
+-- what the tables of every ship keep: 1 to 30,000 different cells, at most 200 tanks of different names, and tables that can be
+-- read
 pub record AreTables (t : TablesRecord) : Type 0 where
   pub some_cells : 1 ≤ length t.cells
   pub few_cells : length t.cells ≤ 30000
@@ -390,7 +391,7 @@ pub record AreTables (t : TablesRecord) : Type 0 where
   pub names : IsDistinct bytes_eq (map (λ tank. tank.name) t.tanks)
   pub least_gm : IfSome t.least_gm IsLeastGmTable
 
--- in each row of a tank's table the filling stands within the extent
+-- in each row of a tank's table the filling is within the extent
 abbrev pub StandsWithin : Extent → Tank → Type 0
 StandsWithin extent tank = (k : ℕ) → k < length tank.rows.kg
     → holds extent (record { x = at tank.rows.x k; y = at tank.rows.y k; z = at tank.rows.z k; half = at tank.rows.half k }) ≡ true

@@ -24,7 +24,7 @@ use Rattle.units_core.specs.Outcome.{◌>>=◌, or_fault, unless, demand, within
 use Rattle.ship_tables.specs.Outcome.{each, in_turn}
 
 -- what is said of a file: how the fields of a row are read, the least and the greatest number of rows of a table, the rule that each row
--- keeps after those before it, and where its rows say where a body stands
+-- keeps after those before it, and the columns in which its rows give the place of a body
 pub record Form : Type 0 where
   pub file : File
   pub columns : List Column
@@ -119,7 +119,7 @@ abbrev pub rise_fault : File → ℕ → Option ℤ → ℕ → Row → Option R
 rise_fault file line gap k row None = None
 rise_fault file line gap k row (Some last) = step_fault file line gap (number_at last k) (number_at row k)
 
--- why a cell can't follow those before it, if it can't: no cell stands twice
+-- why a cell can't follow those before it, if it can't: no cell occurs twice
 abbrev pub double_fault : ℕ → List Cell → Option Cell → Option TableFault
 double_fault line before None = None
 double_fault line before (Some c) = if list_any (cell_eq c) before then Some (DoubleCell line) else None
@@ -149,7 +149,7 @@ begin_fault file line most tables begun None = if nat_lt begun tables then None 
 abbrev pub ended_rows : List ℕ → List (List Row) → Option ℕ
 ended_rows name ended = option_map length (find (λ t. bytes_eq name (table_name t)) ended)
 
--- why a row's body can't stand where it does, if it can't
+-- why a row's body can't be at its place, if it can't
 abbrev pub place_fault : Option Stands → File → ℕ → Row → Option TableFault
 place_fault None file line row = None
 place_fault (Some s) file line row = if encloses s.extent (number_at row s.x) (number_at row s.half) then None else Some (OutsideStations file line)
@@ -161,7 +161,7 @@ table_fault form r row =
     then option_or (room_fault form.file r.line form.most (length r.rows)) (rule_fault form.rule form.file r.line r.rows row)
     else begin_fault form.file r.line form.most (most_tables form.rule) (length (tables_read r)) (ended_rows (first_name row) r.ended)
 
--- why a row can't come after what was read, if it can't: its table, and then where its body stands
+-- why a row can't come after what was read, if it can't: its table, and then the place of its body
 abbrev pub row_fault : Form → Read → Row → Option TableFault
 row_fault form r row = option_or (table_fault form r row) (place_fault form.stands form.file r.line row)
 

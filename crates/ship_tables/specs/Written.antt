@@ -1,5 +1,5 @@
--- The tables of a ship are the ones that her files write: each number of them is the one that stands there, in its column and in the record of
--- its row. This speaks of the texts alone, and of no reader.
+-- The tables of a ship are the ones that her files write: each number of them is the one in the file, in its column and in the record of
+-- its row. This is defined by the texts only, without a reader.
 use Rattle.std.specs.Prelude.{◌≡◌, ℕ, ◌+◌, ℤ, List, drop, map, length, slice_get, replicate, Option, Some, None}
 use Rattle.std.specs.List.{flat_map}
 use Rattle.std.specs.Map.{keys_of}

@@ -12,7 +12,7 @@ use units_core::Cell;
 const TIERS: usize = 100;
 
 /// A list of cells in which a cell is found without a search. For each bay and row `blocks` names a block of 100 `entries`, one for each
-/// tier; an entry says where the cell stands in the list. That all are found where they stand is tested once, and kept in `sure`.
+/// tier; an entry is the cell's index in the list. Whether all cells are found at their indices is tested once, and kept in `sure`.
 #[derive(Debug, Drop)]
 pub struct CellList {
     cells: Vec<Cell>,
@@ -33,7 +33,7 @@ impl Model for CellList {
     ghost invariant = { λ c. c.sure ≡ true → AllTold c.blocks.items c.entries.items c.cells.items };
 }
 
-/// Where the tables say that a cell stands; any place where they say nothing.
+/// The index of a cell by the tables; any index where they have none.
 #[inline(always)]
 fn told_at(blocks: &[u16], entries: &[u16], cell: Cell) -> usize
     ensures { result ≡ told blocks.now entries.now cell }
@@ -68,7 +68,8 @@ fn reach(blocks: &mut Vec<u16>, pair: usize) -> Result<(), AllocError> {
     Ok(())
 }
 
-/// Notes in the tables where a cell stands, as far as they have room. The first block belongs to no bay.
+/// Writes the index of a cell to the tables, as far as they have room. The first block belongs to no
+/// bay.
 fn note(
     blocks: &mut Vec<u16>,
     entries: &mut Vec<u16>,
@@ -94,7 +95,8 @@ fn note(
     Ok(())
 }
 
-/// Notes where each cell stands. What was noted is tested afterwards, so nothing is promised of it.
+/// Writes the index of each cell to the tables. They are tested afterwards, so nothing is promised
+/// of them.
 fn note_all(
     blocks: &mut Vec<u16>,
     entries: &mut Vec<u16>,
@@ -110,7 +112,7 @@ fn note_all(
     Ok(())
 }
 
-/// Whether each cell is found where it stands.
+/// Whether each cell is found at its index.
 fn all_told(blocks: &[u16], entries: &[u16], cells: &[Cell]) -> bool
     ensures { OnTrue result (AllTold blocks.now entries.now cells.now) }
 {
@@ -122,7 +124,7 @@ fn all_told(blocks: &[u16], entries: &[u16], cells: &[Cell]) -> bool
     true
 }
 
-/// Where a cell stands first in a list, by a search from its beginning.
+/// The first index of a cell in a list, by a search from its beginning.
 fn search(cells: &[Cell], cell: Cell) -> Option<usize>
     ensures { result ≡ position (cell_eq cell) cells.now }
 {
@@ -146,7 +148,8 @@ impl CellList {
         })
     }
 
-    /// Where a cell stands, in constant time where no two cells are equal and each is one that seven digits write.
+    /// The index of a cell, in constant time where no two cells are equal and each is one that seven digits
+    /// write.
     pub fn find(&self, cell: Cell) -> Option<usize>
         ensures { result ≡ position (cell_eq cell) self.now }
     {

@@ -19,7 +19,7 @@ fn is_between(aft: i128, low: i128, high: i128, fore: i128) -> bool
     aft <= low && high <= fore
 }
 
-/// Whether what reaches `half` aft and forward of `x` stands within the extent, its ends among it.
+/// Whether what reaches `half` aft and forward of `x` is within the extent, its ends among it.
 pub fn encloses(extent: Extent, x: i64, half: i64) -> bool
     ensures { result ≡ encloses extent x half }
 {
@@ -31,7 +31,7 @@ pub fn encloses(extent: Extent, x: i64, half: i64) -> bool
 }
 
 impl Extent {
-    /// Whether a body at a place stands within the extent with all its length, its ends among it.
+    /// Whether a body at a place is within the extent with all its length, its ends among it.
     pub fn holds(&self, place: &Place) -> bool
         ensures { result ≡ holds self.now place.now }
     {

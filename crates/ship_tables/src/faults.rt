@@ -10,7 +10,7 @@ use std::fmt;
 pub enum File {
     /// `ship.toml`: the limits, stations, blocks, frames and fills. It holds no table, so no [`TableFault`] names it.
     Ship,
-    /// `cells.csv`: the cells, and where a container in each stands.
+    /// `cells.csv`: the cells, and the place of a container in each.
     Cells,
     /// `hydro.csv`: the hydrostatic table.
     Hydro,
@@ -48,7 +48,7 @@ pub enum TableFault {
     BadCsv(File, u32),
     /// P5: a field is no number, or no cell where a cell is asked.
     BadNumber(File, u32),
-    /// P6: a number is out of its limits, a name too short or too long, a row one too many, or it stands too far from the
+    /// P6: a number is out of its limits, a name too short or too long, a row one too many, or it is too far from the
     /// row before it.
     OutOfLimits(File, u32),
     /// P7: a row doesn't rise above the row before it, or it comes back to a tank whose rows have ended.

@@ -54,7 +54,7 @@ pub const ANGLES: usize = 13;
 /// The greatest step of a mass from row to row, in kg.
 const MAX_GAP: i64 = 100_000_000;
 
-/// `cells.csv`: the cell, then x, y, z and half of the container that stands in it.
+/// `cells.csv`: the cell, then x, y, z and half of the container that is in it.
 pub fn cells_layout(extent: Extent) -> Layout<'static>
     ensures { form_of result ≡ cells_form extent }
 {

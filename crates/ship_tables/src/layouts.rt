@@ -34,8 +34,8 @@ pub enum Rule {
     Together { gap: i64, tables: u8 },
 }
 
-/// Where the rows of a file say where a body stands: the columns of its centre along the ship and of half its length. It has
-/// to stand within the extent.
+/// The columns in which the rows of a file give the place of a body: its centre along the ship, and half its length. The
+/// body has to be within the extent.
 #[derive(Clone, Copy, Debug, PartialEq, Eq)]
 pub struct Stands {
     pub extent: Extent,

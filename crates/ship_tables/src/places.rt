@@ -14,7 +14,7 @@ use std::alloc::Global;
 use std::marker::Model;
 use units_core::{Cell, Mm, Place, same_items};
 
-/// The cells of a ship in the order of their file, each with where a container in it stands.
+/// The cells of a ship in the order of their file, each with the place of a container in it.
 #[derive(Debug, Drop)]
 pub struct CellPlaces {
     cells: CellList,
@@ -52,7 +52,8 @@ impl CellPlaces {
         self.cells.find(cell)
     }
 
-    /// Where a container in a cell stands, in constant time; `None` for a cell that the ship hasn't.
+    /// The place of a container in a cell, in constant time; `None` for a cell that the ship
+    /// hasn't.
     pub fn get(&self, cell: Cell) -> Option<Place>
         ensures { result ≡ lookup (cell_eq cell) self.now }
     {
@@ -69,7 +70,7 @@ impl CellPlaces {
     }
 }
 
-/// Where the container of a row stands.
+/// The place of the container of a row.
 fn place_at(row: &Row) -> Place
     requires { IsPlace (place_at row.now) }
     ensures { result ≡ place_at row.now }
@@ -82,7 +83,7 @@ fn place_at(row: &Row) -> Place
     }
 }
 
-/// Where the containers of rows stand.
+/// The places of the containers of rows.
 fn places(alloc: Global, rows: &[Row]) -> Result<Vec<Place>, TableFault>
     requires { All (λ r. IsPlace (place_at r)) rows.now }
     ensures ok { IfOk result (λ v. v.items ≡ map place_at rows.now) }
@@ -95,7 +96,7 @@ fn places(alloc: Global, rows: &[Row]) -> Result<Vec<Place>, TableFault>
     Ok(places)
 }
 
-/// The cells of rows, each with where a container in it stands.
+/// The cells of rows, each with the place of a container in it.
 fn gather(alloc: Global, rows: &[Row], cells: &[Cell]) -> Result<CellPlaces, TableFault>
     requires places { All (λ r. IsPlace (place_at r)) rows.now }
     requires size { length cells.now ≡ length rows.now }

@@ -196,7 +196,7 @@ fn begin_fault(
     }
 }
 
-/// Why a row's body can't stand where it does.
+/// Why a row's body can't be at its place.
 fn place_fault(stands: Option<Stands>, file: File, line: u32, row: &Row) -> Option<TableFault>
     ensures { result ≡ place_fault stands file line row.now }
 {

@@ -58,7 +58,7 @@ impl Row {
     }
 }
 
-/// The name that a text is, 1 to 16 bytes as they stand.
+/// The name that a text is, 1 to 16 bytes, unchanged.
 fn read_name(file: File, line: u32, text: &[u8]) -> Result<Field, TableFault>
     ensures { result ≡ field_in file line Column.Name text.now }
 {

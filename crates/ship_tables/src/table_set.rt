@@ -38,8 +38,8 @@ impl Model for Tables {
 impl Tables {
     /// Reads the tables that the texts of their files write, for a ship of this extent and number of stations, or the first fault
     /// of them: the files come in the order `cells.csv`, `hydro.csv`, `kn.csv`, `bonjean.csv`, `tanks.csv`, `gm.csv`, and each is
-    /// read from its beginning. Each number of the tables is the one that stands in its file, in its column and in the record of
-    /// its row. Only this takes memory; where it is refused the answer is [`TableFault::NoMemory`].
+    /// read from its beginning. Each number of the tables is the one in its file, in its column and in the record of its row.
+    /// Only this takes memory; where it is refused the answer is [`TableFault::NoMemory`].
     pub fn read(
         alloc: Global,
         extent: Extent,
@@ -68,7 +68,8 @@ impl Tables {
         })
     }
 
-    /// Where a container in a cell stands, in constant time; `None` for a cell that the ship hasn't.
+    /// The place of a container in a cell, in constant time; `None` for a cell that the ship
+    /// hasn't.
     pub fn cell(&self, cell: Cell) -> Option<Place>
         ensures value { result ≡ place_of self.now cell }
         ensures placed { IfSome result IsPlace }

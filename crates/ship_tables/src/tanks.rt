@@ -16,7 +16,7 @@ use std::alloc::Global;
 use std::marker::Model;
 use units_core::{Body, Mm, Place, enclosing, interp_floor, same_items, same_rows};
 
-/// Where the fillings of a tank stand, column by column.
+/// The places of the fillings of a tank, column by column.
 #[derive(Debug, Drop)]
 struct Centres {
     x: Vec<i128>,
@@ -25,8 +25,8 @@ struct Centres {
     half: Vec<i128>,
 }
 
-/// The table of a tank, column by column: at each mass of its filling where that stands, and its free surface moment. It has 2 to
-/// 64 rows, and the masses rise.
+/// The table of a tank, column by column: for each mass of its filling the place and the free surface moment of the filling.
+/// It has 2 to 64 rows, and the masses rise.
 #[derive(Debug, Drop)]
 struct TankRows {
     kg: Vec<i128>,
@@ -221,7 +221,7 @@ impl Tanks {
     }
 }
 
-/// Where the fillings of a tank's rows stand.
+/// The places of the fillings of a tank's rows.
 fn gather_centres(alloc: Global, rows: &[Row]) -> Result<Centres, TableFault>
     ensures ok { IfOk result (λ c. (c.x.items ≡ numbers_of 2 rows.now)
         × ((c.y.items ≡ numbers_of 3 rows.now)

@@ -47,7 +47,7 @@ parts_of handles [] = []
 parts_of handles (s ∷ more) =
     if begins handles s then part_at s (until_part handles more) ∷ parts_of handles more else parts_of handles more
 
--- What is found where nothing stands behind the location yet, and with one more segment: the first of each kind counts.
+-- What is found where nothing is behind the location yet, and with one more segment: the first of each kind counts.
 abbrev pub found_at : Numbered → Found
 found_at location = found_in location []
 

@@ -8,7 +8,7 @@ use Rattle.stow_messages.specs.declared.step_faults.StepsCode.{StepsCode}
 use Rattle.stow_messages.specs.declared.step_faults.StepsCode.TheVariants as steps
 use Rattle.stow_messages.specs.declared.step_faults.StepsFault.{StepsFault}
 
--- The fault of an envelope stands behind its code.
+-- The fault of an envelope is printed behind its code.
 abbrev pub stow_code_text : StowCode → List ℕ
 stow_code_text (stow.Envelope fault) = codes "M1 " ++ edi_fault_text fault
 stow_code_text stow.BadCell = codes "M2"
@@ -21,7 +21,7 @@ stow_code_text stow.UnknownHandling = codes "M8"
 stow_code_text stow.TooMany = codes "M9"
 stow_code_text stow.NoMemory = codes "M10"
 
--- The number of the segment stands behind a code that is found at one.
+-- The number of the segment is printed behind a code that is found at one.
 abbrev pub at_segment : StowCode → ℕ → List ℕ
 at_segment (stow.Envelope fault) segment = stow_code_text (stow.Envelope fault)
 at_segment stow.NoMemory segment = stow_code_text stow.NoMemory
@@ -41,7 +41,7 @@ steps_code_text steps.LiftMissing = codes "G6"
 steps_code_text steps.TooMany = codes "G7"
 steps_code_text steps.NoMemory = codes "G8"
 
--- The number of the line stands behind a code, or that of the missing lift.
+-- The number of the line is printed behind a code, or that of the missing lift.
 abbrev pub at_line : StepsCode → ℕ → List ℕ
 at_line steps.NoMemory at = steps_code_text steps.NoMemory
 at_line steps.LiftMissing at = steps_code_text steps.LiftMissing ++ (codes " lift " ++ decimal at)

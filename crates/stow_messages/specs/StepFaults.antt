@@ -20,7 +20,7 @@ pub record AreRows (lifts : ℕ) (records : List Fields) (rows : List StepRow) :
   pub written : map (row_of lifts) records ≡ map Ok rows
   pub few : length rows ≤ 200000
 
--- no lift stands in two rows
+-- no lift is in two rows
 abbrev pub NoLiftTwice : List StepRow → Type 0
 NoLiftTwice rows = (n : ℕ) → length (filter (is_lift n) rows) ≤ 1
 
@@ -39,7 +39,7 @@ pub record IsHeadingFault (text : List ℕ) (f : StepsFault) : Type 0 where
   pub not_four : length heading ≢ 4
   pub fault_is : f ≡ record { code = BadCsv; at = 1 }
 
--- A record is refused behind these rows: it is one too many, or it writes no row, or its lift stands among them.
+-- A record is refused behind these rows: it is one too many, or it writes no row, or its lift is among them.
 abbrev pub IsRefusedRecord : ℕ → List StepRow → Fields → StepsCode → Type 0
 IsRefusedRecord lifts rows fields code =
     ((length rows ≡ 200000) × (code ≡ TooMany))
@@ -58,7 +58,7 @@ pub record IsRecordFault (lifts : ℕ) (text : List ℕ) (f : StepsFault) : Type
   pub refused : IsRefusedRecord lifts rows fields f.code
   pub place_is : f.at ≡ length before + 2
 
--- No record is refused, and this is the least lift that stands in none of the rows.
+-- No record is refused, and this is the least lift that is in none of the rows.
 pub record IsMissing (lifts : ℕ) (text : List ℕ) (f : StepsFault) : Type 0 where
   pub records : List Fields
   pub rows : List StepRow

@@ -1,6 +1,6 @@
 -- The steps file: in which order the lifts of a movement instruction are done, with the changes of tanks and the restows among
 -- them. It is a table of comma-separated values: a heading of four fields, whose text is ignored, then a record for each
--- step, `lift,N,,`, `tank,NAME,KG,` or `restow,FROM,TO,ID`. Each lift stands once. The first fault is the file's.
+-- step, `lift,N,,`, `tank,NAME,KG,` or `restow,FROM,TO,ID`. Each lift occurs once. The first fault is the file's.
 use Rattle.std.specs.Prelude.{◌≡◌, ◌≢◌, ℕ, zero, suc, ◌+◌, ℤ, pos, negsuc, List, [], ◌∷◌, ◌++◌, length, Option, Some, None, option_map, Result, Ok, Err, Bool, false, nat_le, nat_lt, ◌==◌, ◌&&◌, if◌then◌else◌, codes}
 use Rattle.std.specs.List.{filter, list_any}
 use Rattle.std.specs.Str.{bytes_eq}
@@ -64,7 +64,7 @@ abbrev pub row_of : ℕ → Fields → Result StepRow StepsCode
 row_of lifts (kind ∷ first ∷ second ∷ third ∷ []) = row_by lifts kind first second third
 row_of lifts fields = Err BadCsv
 
--- the row is lift n; lift n stands among the rows; the row is a lift that does
+-- the row is lift n; lift n is among the rows; the row is a lift that is among the rows
 abbrev pub is_lift : ℕ → StepRow → Bool
 is_lift n (Lift m) = n == m
 is_lift n row = false

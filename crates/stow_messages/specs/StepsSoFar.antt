@@ -10,7 +10,7 @@ use Rattle.stow_messages.specs.declared.step_rows.StepRow.{StepRow}
 use Rattle.stow_messages.specs.declared.step_rows.StepRow.TheVariants.{Lift}
 use Rattle.stow_messages.specs.Steps.{stands}
 
--- one flag for each lift, which says whether the lift stands among the rows
+-- one flag for each lift, which says whether the lift is among the rows
 pub record AreFlags (lifts : ℕ) (rows : List StepRow) (flags : List Bool) : Type 0 where
   pub size : length flags ≡ lifts
   pub each : (i : ℕ) → slice_index_or flags i false ≡ stands (i + 1) rows

@@ -13,7 +13,7 @@ use edifact_text::{Segment, Segments};
 pub enum Part<'a> {
     /// A handling.
     Handled(Segment<'a>),
-    /// A location of a cell, with what stands behind it.
+    /// A location of a cell, with what is behind it.
     Located(Group<'a>),
 }
 
@@ -68,7 +68,8 @@ impl<'a> Parts<'a> {
         }
     }
 
-    /// The group that a location begins. It is filled where it stands, and what ends it is left.
+    /// The group that a location begins. It is filled in place, and the segment that ends it is
+    /// left.
     fn group_at(&mut self, location: &Segment<'a>) -> Group<'a>
         requires { self.old.ahead ≡ None }
         ensures found { found_view result ≡ found_in (numbered_view location.now)

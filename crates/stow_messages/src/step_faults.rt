@@ -14,9 +14,9 @@ pub enum StepsCode {
     BadField,
     /// A number that names no lift.
     NoLift,
-    /// A lift that stands in an earlier record.
+    /// A lift that is in an earlier record.
     LiftTwice,
-    /// A lift that stands in no record.
+    /// A lift that is in no record.
     LiftMissing,
     /// More records than the program takes.
     TooMany,

@@ -15,7 +15,7 @@ use std::alloc::Global;
 /// The greatest number of rows in a steps file.
 const MAX_ROWS: usize = 200_000;
 
-/// The rows of a steps file so far, and a flag for each lift that says whether the lift stands among them.
+/// The rows of a steps file so far, and a flag for each lift that says whether the lift is among them.
 #[derive(Debug, Drop)]
 struct Gathered {
     rows: Vec<StepRow>,
@@ -36,7 +36,7 @@ fn no_rows(alloc: Global, lifts: u32) -> Result<Gathered, StepsCode>
     }
 }
 
-/// Adds a row, whose lift may not stand among the rows yet.
+/// Adds a row; `LiftTwice` where its lift is among the rows already.
 fn join(lifts: u32, gathered: &mut Gathered, row: StepRow) -> Result<(), StepsCode>
     requires flags { AreFlags lifts gathered.old.rows.items gathered.old.seen.items }
     requires within { IsWithin lifts row }
@@ -180,7 +180,7 @@ fn least_missing(seen: &[bool]) -> Option<u32>
     None
 }
 
-/// The rows, where each lift stands among them.
+/// The rows, where each lift is among them.
 fn complete(lifts: u32, gathered: Gathered) -> Result<Vec<StepRow>, StepsFault>
     requires { AreFlags lifts gathered.rows.items gathered.seen.items }
     ensures ok { IfOk result (λ rows. complete lifts gathered.rows.items ≡ Ok rows.items) }
@@ -193,9 +193,9 @@ fn complete(lifts: u32, gathered: Gathered) -> Result<Vec<StepRow>, StepsFault>
     }
 }
 
-/// The rows of a steps file, in which each of the lifts 1 to `lifts` stands once, and changes of tanks and restows
-/// among them: comma-separated values, a heading of four fields, whose text is ignored, and a record for each
-/// step, `lift,N,,`, `tank,NAME,KG,` or `restow,FROM,TO,ID`. The first fault is answered: of a record, in this order,
+/// The rows of a steps file, in which each of the lifts 1 to `lifts` occurs once, and changes of tanks and restows
+/// among them: comma-separated values, a heading of four fields, whose text is ignored, and a record for each step,
+/// `lift,N,,`, `tank,NAME,KG,` or `restow,FROM,TO,ID`. The first fault is answered: of a record, in this order,
 /// [`StepsCode::TooMany`] (a record past 200,000 behind the heading), `BadCsv`, `BadKind`, `BadField`, `NoLift` and
 /// `LiftTwice`, with the record's number; at the end of the file `LiftMissing`, with the least missing lift.
 pub fn steps(alloc: Global, bytes: &[u8], lifts: u32) -> Result<Vec<StepRow>, StepsFault>

@@ -66,7 +66,7 @@ fn within(low: u32, high: u32, number: i64) -> Option<u32>
     }
 }
 
-/// The text as it stands, where it has `least` to `MOST` bytes.
+/// The text, unchanged, where it has `least` to `MOST` bytes.
 fn text_of<const MOST: usize>(least: usize, text: &[u8]) -> Option<ArrayVec<u8, MOST>>
     ensures { result ≡ text_of least MOST text.now }
 {

@@ -9,7 +9,7 @@ use arrayvec::ArrayVec;
 use edifact_text::Raw;
 use units_core::Kg;
 
-/// The number that the digits in front write, and what stands behind them.
+/// The number that the digits in front write, and what is behind them.
 fn leading_number(text: &[u8]) -> (u128, &[u8])
     requires { length text.now ≤ 35 }
     ensures number { result.0 ≡ digits_value 10 (digits_of text.now) }
@@ -52,7 +52,7 @@ fn is_fraction(text: &[u8], mark: u8) -> bool
     }
 }
 
-/// Behind the mark stands a digit other than 0.
+/// A digit other than 0 follows the mark.
 fn is_above_zero(text: &[u8]) -> bool
     ensures { result ≡ is_above_zero text.now }
 {

@@ -30,7 +30,7 @@ cell_in (b1 ∷ b2 ∷ b3 ∷ r1 ∷ r2 ∷ t1 ∷ t2 ∷ []) = cell_of (three_i
 cell_in (b2 ∷ b3 ∷ r1 ∷ r2 ∷ t1 ∷ t2 ∷ []) = cell_of (three_in 48 b2 b3) (two_in r1 r2) (two_in t1 t2)
 cell_in text = None
 
--- The 20-foot bays that a cell stands over: an odd bay is one itself, and an even bay stands over its two odd neighbours. Bay 0
+-- The 20-foot bays that a cell covers: an odd bay is one itself, and an even bay covers its two odd neighbours. Bay 0
 -- has no bay before it.
 abbrev pub span_of : ℕ → ℕ × ℕ
 span_of bay = if nat_eq (bay % 2) 1 then (bay, bay) else (bay - 1, bay + 1)

@@ -5,8 +5,9 @@ ghost use Rattle.units_core.specs.Bodies.{Mass, IsWithinLimits};
 use crate::measures::Mm;
 use std::marker::Model;
 
-/// Where a body stands: the centre of its mass, and half of its length. Lengths run forward from the
-/// after perpendicular (`x`), to starboard from the centre line (`y`) and up from the keel (`z`).
+/// The place of a body: the centre of its mass, and half of its length. Lengths run forward from
+/// the after perpendicular (`x`), to starboard from the centre line (`y`) and up from the keel
+/// (`z`).
 #[derive(Clone, Copy, Debug, PartialEq, Eq)]
 pub struct Place {
     pub x: Mm,
@@ -64,7 +65,7 @@ impl Body {
         self.kg
     }
 
-    /// Where it stands.
+    /// Its place.
     pub fn place(&self) -> Place
         ensures { result ≡ self.now.place }
     {

@@ -53,8 +53,8 @@ impl Cell {
     }
 }
 
-/// The first and the last of the 20-foot bays that a cell stands over: an odd bay is one itself, an even bay stands
-/// over its two odd neighbours, and bay 0 over 0 and 1.
+/// The first and the last of the 20-foot bays that a cell covers: an odd bay is one itself, an even bay
+/// covers its two odd neighbours, and bay 0 covers 0 and 1.
 pub fn span(cell: Cell) -> (u16, u16)
     ensures { result ≡ span_of cell.bay }
 {

@@ -10,7 +10,7 @@ abbrev pub AreSmall : List Kept → Type 0
 AreSmall [] = ⊤
 AreSmall (change ∷ more) = (size_of change ≤ 2) × AreSmall more
 
--- two lists are one but where the steps move the container that stands in a cell
+-- two lists are one but where the steps move the container that is in a cell
 abbrev pub AreNear : Option Cell → List Op → List Kept → List Kept → Type 0
 AreNear cell ops [] [] = ⊤
 AreNear cell ops [] (y ∷ ys) = ⊥

@@ -39,7 +39,7 @@ impl Desk {
     }
 
     /// Publishes the list of a session whose base is equal to the desk's. The ticket that is answered opens to just this list. Out of memory every list that was
-    /// published before stands as it was, and a number may be used up.
+    /// published before is as it was, and a number may be used up.
     pub fn publish<R: Wait>(&self, rt: &R, session: &Session) -> Result<Ticket, AllocError>
         requires { session.now.base ≡ self.now.base }
         ensures { IfOk result (λ ticket. IsOf self.now ticket

@@ -121,7 +121,7 @@ impl Session {
     }
 
     /// Makes an edit. It is refused where the list hasn't a step that it names (X1), where it reweighs a step that is no load (X2), and where a step of the edited
-    /// list can't be done (X3, with the first such step and why); out of memory (X4) may stand for that, and never stands inside X3. Then everything is as before.
+    /// list can't be done (X3, with the first such step and why); out of memory (X4) may stand for that, and is never inside X3. Then everything is as before.
     ///
     /// Another weight of a load whose container is restowed r times takes at most (r + 2) (l + 1) joins, where the list has at most 2^l steps; an
     /// exchange of two steps takes at most 2 (l + 1).
