@@ -30,7 +30,7 @@ abbrev pub IsLeastFound : Option ℕ → (ℕ → Option ℕ) → ℕ → Type 0
 IsLeastFound None find n = (k : ℕ) → k < n → find k ≡ None
 IsLeastFound (Some l) find n = ((k : ℕ) × (k < n) × (find k ≡ Some l)) × ((k f : ℕ) → k < n → find k ≡ Some f → l ≤ f)
 
--- the same of a state
+-- the claims above, for a state
 abbrev pub NumbersAreFair : State → Type 0
 NumbersAreFair s = IsFair s.next (entry_lists s.hands)
 

@@ -20,7 +20,7 @@ AtMostAll least es = Each (λ (e : Entry). ((l : ℕ) → e.looked ≡ Some l �
 abbrev pub drawn : Step Unit → Me Unit View → ℕ → Me Unit View → Type 0
 drawn step me found now = now ≡ (view me.0.workers (fresh found ∷ me.0.entries), me.1)
 
--- the same after the newest entry was skipped
+-- the draw after the newest entry was skipped
 abbrev pub drawn_after_skip : Step Unit → Me Unit View → ℕ → Me Unit View → Type 0
 drawn_after_skip step me found now = now ≡ (view me.0.workers (fresh found ∷ on_newest (ended Skipped) me.0.entries), me.1)
 

@@ -181,7 +181,7 @@ fn with_words<'a>(alloc: Global, task: Task) -> Result<Command<'a>, AllocError>
         .arg(word(alloc, "MOVINS", ABOUT_MOVINS))
 }
 
-/// The same with the word that names the edits file, where the command takes one.
+/// The command with the words of each command, and with the name of the edits file, where it takes one.
 fn with_edits<'a>(alloc: Global, task: Task) -> Result<Command<'a>, AllocError>
     ensures { IfOk result (TakesRules (bare task) (plain_words ++ edits_word task)) }
 {
@@ -192,7 +192,7 @@ fn with_edits<'a>(alloc: Global, task: Task) -> Result<Command<'a>, AllocError>
     }
 }
 
-/// The same with the options.
+/// The command with all its words and options.
 fn command_for<'a>(alloc: Global, task: Task) -> Result<Command<'a>, AllocError>
     ensures { IfOk result (TakesRules (bare task) (arguments_of task)) }
 {

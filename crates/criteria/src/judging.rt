@@ -63,7 +63,7 @@ fn judge_loaded(
     }
 }
 
-/// The same, once the loads are worked out.
+/// How the ship is judged, once the loads are worked out.
 #[inline(always)]
 fn judge_strained(
     profile: &Profile,
@@ -91,7 +91,7 @@ fn judge_strained(
     }
 }
 
-/// The same, once the levers are known.
+/// How the ship is judged, once the levers are known.
 #[inline(always)]
 fn judge_righted(
     profile: &Profile,
@@ -127,7 +127,7 @@ fn judge_righted(
     }
 }
 
-/// The same of a ship that floats.
+/// How a ship that floats is judged.
 #[inline(always)]
 fn judge_afloat(
     profile: &Profile,

@@ -16,7 +16,7 @@ fn figure(fraction: Frac) -> i128
     floor(fraction)
 }
 
-/// The same of a fraction whose divisor has about this reciprocal.
+/// A figure, rounded down, of a fraction whose divisor has about this reciprocal.
 fn figure_near(fraction: Frac, near: Reciprocal) -> i128
     ensures { IsFigure result fraction.num fraction.den }
 {

@@ -104,7 +104,7 @@ pub(crate) fn far_end_of(bytes: &[u8], release: Option<u8>, separator: u8) -> Op
     end_behind(bytes, release, separator)
 }
 
-/// The same, without a look at the nearest bytes first.
+/// The index of the first separator that cuts, without a look at the nearest bytes first.
 #[inline(never)]
 fn end_behind(bytes: &[u8], release: Option<u8>, separator: u8) -> Option<usize>
     ensures value { result ≡ end_from release separator false bytes.now }
@@ -158,7 +158,7 @@ pub(crate) fn cut(bytes: &[u8], release: Option<u8>, separator: u8) -> (&[u8], O
     parted(bytes, release, separator, end_of(bytes, release, separator))
 }
 
-/// The same, where the separator may be far off.
+/// Cuts as `cut` does, where the separator may be far off.
 #[inline(always)]
 pub(crate) fn far_cut(bytes: &[u8], release: Option<u8>, separator: u8) -> (&[u8], Option<&[u8]>)
     ensures first { MatchOption result.1 (pieces release separator bytes.now ≡ result.0.now ∷ [])

@@ -126,7 +126,7 @@ impl<'a> Raw<'a> {
         self.spelt_into(out)
     }
 
-    /// The same, byte by byte.
+    /// Writes the literal to `out` as `literal_into` does, byte by byte.
     #[inline(never)]
     fn spelt_into<const MOST: usize>(self, out: &mut ArrayVec<u8, MOST>) -> bool
         ensures fits { IsTrue result ↔ (length (meant self.entry) ≤ MOST) }

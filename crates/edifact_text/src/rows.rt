@@ -36,7 +36,7 @@ impl SegmentText<'_> {
         }
     }
 
-    /// The same, by the tag's literal.
+    /// Whether it is a trailer, by the tag's literal.
     #[inline(never)]
     fn seen_trailers(self) -> Trailers
         ensures message { result.message

@@ -98,7 +98,7 @@ impl<'a> SegmentText<'a> {
         self.is_seen_too_large()
     }
 
-    /// The same, by counting.
+    /// Whether it is too large, by counting.
     #[inline(never)]
     fn is_seen_too_large(self) -> bool
         ensures { result ≡ is_too_large self.entry.service self.entry.bytes.now }

@@ -91,7 +91,7 @@ impl<'a> Segment<'a> {
         self.seen_component(i, j)
     }
 
-    /// The same, from the segment's first byte on.
+    /// Component `j` of element `i`, read from the segment's first byte on.
     #[inline(never)]
     #[tactic(auto, using(crate::proofs::ReadingLemmas::part_is), unfolding(crate::specs::Views::numbered_view))]
     fn seen_component(&self, i: usize, j: usize) -> Raw<'a>

@@ -14,7 +14,7 @@ signed true z = neg_ℤ z
 abbrev pub change_of : Bool → List Frame → Mass → Sum
 change_of taken frames b = λ c. signed taken (of_body frames b c)
 
--- the same, where there is a body
+-- a body that is put in or taken out, if there is one
 abbrev pub change_in : Bool → List Frame → Option Mass → Sum
 change_in taken frames body = λ c. signed taken (in_option frames body c)
 

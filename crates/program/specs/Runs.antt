@@ -22,7 +22,7 @@ use Rattle.run_files.specs.Statuses.{status_of, status_on}
 use Rattle.program.specs.Trials.{after_all, answer_lines, lists_of, outcome_after, untried}
 use Rattle.program.specs.Written.{HasWritten, IsFrontOf}
 
--- what comes of it when the edits of a text are tried on the steps that inputs order
+-- the outcome of trying the edits of a text on the steps that inputs order
 pub record AreTried (inputs : Inputs) (text : List ℕ) (outcome : Outcome) : Type 0 where
   pub base : Base
   pub ops : List Op
@@ -31,7 +31,7 @@ pub record AreTried (inputs : Inputs) (text : List ℕ) (outcome : Outcome) : Ty
   pub read : edits_of text ≡ Ok lines
   pub outcome_is : outcome ≡ outcome_after base ops lines
 
--- the same of a session in which they were tried, and of the answers to them
+-- the session in which the edits of a text were tried, and the answers to them
 pub record AreTriedIn (inputs : Inputs) (text : List ℕ) (session : SessionRecord) (answers : List ℕ) : Type 0 where
   pub ops : List Op
   pub lines : List EditLine
@@ -124,7 +124,7 @@ IsStopOf known line (Edits number) = AreEditsRefused known line number
 IsStopOf known line (Usage text) = ⊥
 IsStopOf known line stop = Unit {0}
 
--- the same of the words of a whole command line
+-- what a run on the words of a whole command line reports: its exit status and its text
 abbrev pub IsReportedBy : (List ℕ → Known) → List Text → ℕ → List ℕ → Type 0
 IsReportedBy known words status text = (line : Line) × IsLine words line × IsReported known line status text
 

@@ -22,7 +22,7 @@ simpson y k (suc n) = simpson y k n ⊕ pair_of y (k + 2 * n)
 abbrev pub area_of : Ratio → Ratio
 area_of sum = (whole (pos 5000) ⊗ sum) ⊘ whole (pos 3)
 
--- the same in mm degrees
+-- the area in mm degrees
 abbrev pub mm_degrees : Ratio → Ratio
 mm_degrees sum = (whole (pos 5) ⊗ sum) ⊘ whole (pos 3)
 

@@ -44,7 +44,7 @@ impl Case {
     }
 }
 
-/// The same, borrowed: what every worker of a run looks at.
+/// A case, borrowed: what every worker of a run looks at.
 #[derive(Clone, Copy, Debug, Drop)]
 pub struct CaseView<'a> {
     pub profile: &'a Profile,

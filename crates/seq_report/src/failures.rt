@@ -113,7 +113,7 @@ pub fn first_fail_from(
     first_of_case(case, total)
 }
 
-/// The same of a case that is ready for a report.
+/// The first step that fails of a case that is ready for a report, with its first criterion.
 fn first_of_case(case: CaseView<'_>, total: &Totals) -> Option<(u32, Criterion)>
     requires ready { IsReady (seen case) }
     requires total { IsArrivalTotal case.profile.now case.arrival.now total.now }

@@ -41,7 +41,7 @@ fn divided(alloc: Global, plan: CutPlan<'_>, lines: u32) -> Result<Cuts, CutFaul
     }
 }
 
-/// The same for a run.
+/// The cuts of a plan, or its first fault as one of the run.
 pub fn cuts_of(alloc: Global, plan: CutPlan<'_>, lines: u32) -> Result<Cuts, RunFault>
     requires { 0 < lines }
     ensures cut { IfOk result (λ cuts. Divides cuts lines) }

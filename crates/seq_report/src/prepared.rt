@@ -48,7 +48,7 @@ fn first_sums<G: Gate, R: Threads + Wait + Sync>(
     joined_to_arrival(alloc, &arrival_total(case.profile, case.arrival), &before)
 }
 
-/// The same of a case and its cuts.
+/// The sum at the first line of each chunk of a case, by its cuts.
 fn sums_of<G: Gate, R: Threads + Wait + Sync>(
     rt: &R,
     alloc: Global,

@@ -31,7 +31,7 @@ impl<'a> Promise<Result<Vec<Item>, RunFault>> for PlanOf<'a> {
     ghost kept_by = { λ plan given. IsPlanRead given plan.text.now };
 }
 
-/// The same of a movement instruction.
+/// What a thread that reads a movement instruction promises: what it gives was read of this text.
 #[derive(Clone, Copy)]
 struct MovesOf<'a> {
     text: &'a [u8],

@@ -66,7 +66,7 @@ IsArrayFaultAt key least most next ms f =
     ((get_member (name_of key) ms ≡ None) × (f ≡ MissingKey key))
     ⊎ ((d : Data) × (get_member (name_of key) ms ≡ Some d) × IsArrayFault key least most next d f)
 
--- The same of an array that may be missing.
+-- The elements and the fault of an array that may be missing.
 abbrev pub AreOptionalAt : {A : Type 0} → Key → ℕ → (List A → Data → Result A ProfileFault) → Members → List A → Type 0
 AreOptionalAt key most next ms xs = ((get_member (name_of key) ms ≡ None) × (xs ≡ [])) ⊎ AreElementsAt key 0 most next ms xs
 

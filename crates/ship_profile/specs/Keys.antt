@@ -74,7 +74,7 @@ elements_of key least most next d =
 abbrev pub elements_at : {A : Type 0} → Key → ℕ → ℕ → (List A → Data → Result A ProfileFault) → Members → Result (List A) ProfileFault
 elements_at key least most next ms = or_fault (MissingKey key) (get_member (name_of key) ms) >>= elements_of key least most next
 
--- the same for a key that may be missing, which has none then
+-- the elements of an array whose key may be missing; a missing one has no elements
 abbrev pub optional_of : {A : Type 0} → Key → ℕ → (List A → Data → Result A ProfileFault) → Option Data → Result (List A) ProfileFault
 optional_of key most next None = Ok []
 optional_of key most next (Some d) = elements_of key 0 most next d

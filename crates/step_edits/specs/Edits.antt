@@ -60,7 +60,7 @@ abbrev pub TellsMemory : EditFault → Type 0
 TellsMemory (Sequence fault) = fault.code ≢ NoMemory
 TellsMemory fault = ⊤
 
--- the same as facts of the numbers
+-- a number is that of a step in a list of `count` steps, as a proposition
 abbrev pub IsNumber : ℕ → ℕ → Type 0
 IsNumber count number = (1 ≤ number) × (number ≤ count)
 

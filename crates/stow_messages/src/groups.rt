@@ -100,7 +100,7 @@ pub fn kind_of(segment: &Segment<'_>) -> SegmentKind
     }
 }
 
-/// The same, by the tag's literal.
+/// What the segment is, by the tag's literal.
 #[inline(never)]
 fn kind_spelt(segment: &Segment<'_>) -> SegmentKind
     ensures { result ≡ kind_of (numbered_view segment.now) }

@@ -17,8 +17,8 @@ pub struct FrameLoad {
     pub bending: i128,
 }
 
-/// The same numbers in one place, in which they are worked out: they are written anew for each
-/// condition, and no list grows. [`Strains::loads`] makes [`Loads`] of them.
+/// The numbers of [`Loads`] in one place, in which they are worked out: they are written anew for
+/// each condition, and no list grows. [`Strains::loads`] makes [`Loads`] of them.
 #[derive(Clone, Copy, Default)]
 pub struct Strains {
     /// The shear forces by the numbers of the frames, 0 behind the last.

@@ -42,7 +42,7 @@ pub fn same_items<T: Exact>(a: &[T], b: &[T]) -> bool
     a == b
 }
 
-/// The same of lists of lists.
+/// Whether two lists of lists are equal.
 pub fn same_rows<T: Exact>(rows: &[Vec<T>], others: &[Vec<T>]) -> bool
     ensures { IsTrue result ↔ (map (λ v. v.items) rows.now ≡ map (λ v. v.items) others.now) }
 {

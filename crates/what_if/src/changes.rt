@@ -21,7 +21,7 @@ fn changes(alloc: Global, sequence: &Sequence, frames: &Frames) -> Result<Vec<To
     Ok(all)
 }
 
-/// The same of a sequence that was made from this base.
+/// What each step of a sequence that was made from this base changes.
 pub fn changes_of(
     alloc: Global,
     base: &Ground,
