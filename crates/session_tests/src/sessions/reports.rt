@@ -1,6 +1,4 @@
 //! How the report of a session is made: by the gate, the workers and the cuts of its caller.
-ghost use Rattle.std.specs.Prelude.{◌≤◌};
-
 use super::{TWO_LOADS, report_of, session};
 use crate::checks::{holds, same};
 use claim_run::{Gate, Workers};
@@ -29,16 +27,6 @@ static CUTS: [(u8, CutPlan<'static>, u64); 4] = [
     (2, CutPlan::At(&[1, 3]), 2),
 ];
 
-/// So many workers, 1 to 16.
-fn workers_of(count: u8) -> Workers
-    requires { (1 ≤ count) × (count ≤ 16) }
-{
-    let Some(workers) = Workers::new(count) else {
-        unreachable!()
-    };
-    workers
-}
-
 // The sums are there before, so the report has one run: the gate is called once for each chunk of the lines.
 #[test]
 fn gates_and_cuts(rt: HostRuntime) -> Result<(), Fail> {
@@ -50,7 +38,7 @@ fn gates_and_cuts(rt: HostRuntime) -> Result<(), Fail> {
         };
         let mut taken = Vec::new(rt.alloc());
         let options = Options {
-            workers: workers_of((*count).clamp(1, 16)),
+            workers: Workers::new(*count).ok_or("workers")?,
             cuts: *cuts,
         };
         let outcome = session.report(&rt, &gate, &options, &mut Through::new(&mut taken));
