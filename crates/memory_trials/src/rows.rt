@@ -191,6 +191,23 @@ fn undos<R: AllocGlobal + Threads + Wait + Sync, W: Write>(
     note_free(out, "sixty_four_undos", free)
 }
 
+/// Exchanges of independent steps, for which there is a third.
+fn swaps<R: AllocGlobal + Threads + Wait + Sync, W: Write>(
+    rt: &R,
+    out: &mut W,
+    session: &mut Session,
+) -> bool {
+    let inserted = session.apply(edit_of(Kind::Insert)).is_ok();
+    let tally = watch(rt, &mut Trial::Swaps(session));
+    let back = session.undo() == Ok(true);
+    let free = tally.refused == 0 && tally.wrong == 0;
+    note_free(
+        out,
+        "exchanges of independent steps",
+        inserted && back && free,
+    )
+}
+
 /// Edits of a session.
 fn sessions<R: AllocGlobal + Threads + Wait + Sync, W: Write>(
     rt: &R,
@@ -200,7 +217,8 @@ fn sessions<R: AllocGlobal + Threads + Wait + Sync, W: Write>(
     let mut right = tried(rt, out, "session_edits, read", Trial::Read);
     right &= edits(rt, out, session, Kind::Remove)?;
     right &= edits(rt, out, session, Kind::Move)?;
-    Ok(right & undos(rt, out, session))
+    right &= undos(rt, out, session);
+    Ok(right & swaps(rt, out, session))
 }
 
 /// Lists at a desk.

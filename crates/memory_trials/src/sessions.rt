@@ -1,6 +1,7 @@
 //! Edits of a session, and edits that are taken back, of which growths are refused.
 use crate::texts::TWO_LOADS;
 use crate::trials::Told;
+use arrayvec::ArrayVec;
 use box_ship::{EMPTY_PLAN, files};
 use lift_sequence::Op;
 use seq_report::{Inputs, RunFault};
@@ -33,6 +34,14 @@ pub fn read(alloc: Global) -> Told {
 pub enum Kind {
     Remove,
     Move,
+    Insert,
+}
+
+/// The tank is filled.
+fn filling() -> Op {
+    let mut name = ArrayVec::new();
+    let _ = name.try_extend_from_slice(b"DB1".as_slice());
+    Op::Fill { name, kg: 500_000 }
 }
 
 /// The edit.
@@ -40,6 +49,10 @@ pub fn edit_of(kind: Kind) -> Edit {
     match kind {
         Kind::Remove => Edit::Remove { at: 2 },
         Kind::Move => Edit::Move { from: 1, to: 2 },
+        Kind::Insert => Edit::Insert {
+            at: 2,
+            lift: filling(),
+        },
     }
 }
 
@@ -118,6 +131,17 @@ pub fn sixty_four_undos(session: &mut Session) -> Told {
         right &= session.undo() == Ok(true);
     }
     right &= session.undo() == Ok(false);
+    if right { Told::Right } else { Told::Wrong }
+}
+
+/// The first of three steps that are independent of each other is exchanged with the last, and with the second, and each exchange is taken back: none of
+/// that asks for memory.
+pub fn swaps(session: &mut Session) -> Told {
+    let mut right = session.lifts().len() == 3;
+    for (a, b) in [(1, 3), (3, 1), (1, 2), (2, 1)] {
+        right &= session.apply(Edit::Swap { a, b }).is_ok();
+        right &= session.undo() == Ok(true);
+    }
     if right { Told::Right } else { Told::Wrong }
 }
 

@@ -2,7 +2,7 @@
 use crate::desks::Publishing;
 use crate::free_calls::Readers;
 use crate::reports::{Report, stop_early};
-use crate::sessions::{Editing, read, sixty_four_undos};
+use crate::sessions::{Editing, read, sixty_four_undos, swaps};
 use crate::wrong_bodies::{LeavesHalf, retry, swallow};
 use std::alloc::Global;
 use std::sync::Wait;
@@ -30,6 +30,7 @@ pub enum Trial<'a> {
     Apply(Editing<'a>),
     Undo(Editing<'a>),
     SixtyFourUndos(&'a mut Session),
+    Swaps(&'a mut Session),
     Publish(Publishing<'a>),
     Open(Publishing<'a>),
     Readers(Readers<'a>),
@@ -49,6 +50,7 @@ impl<'a> Trial<'a> {
             Trial::Apply(of) => of.apply(),
             Trial::Undo(of) => of.undo(),
             Trial::SixtyFourUndos(session) => sixty_four_undos(session),
+            Trial::Swaps(session) => swaps(session),
             Trial::Publish(of) => of.publish(rt),
             Trial::Open(of) => of.open(),
             Trial::Readers(of) => of.call(),

@@ -2,13 +2,15 @@ ghost use Rattle.std.specs.Prelude.{◌≡◌, ◌≤◌, IfOk, length};
 ghost use Rattle.run_files.specs.Files.Known.{Nothing, Holds};
 
 use crate::checks::{holds, same, same_row};
-use claim_run::Open;
+use claim_run::{Gate, Open};
 use program::serve;
 use run_files::{LIMIT, Readers, Unopened};
 use std::io;
 use std::io::{ErrorKind, Read, Write};
 use std::process::Abort;
 use std::sync::Wait;
+use std::sync::atomic::AtomicU64;
+use std::sync::atomic::Ordering::SeqCst;
 use std::thread::Threads;
 
 const SHIP: &[u8] =
@@ -558,6 +560,55 @@ fn outputs_that_fail_later(rt: HostRuntime) {
             }
         }
     }
+}
+
+/// A gate that counts its calls.
+#[derive(Drop)]
+struct Counts {
+    passed: AtomicU64,
+}
+
+impl Gate for Counts {
+    fn pass(&self, _worker: u8, _chunk: u32) {
+        self.passed.fetch_add(1, SeqCst);
+    }
+}
+
+/// How often a run on these words, which writes this text, calls the gate.
+fn check_passes(
+    rt: &(impl Abort + AllocGlobal + Threads + Wait + Sync),
+    words: &[&str],
+    text: &str,
+    passes: u64,
+) {
+    let files = with("edits.txt", Content::Bytes(EDITS));
+    let gate = Counts {
+        passed: AtomicU64::new(0),
+    };
+    let mut out = Vec::new(rt.alloc());
+    let mut err = Vec::new(rt.alloc());
+    let status = serve(
+        rt,
+        rt.alloc(),
+        &gate,
+        &mut Memory { files: &files },
+        words,
+        &mut out,
+        &mut err,
+    );
+    same_row(rt, text, status, 0);
+    same(rt, out.as_slice(), text.as_bytes());
+    same_row(rt, text, gate.passed.load(SeqCst), passes);
+}
+
+// Here there is one line, and so one chunk. A report has two runs, one for the sums and one for the lines, and so has the search for the first step that
+// fails; a session has the sums. In each run the gate is called for the chunk.
+#[test]
+fn calls_of_the_gate(rt: HostRuntime) {
+    let [(check, report), (first, last), (whatif, tried)] = &WRITTEN;
+    check_passes(&rt, check, report, 2);
+    check_passes(&rt, first, last, 2);
+    check_passes(&rt, whatif, tried, 1);
 }
 
 /// Files that all hold one text, which contracts see.

@@ -14,6 +14,7 @@ use what_if::Session;
 mod bases;
 mod desks;
 mod edits;
+mod reports;
 
 /// The heading of a report.
 const HEADER: &str =

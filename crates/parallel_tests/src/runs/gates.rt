@@ -1,10 +1,11 @@
 // That the gate is called: once for each chunk that a worker takes, before its look and its work, by as many workers as asked for.
 use crate::checks::holds;
 use crate::notes::{Notes, notes_of};
-use claim_run::{Job, Scout, Workers, run, run_least};
+use crate::runs::waits::Squares;
+use claim_run::{FindsNothing, Gate, Job, Scout, Workers, run, run_least};
 use std::alloc::{AllocError, Global};
-use std::sync::atomic::AtomicBool;
 use std::sync::atomic::Ordering::SeqCst;
+use std::sync::atomic::{AtomicBool, AtomicU64};
 use std::test::Fail;
 
 /// Pieces and chunks that note where they are worked or looked at before the gate has let them pass. None fails.
@@ -12,6 +13,14 @@ use std::test::Fail;
 struct BehindGate<'a> {
     gate: &'a Notes,
     early: AtomicBool,
+}
+
+/// Those of a run, of which none has come yet.
+fn behind(gate: &Notes) -> BehindGate<'_> {
+    BehindGate {
+        gate,
+        early: AtomicBool::new(false),
+    }
 }
 
 impl<'a> BehindGate<'a> {
@@ -66,17 +75,54 @@ fn calls_of_the_gate(rt: HostRuntime) -> Result<(), Fail> {
         let Some(workers) = Workers::new(count) else {
             unreachable!()
         };
-        let gate = notes_of(count);
-        let behind = BehindGate {
-            gate: &gate,
-            early: AtomicBool::new(false),
-        };
         let pieces = u32::from(count);
-        run(&rt, rt.alloc(), &gate, workers, pieces, &behind)?;
-        holds(&rt, gate.each_passed(1));
-        let least = run_least(&rt, rt.alloc(), &gate, workers, pieces, &behind)?;
-        holds(&rt, least.is_none() && gate.each_passed(2));
-        holds(&rt, !behind.early.load(SeqCst));
+        let gate = notes_of(count);
+        let worked = behind(&gate);
+        run(&rt, rt.alloc(), &gate, workers, pieces, &worked)?;
+        holds(&rt, gate.each_passed(1) && !worked.early.load(SeqCst));
+        let gate = notes_of(count);
+        let looked = behind(&gate);
+        let least = run_least(&rt, rt.alloc(), &gate, workers, pieces, &looked)?;
+        holds(&rt, least.is_none() && gate.each_passed(1));
+        holds(&rt, !looked.early.load(SeqCst));
     }
+    Ok(())
+}
+
+/// A gate that counts its calls, and adds up the numbers of the chunks.
+#[derive(Drop)]
+struct Sums {
+    passed: AtomicU64,
+    numbers: AtomicU64,
+}
+
+impl Sums {
+    /// Whether the gate was called so often, and the numbers of the chunks are so many together.
+    fn are(&self, passed: u64, numbers: u64) -> bool {
+        self.passed.load(SeqCst) == passed && self.numbers.load(SeqCst) == numbers
+    }
+}
+
+impl Gate for Sums {
+    fn pass(&self, _worker: u8, chunk: u32) {
+        self.passed.fetch_add(1, SeqCst);
+        self.numbers.fetch_add(u64::from(chunk), SeqCst);
+    }
+}
+
+// 70,000 chunks, more than 16 bits count, whose numbers are 70,000 * 69,999 / 2 together; and the same once more.
+#[test]
+fn calls_for_many_chunks(rt: HostRuntime) -> Result<(), Fail> {
+    let Some(workers) = Workers::new(3) else {
+        unreachable!()
+    };
+    let gate = Sums {
+        passed: AtomicU64::new(0),
+        numbers: AtomicU64::new(0),
+    };
+    run(&rt, rt.alloc(), &gate, workers, 70_000, &Squares)?;
+    holds(&rt, gate.are(70_000, 2_449_965_000));
+    let least = run_least(&rt, rt.alloc(), &gate, workers, 70_000, &FindsNothing)?;
+    holds(&rt, least.is_none() && gate.are(140_000, 4_899_930_000));
     Ok(())
 }

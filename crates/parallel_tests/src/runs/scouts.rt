@@ -3,7 +3,7 @@ ghost use Rattle.std.specs.Prelude.{◌≤◌};
 
 use crate::checks::holds;
 use crate::chunks::three_chunks;
-use crate::runs::waits::{holds_until, wait_for};
+use crate::runs::waits::{HoldsUntil, holds_until, wait_for};
 use claim_run::{Board, FindsNothing, Gate, Open, Scout, Workers, every_state_is_right, run_least};
 use std::alloc::{AllocError, Global};
 use std::sync::Wait;
@@ -38,6 +38,37 @@ fn early_stop(rt: HostRuntime) -> Result<(), Fail> {
     holds(&rt, least == Some(3));
     holds(&rt, !scout.third.load(SeqCst));
     holds(&rt, gate.has_held());
+    Ok(())
+}
+
+/// Holds the first chunk until the second has come, and the second until the third has.
+#[derive(Drop)]
+struct InTurn {
+    first: HoldsUntil,
+    second: HoldsUntil,
+}
+
+impl Gate for InTurn {
+    fn pass(&self, worker: u8, chunk: u32) {
+        self.first.pass(worker, chunk);
+        self.second.pass(worker, chunk);
+    }
+}
+
+// What is posted while a worker is held at the gate, it sees behind it: step 3 of the first chunk is there when the second is let through, and both the
+// second and the third are skipped.
+#[test]
+fn posted_while_held(rt: HostRuntime) -> Result<(), Fail> {
+    let gate = InTurn {
+        first: holds_until(0, 1),
+        second: holds_until(1, 2),
+    };
+    let scout = three_chunks();
+    let least = least_by_two(&rt, rt.alloc(), &gate, 3, &scout)?;
+    holds(&rt, least == Some(3));
+    holds(&rt, gate.first.has_held() && gate.second.has_held());
+    holds(&rt, !scout.second.load(SeqCst));
+    holds(&rt, !scout.third.load(SeqCst));
     Ok(())
 }
 

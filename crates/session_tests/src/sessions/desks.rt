@@ -4,6 +4,7 @@ ghost use Rattle.what_if.specs.Desks.{IsOf, list_of};
 
 use super::{TWO_LOADS, session};
 use crate::checks::holds;
+use box_ship::NO_MOVES;
 use lift_sequence::Op;
 use std::alloc::{AllocError, Global};
 use std::sync::{Arc, Wait};
@@ -91,5 +92,28 @@ fn desk_two_threads(rt: HostRuntime) -> Result<(), Fail> {
     let desk = Desk::new(alloc, Arc::try_clone(both.base())?)?;
     holds(&rt, desk.find(0).is_none());
     holds(&rt, is_shared(&rt, &desk, &both, &first)?);
+    Ok(())
+}
+
+/// Whether the list of a session is published, and opens.
+fn is_opened(
+    rt: &(impl Threads + Wait + Sync),
+    desk: &Desk,
+    session: &Session,
+) -> Result<bool, AllocError>
+    requires { session.now.base ≡ desk.now.base }
+{
+    let ticket = desk.publish(rt, session)?;
+    opens_to(desk, &ticket, session)
+}
+
+// A list without steps is a list.
+#[test]
+fn desk_with_an_empty_list(rt: HostRuntime) -> Result<(), Fail> {
+    let alloc = rt.alloc();
+    let none = session(alloc, NO_MOVES)?;
+    let desk = Desk::new(alloc, Arc::try_clone(none.base())?)?;
+    holds(&rt, none.lifts().is_empty());
+    holds(&rt, is_opened(&rt, &desk, &none)?);
     Ok(())
 }
