@@ -13,7 +13,7 @@ use std::thread;
 use std::thread::Threads;
 
 /// How often a worker looks at most whether the others have a chunk too.
-const TURNS: u32 = 200_000;
+const TURNS: u32 = 20_000;
 
 /// How many workers make a report: as many as it has chunks, so that each draws one.
 const WORKERS: u64 = 3;
