@@ -14,7 +14,7 @@ use Rattle.ship_tables.specs.Record.{IsPlace, IsTank, IsTankTable, TankTable, Ta
 use Rattle.ship_tables.specs.declared.extents.Extent.{Extent}
 use Rattle.ship_profile.specs.Ship.{IsBlock, IsFrame}
 use Rattle.ship_profile.specs.Record.{ProfileRecord, IsSound}
-use Rattle.ship_profile.specs.declared.frames.Frame.{Frame}
+use Rattle.units_core.specs.declared.frames.Frame.{Frame}
 use Rattle.lift_sequence.specs.declared.containers.Container.{Container}
 use Rattle.lift_sequence.specs.Bodies.{bodies, bodies_in_cells, bodies_in_tanks, body_in, filling_in}
 use Rattle.units_core.specs.Totals.{total}

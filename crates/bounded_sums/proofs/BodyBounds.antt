@@ -6,7 +6,7 @@ use Rattle.units_core.proofs.Signed.{signed_arith, one_part, product_within, sum
 use Rattle.units_core.proofs.Order.{times_order}
 use Rattle.units_core.specs.Bodies.{Mass}
 use Rattle.units_core.specs.Ratio.{◌over◌, floor_of}
-use Rattle.ship_profile.specs.declared.frames.Frame.{Frame}
+use Rattle.units_core.specs.declared.frames.Frame.{Frame}
 use Rattle.units_core.specs.Totals.{total}
 use Rattle.moment_sums.proofs.Sizes.{between, part}
 use Rattle.moment_sums.specs.Shares.{is_aft, is_past, moment_aft, reach, weight_aft}

@@ -1,7 +1,7 @@
 ghost use Rattle.bounded_sums.specs.Laws.{AboardIsBounded, SequencesAreBounded};
 
-/// Whatever containers of at most a million tonnes are aboard a ship of a sound profile, the sums over what is aboard are bounded: a law over
-/// the definitions.
+/// Whatever containers of at most a million tonnes are aboard a ship of a sound profile, the sums
+/// over what is aboard are bounded: a law over the definitions.
 pub fn aboard_is_bounded()
     ensures { AboardIsBounded }
 {}

@@ -1,5 +1,5 @@
-//! That the sums over what is aboard are bounded, whatever the steps: laws over the definitions, by which every sum of a run fits the
-//! numbers that it is kept in.
+//! That the sums over what is aboard are bounded, whatever the steps: laws over the definitions, by
+//! which every sum of a run fits the numbers that it is kept in.
 #![tactic(auto)]
 
 mod laws;

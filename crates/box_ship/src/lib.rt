@@ -1,7 +1,9 @@
-//! The box ship: the worked example of the tests from `lift_sequence` to `seq_report`, and of the program in `crates/own_program`. She is 100 m
-//! long and 20 m broad, with vertical sides and a flat bottom, so that her tables are worked out by hand. `loadseq` doesn't read her.
+//! The box ship: the worked example of the tests from `lift_sequence` to `seq_report`, and of the
+//! program in `crates/own_program`. She is 100 m long and 20 m broad, with vertical sides and a
+//! flat bottom, so that her tables are worked out by hand. `loadseq` doesn't read her.
 //!
-//! In sea water of 1,025 kg/m3 she displaces 100 * 20 * 1,025 = 2,050,000 kg for each metre of draught `T`:
+//! In sea water of 1,025 kg/m3 she displaces 100 * 20 * 1,025 = 2,050,000 kg for each metre of
+//! draught `T`:
 //!
 //! | `T` | displacement | KB = T / 2 | BM = 20^2 / (12 T) | KMT = KB + BM |
 //! |---|---|---|---|---|
@@ -9,19 +11,23 @@
 //! | 4 m | 8,200,000 kg | 2,000 mm | 8,333 mm | 10,333 mm |
 //! | 6 m | 12,300,000 kg | 3,000 mm | 5,556 mm | 8,556 mm |
 //!
-//! Her centres of buoyancy and flotation lie at half her length. At 4 m a trim of 1 mm takes 8,200,000 * 100,000^2 / (12 * 4,000) / 100,000 =
-//! 17,083,333 kg mm; the table has 17,000,000 for all draughts, so that trims come out round. At a draught of 8 m the immersed area of each
-//! section is 20 * 8 = 160 m2 = 1,600,000 cm2. The cross curves are given, the same for all displacements, and so is the tank.
+//! Her centres of buoyancy and flotation lie at half her length. At 4 m a trim of 1 mm takes
+//! 8,200,000 * 100,000^2 / (12 * 4,000) / 100,000 = 17,083,333 kg mm; the table has 17,000,000 for
+//! all draughts, so that trims come out round. At a draught of 8 m the immersed area of each
+//! section is 20 * 8 = 160 m2 = 1,600,000 cm2. The cross curves are given, the same for all
+//! displacements, and so is the tank.
 //!
-//! Without cargo she is one block of 8,200,000 kg over her whole length, 6,000 mm above the keel: draught 4,000 mm, no trim, no list,
-//! GM = 10,333 - 6,000 = 4,333 mm. Buoyancy and mass agree in every section, so there is neither shear nor bending.
+//! Without cargo she is one block of 8,200,000 kg over her whole length, 6,000 mm above the keel:
+//! draught 4,000 mm, no trim, no list, GM = 10,333 - 6,000 = 4,333 mm. Buoyancy and mass agree in
+//! every section, so there is neither shear nor bending.
 #![tactic(auto)]
 
 use ship_profile::{Profile, ProfileBytes};
 use std::test::Fail;
 
-/// `ship.toml` before its blocks, for ships of other blocks: her length and limits, five stations 25 m apart, and a frame at each. [`SHIP`]
-/// says it again, since a constant isn't put together of two.
+/// `ship.toml` before its blocks, for ships of other blocks: her length and limits, five stations
+/// 25 m apart, and a frame at each. [`SHIP`] says it again, since a constant isn't put together of
+/// two.
 pub const LIMITS: &str = "lbp_mm = 100000
 downflooding_deg = 60
 draught_max_mm = 6100
@@ -97,8 +103,9 @@ z_mm = 6000
 half_mm = 50000
 ";
 
-/// Five places on deck, 10 m above the keel, all but one of 20 feet: 0030082 amidships, 0030782 beside it, 8 m to starboard; 0010082 and
-/// 0050082 a quarter of the length forward and aft of it; and 0020082 of 40 feet, over the bays 001 and 003.
+/// Five places on deck, 10 m above the keel, all but one of 20 feet: 0030082 amidships, 0030782
+/// beside it, 8 m to starboard; 0010082 and 0050082 a quarter of the length forward and aft of it;
+/// and 0020082 of 40 feet, over the bays 001 and 003.
 pub const CELLS: &str = "cell,x,y,z,half
 0010082,75000,0,10000,3029
 0020082,62500,0,10000,6096
@@ -126,7 +133,8 @@ pub const BONJEAN: &str = "draught,0,25000,50000,75000,100000
 8000,1600000,1600000,1600000,1600000,1600000
 ";
 
-/// A double bottom tank amidships. Its centre rises to 1 m and its free surface moment to 2,050,000,000 kg mm while it is filled.
+/// A double bottom tank amidships. Its centre rises to 1 m and its free surface moment to
+/// 2,050,000,000 kg mm while it is filled.
 pub const TANKS: &str = "tank,kg,x,y,z,half,fsm
 DB1,0,50000,0,0,5000,0
 DB1,500000,50000,0,1000,5000,2050000000
@@ -163,7 +171,8 @@ pub trait Check<R> {
     fn check(&self, rt: &R, profile: &Profile) -> Result<(), Fail>;
 }
 
-/// Looks at something on the ship of these files. This alone owns a profile, since each way of letting one go is long to prove.
+/// Looks at something on the ship of these files. This alone owns a profile, since each way of
+/// letting one go is long to prove.
 pub fn on_ship<R: AllocGlobal, C: Check<R>>(
     rt: &R,
     files: &ProfileBytes<'_>,

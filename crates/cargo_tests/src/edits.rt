@@ -20,8 +20,8 @@ fn mass(kg: u32) -> Kg {
     Kg::new(kg.min(Kg::MAX)).unwrap()
 }
 
-/// The step of a code: from 1,000 on the load of a container whose mass in kg is the code, below that the filling of a
-/// tank with that mass.
+/// The step of a code: from 1,000 on the load of a container whose mass in kg is the code, below
+/// that the filling of a tank with that mass.
 fn step(code: u32) -> Op {
     if code < 1_000 {
         return Op::Fill {
@@ -198,7 +198,8 @@ fn edits_and_inverses(rt: HostRuntime) -> Result<(), Fail> {
     Ok(())
 }
 
-/// Edits that can't be done, with their faults: the number 0, the number behind the last, and a step that is no load.
+/// Edits that can't be done, with their faults: the number 0, the number behind the last, and a
+/// step that is no load.
 static REFUSED: [(Change, EditFault); 16] = [
     (Change::Swap(0, 1), EditFault::NoStep),
     (Change::Swap(1, 0), EditFault::NoStep),

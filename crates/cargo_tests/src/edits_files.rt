@@ -23,7 +23,8 @@ fn cell(alloc: Global, cell: &Cell) -> Result<String, AllocError> {
     format!(in alloc; "{bay}/{row}/{tier}")
 }
 
-/// What a step prints: what it does, its cells, and in brackets the identification or the tank's name.
+/// What a step prints: what it does, its cells, and in brackets the identification or the tank's
+/// name.
 fn step(alloc: Global, op: &Op) -> Result<String, AllocError> {
     match op {
         Op::Lift(Lift::Load(item)) => load(alloc, item),
@@ -78,7 +79,8 @@ fn shown(alloc: Global, line: &EditLine) -> Result<String, AllocError> {
     }
 }
 
-/// What a file orders, each line with a semicolon behind it, or the number of the line that is refused.
+/// What a file orders, each line with a semicolon behind it, or the number of the line that is
+/// refused.
 fn answer(alloc: Global, text: &[u8]) -> Result<String, AllocError> {
     let lines = match edits(alloc, text) {
         Ok(lines) => lines,
@@ -175,7 +177,8 @@ fn limits_of_numbers(rt: HostRuntime) -> Result<(), Fail> {
     check(&rt, &NUMBERS)
 }
 
-/// Cells of six and seven digits, and others; identifications of 1 to 17 bytes, and names of 1 to 16.
+/// Cells of six and seven digits, and others; identifications of 1 to 17 bytes, and names of 1 to
+/// 16.
 static WORDS: [(&[u8], &str); 20] = [
     (b"insert 1 D 010284 A", "at 1: discharge 1/2/84 [A];"),
     (b"insert 1 D 9999999 A", "at 1: discharge 999/99/99 [A];"),

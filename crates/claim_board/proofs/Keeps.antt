@@ -6,7 +6,7 @@ use native.Mathlib.Decide.{dec_le}
 use Rattle.claim_board.specs.declared.entries.Stage.{Stage}
 use Rattle.claim_board.specs.declared.entries.Stage.TheVariants.{Drawn, Looked, Skipped, Worked, Posted}
 use Rattle.claim_board.specs.declared.entries.Entry.{Entry}
-use Rattle.claim_board.specs.Entries.{total, below, Each, fresh, seen, ended, numbers, is_post, posts, NotBefore, AtMost, lesser}
+use Rattle.claim_board.specs.Entries.{total, below, Each, fresh, with_look, ended, numbers, is_post, posts, NotBefore, AtMost, lesser}
 use Rattle.claim_board.specs.Rule.{FitsStage, Fits, IsKept}
 use Rattle.claim_board.proofs.Sums.{total-set, total_at, total-append, total-replicate, get_set-same, get_set-other, set-swap, each_at, each_set, each_map, each_append, each_replicate, is_same, below_more}
 
@@ -159,9 +159,9 @@ module _ (begin : ℕ → ℕ) (find : ℕ → Option ℕ) (chunks : ℕ) where
   pub sees : {next : ℕ} {least : Option ℕ} {hands : List (List Entry)} (w : ℕ) {e : Entry} {es : List Entry}
       → IsKept begin find chunks next least hands → slice_get hands w ≡ Some (e ∷ es)
       → e.stage ≡ Drawn → e.number < chunks
-      → IsKept begin find chunks next least (set hands w (seen least e ∷ es))
+      → IsKept begin find chunks next least (set hands w (with_look least e ∷ es))
   sees {least = least} w {e = e} {es = es} kept at is low =
-      newest_turn w e es (seen least e) least kept at refl (λ l h. h) (drawn_no_post e Looked is)
+      newest_turn w e es (with_look least e) least kept at refl (λ l h. h) (drawn_no_post e Looked is)
       (λ old later grown. record {
         stage = low;
         look = λ l there. (at_most_itself least l there, (let p = kept.posted l there in let g = grown l in omega arith));

@@ -11,7 +11,7 @@ use Rattle.claim_board.specs.declared.events.Status.TheVariants.{Runs, Stopped, 
 use Rattle.claim_board.specs.declared.events.Outcome.{Outcome}
 use Rattle.claim_board.specs.declared.events.Event.{Event}
 use Rattle.claim_board.specs.declared.events.Event.TheVariants.{Draw, Look, Skip, Work, Post, Stop, Refuse}
-use Rattle.claim_board.specs.Entries.{Each, is_ended, seen, ended, NotBefore}
+use Rattle.claim_board.specs.Entries.{Each, is_ended, with_look, ended, NotBefore}
 use Rattle.claim_board.specs.Rule.{FitsStage, Fits, IsKept}
 use Rattle.claim_board.specs.Board.{Hand, State, Change, entry_lists, found_of, is_before, draws_next, becomes, after_look, after_skip, after_work, after_post, after_stop, outcome_of, outcome_if_runs, newest_of, change_of, change_if_enabled, change_for, worker_of, with_change, after_event, after_all, idle, first_state}
 use Rattle.claim_board.specs.Views.{IsEnded, NewestIsPast, IsShaped, FollowsRule}
@@ -78,9 +78,9 @@ module _ (s : State) (w : ℕ) (rule : FollowsRule s) where
   fits_at e es at = (each_at (Each (Fits (slice_index s.begins) (found_of s.found) (length s.begins) s.least (entry_lists s.hands))) (entry_lists s.hands) w (e ∷ es) rule.kept.fits (lists_at (e ∷ es) at)).0.stage
 
   looks_owes : (e : Entry) (es : List Entry) → IsAt (e ∷ es) → (stage : Stage) → e.stage ≡ stage → OnSome Owes (change_if_enabled (e ∷ es) (after_look s e stage))
-  looks_owes e es at Drawn is = on_cond Owes (e ∷ es) (nat_lt e.number (length s.begins)) (becomes (seen s.least e) Runs s.next s.least) (λ low. (
+  looks_owes e es at Drawn is = on_cond Owes (e ∷ es) (nat_lt e.number (length s.begins)) (becomes (with_look s.least e) Runs s.next s.least) (λ low. (
     sees (slice_index s.begins) (found_of s.found) (length s.begins) w rule.kept (lists_at (e ∷ es) at) is (let h : e.number < length s.begins = grind (arith, nat_tests) in h),
-    runs_shaped (length s.begins) (seen s.least e) es (shaped (e ∷ es) at).ended,
+    runs_shaped (length s.begins) (with_look s.least e) es (shaped (e ∷ es) at).ended,
   ))
   looks_owes e es at Looked is = tt
   looks_owes e es at Skipped is = tt

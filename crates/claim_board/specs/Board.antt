@@ -1,22 +1,27 @@
--- The board and its events: which event of a worker is enabled, and what it changes. A worker draws a number, looks at the least failing step
--- that is posted, skips the chunk of its number or works it, posts the failing step that it found, and stops at a number past the last chunk.
-use Rattle.std.specs.Prelude.{ℕ, zero, suc, ◌+◌, List, [], ◌∷◌, length, slice_get, slice_index, set, map, Bool, true, false, cond, nat_lt, Option, Some, None, replicate}
+-- The board and its events: which event of a worker is enabled, and what it changes. A worker draws
+-- a number, looks at the least failing step that is posted, skips the chunk of its number or works
+-- it, posts the failing step that it found, and stops at a number past the last chunk.
+use Rattle.std.specs.Prelude.{ℕ, zero, suc, ◌+◌, List, [], ◌∷◌, length, slice_get, slice_index, set}
+use Rattle.std.specs.Prelude.{map, Bool, true, false, cond, nat_lt, Option, Some, None, replicate}
 use Rattle.claim_board.specs.declared.entries.Stage.{Stage}
-use Rattle.claim_board.specs.declared.entries.Stage.TheVariants.{Drawn, Looked, Skipped, Worked, Posted}
+use Rattle.claim_board.specs.declared.entries.Stage.TheVariants.{Drawn, Looked, Skipped, Worked}
+use Rattle.claim_board.specs.declared.entries.Stage.TheVariants.{Posted}
 use Rattle.claim_board.specs.declared.entries.Entry.{Entry}
 use Rattle.claim_board.specs.declared.events.Status.{Status}
 use Rattle.claim_board.specs.declared.events.Status.TheVariants.{Runs, Stopped, Refused}
 use Rattle.claim_board.specs.declared.events.Event.{Event}
-use Rattle.claim_board.specs.declared.events.Event.TheVariants.{Draw, Look, Skip, Work, Post, Stop, Refuse}
+use Rattle.claim_board.specs.declared.events.Event.TheVariants.{Draw, Look, Skip, Work, Post, Stop}
+use Rattle.claim_board.specs.declared.events.Event.TheVariants.{Refuse}
 use Rattle.claim_board.specs.declared.events.Outcome.{Outcome}
-use Rattle.claim_board.specs.Entries.{fresh, seen, ended, is_ended, lesser}
+use Rattle.claim_board.specs.Entries.{fresh, with_look, ended, is_ended, lesser}
 
 -- a worker's entries, the newest first, and whether it runs
 pub record Hand : Type 0 where
   pub entries : List Entry
   pub status : Status
 
--- the first step of each chunk and the first failing step in it; the next number; the least step posted; and the workers
+-- the first step of each chunk and the first failing step in it; the next number; the least step
+-- posted; and the workers
 pub record State : Type 0 where
   pub begins : List ℕ
   pub found : List (Option ℕ)
@@ -25,7 +30,8 @@ pub record State : Type 0 where
   pub hands : List Hand
 
 abbrev pub board : List ℕ → List (Option ℕ) → ℕ → Option ℕ → List Hand → State
-board begins found next least hands = record { begins = begins; found = found; next = next; least = least; hands = hands }
+board begins found next least hands =
+    record { begins = begins; found = found; next = next; least = least; hands = hands }
 
 abbrev pub entry_lists : List Hand → List (List Entry)
 entry_lists hands = map (λ (h : Hand). h.entries) hands
@@ -51,14 +57,18 @@ is_before begin (Some l) = nat_lt l begin
 
 -- the outcome of a draw, and of any other event: what the newest entry becomes
 abbrev pub draws_next : ℕ → Option ℕ → Outcome
-draws_next next least = record { draws = true; newest = fresh next; status = Runs; next = next + 1; least = least }
+draws_next next least =
+    record { draws = true; newest = fresh next; status = Runs; next = next + 1; least = least }
 
 abbrev pub becomes : Entry → Status → ℕ → Option ℕ → Outcome
-becomes e status next least = record { draws = false; newest = e; status = status; next = next; least = least }
+becomes e status next least =
+    record { draws = false; newest = e; status = status; next = next; least = least }
 
 -- What each event makes of the newest entry, by its stage, where it is enabled.
 abbrev pub after_look : State → Entry → Stage → Option Outcome
-after_look s e Drawn = cond (nat_lt e.number (length s.begins)) (Some (becomes (seen s.least e) Runs s.next s.least)) None
+after_look s e Drawn =
+    cond (nat_lt e.number (length s.begins))
+    (Some (becomes (with_look s.least e) Runs s.next s.least)) None
 after_look s e Looked = None
 after_look s e Skipped = None
 after_look s e (Worked o) = None
@@ -66,14 +76,18 @@ after_look s e (Posted f) = None
 
 abbrev pub after_skip : State → Entry → Stage → Option Outcome
 after_skip s e Drawn = None
-after_skip s e Looked = cond (is_before (slice_index s.begins e.number) e.looked) (Some (becomes (ended Skipped e) Runs s.next s.least)) None
+after_skip s e Looked =
+    cond (is_before (slice_index s.begins e.number) e.looked)
+    (Some (becomes (ended Skipped e) Runs s.next s.least)) None
 after_skip s e Skipped = None
 after_skip s e (Worked o) = None
 after_skip s e (Posted f) = None
 
 abbrev pub after_work : State → Entry → Stage → Option Outcome
 after_work s e Drawn = None
-after_work s e Looked = cond (is_before (slice_index s.begins e.number) e.looked) None (Some (becomes (ended (Worked (found_of s.found e.number)) e) Runs s.next s.least))
+after_work s e Looked =
+    cond (is_before (slice_index s.begins e.number) e.looked) None
+    (Some (becomes (ended (Worked (found_of s.found e.number)) e) Runs s.next s.least))
 after_work s e Skipped = None
 after_work s e (Worked o) = None
 after_work s e (Posted f) = None
@@ -83,18 +97,21 @@ after_post s e Drawn = None
 after_post s e Looked = None
 after_post s e Skipped = None
 after_post s e (Worked None) = None
-after_post s e (Worked (Some f)) = Some (becomes (ended (Posted f) e) Runs s.next (lesser s.least f))
+after_post s e (Worked (Some f)) =
+    Some (becomes (ended (Posted f) e) Runs s.next (lesser s.least f))
 after_post s e (Posted f) = None
 
 abbrev pub after_stop : State → Entry → Stage → Option Outcome
-after_stop s e Drawn = cond (nat_lt e.number (length s.begins)) None (Some (becomes e Stopped s.next s.least))
+after_stop s e Drawn =
+    cond (nat_lt e.number (length s.begins)) None (Some (becomes e Stopped s.next s.least))
 after_stop s e Looked = None
 after_stop s e Skipped = None
 after_stop s e (Worked o) = None
 after_stop s e (Posted f) = None
 
--- What an event makes of a worker that runs, by its newest entry, where it is enabled. A worker that is refused keeps its entries; where it
--- has none, none takes the place of a newest one (`put_newest` below).
+-- What an event makes of a worker that runs, by its newest entry, where it is enabled. A worker
+-- that is refused keeps its entries; where it has none, none takes the place of a newest one
+-- (`put_newest` below).
 abbrev pub outcome_of : State → Event → Option Entry → Option Outcome
 outcome_of s (Draw w) None = Some (draws_next s.next s.least)
 outcome_of s (Draw w) (Some e) = cond (is_ended e.stage) (Some (draws_next s.next s.least)) None
@@ -134,7 +151,12 @@ pub record Change : Type 0 where
   pub least : Option ℕ
 
 abbrev pub change_of : List Entry → Outcome → Change
-change_of es o = record { hand = record { entries = put_newest o.draws o.newest es; status = o.status }; next = o.next; least = o.least }
+change_of es o =
+    record {
+      hand = record { entries = put_newest o.draws o.newest es; status = o.status };
+      next = o.next;
+      least = o.least;
+    }
 
 abbrev pub change_if_enabled : List Entry → Option Outcome → Option Change
 change_if_enabled es None = None
@@ -143,7 +165,8 @@ change_if_enabled es (Some o) = Some (change_of es o)
 -- an event of a worker that isn't there isn't enabled
 abbrev pub change_for : State → Event → Option Hand → Option Change
 change_for s event None = None
-change_for s event (Some h) = change_if_enabled h.entries (outcome_if_runs s event h.status (newest_of h.entries))
+change_for s event (Some h) =
+    change_if_enabled h.entries (outcome_if_runs s event h.status (newest_of h.entries))
 
 abbrev pub worker_of : Event → ℕ
 worker_of (Draw w) = w
@@ -160,7 +183,14 @@ change_by s event = change_for s event (slice_get s.hands (worker_of event))
 
 abbrev pub with_change : State → ℕ → Option Change → State
 with_change s w None = s
-with_change s w (Some c) = record { begins = s.begins; found = s.found; next = c.next; least = c.least; hands = set s.hands w c.hand }
+with_change s w (Some c) =
+    record {
+      begins = s.begins;
+      found = s.found;
+      next = c.next;
+      least = c.least;
+      hands = set s.hands w c.hand;
+    }
 
 abbrev pub after_event : State → Event → State
 after_event s event = with_change s (worker_of event) (change_by s event)

@@ -1,5 +1,6 @@
 -- What is true of a board at every moment, and once all workers have stopped.
-use Rattle.std.specs.Prelude.{◌≡◌, ℕ, ◌<◌, ◌≤◌, List, length, slice_index, cond, nat_lt, true, Option, Some, None}
+use Rattle.std.specs.Prelude.{◌≡◌, ℕ, ◌<◌, ◌≤◌, List, length, slice_index, cond, nat_lt, true}
+use Rattle.std.specs.Prelude.{Option, Some, None}
 use Rattle.claim_board.specs.declared.entries.Stage.TheVariants.{Skipped, Worked, Posted}
 use Rattle.claim_board.specs.declared.entries.Entry.{Entry}
 use Rattle.claim_board.specs.declared.events.Status.TheVariants.{Stopped}
@@ -13,12 +14,14 @@ IsFair next hands = (k : ℕ) → total (numbers (is k)) hands ≡ cond (nat_lt 
 -- the least of all posted steps, none where none is posted
 abbrev pub IsLeastPosted : Option ℕ → List (List Entry) → Type 0
 IsLeastPosted None hands = (f : ℕ) → total (posts f) hands ≡ 0
-IsLeastPosted (Some l) hands = (0 < total (posts l) hands) × ((f : ℕ) → 0 < total (posts f) hands → l ≤ f)
+IsLeastPosted (Some l) hands = (0 < total (posts l) hands)
+    × ((f : ℕ) → 0 < total (posts f) hands → l ≤ f)
 
--- A chunk is skipped only where its look gave a step before it, which is posted in some hand; a chunk whose look gave such a step is
--- never worked nor posted.
+-- A chunk is skipped only where its look gave a step before it, which is posted in some hand; a
+-- chunk whose look gave such a step is never worked nor posted.
 pub record IsRightlySkipped (begin : ℕ → ℕ) (hands : List (List Entry)) (e : Entry) : Type 0 where
-  pub skipped : e.stage ≡ Skipped → (l : ℕ) × (e.looked ≡ Some l) × (l < begin e.number) × (0 < total (posts l) hands)
+  pub skipped : e.stage ≡ Skipped
+      → (l : ℕ) × (e.looked ≡ Some l) × (l < begin e.number) × (0 < total (posts l) hands)
   pub worked : (o : Option ℕ) → e.stage ≡ Worked o → NotBefore (begin e.number) e.looked
   pub posted : (f : ℕ) → e.stage ≡ Posted f → NotBefore (begin e.number) e.looked
 
@@ -28,7 +31,8 @@ SkipsAreRight begin hands = Each (Each (IsRightlySkipped begin hands)) hands
 -- the least step that any of the first n chunks has, none where none has one
 abbrev pub IsLeastFound : Option ℕ → (ℕ → Option ℕ) → ℕ → Type 0
 IsLeastFound None find n = (k : ℕ) → k < n → find k ≡ None
-IsLeastFound (Some l) find n = ((k : ℕ) × (k < n) × (find k ≡ Some l)) × ((k f : ℕ) → k < n → find k ≡ Some f → l ≤ f)
+IsLeastFound (Some l) find n = ((k : ℕ) × (k < n) × (find k ≡ Some l))
+    × ((k f : ℕ) → k < n → find k ≡ Some f → l ≤ f)
 
 -- the claims above, for a state
 abbrev pub NumbersAreFair : State → Type 0
@@ -49,8 +53,10 @@ pub record IsProblem (begins : List ℕ) (found : List (Option ℕ)) : Type 0 wh
 abbrev pub IsDone : State → Type 0
 IsDone s = Each (λ (h : Hand). h.status ≡ Stopped) s.hands
 
--- Every chunk was drawn, and is skipped, posted, or worked with no failing step; and the least step is the least that any chunk has.
+-- Every chunk was drawn, and is skipped, posted, or worked with no failing step; and the least step
+-- is the least that any chunk has.
 pub record IsAnswered (s : State) : Type 0 where
   pub all : length s.begins ≤ s.next
-  pub ended : Each (Each (λ e. e.number < length s.begins → is_ended e.stage ≡ true)) (entry_lists s.hands)
+  pub ended : Each (Each (λ e. e.number < length s.begins → is_ended e.stage ≡ true))
+      (entry_lists s.hands)
   pub least : IsLeastFound s.least (found_of s.found) (length s.begins)

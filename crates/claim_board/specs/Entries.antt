@@ -1,7 +1,10 @@
--- What workers did with the numbers that they drew, and how that is counted. A hand is the list of a worker's entries, the newest first.
-use Rattle.std.specs.Prelude.{◌≡◌, ℕ, zero, suc, ◌+◌, ◌≤◌, List, [], ◌∷◌, cond, nat_eq, Bool, true, false, Option, Some, None, min}
+-- What workers did with the numbers that they drew, and how that is counted. A hand is the list of
+-- a worker's entries, the newest first.
+use Rattle.std.specs.Prelude.{◌≡◌, ℕ, zero, suc, ◌+◌, ◌≤◌, List, [], ◌∷◌, cond, nat_eq, Bool, true}
+use Rattle.std.specs.Prelude.{false, Option, Some, None, min}
 use Rattle.claim_board.specs.declared.entries.Stage.{Stage}
-use Rattle.claim_board.specs.declared.entries.Stage.TheVariants.{Drawn, Looked, Skipped, Worked, Posted}
+use Rattle.claim_board.specs.declared.entries.Stage.TheVariants.{Drawn, Looked, Skipped, Worked}
+use Rattle.claim_board.specs.declared.entries.Stage.TheVariants.{Posted}
 use Rattle.claim_board.specs.declared.entries.Entry.{Entry}
 
 -- f of each, added up
@@ -23,8 +26,8 @@ Each P (x ∷ xs) = P x × Each P xs
 abbrev pub fresh : ℕ → Entry
 fresh k = record { number = k; looked = None; stage = Drawn }
 
-abbrev pub seen : Option ℕ → Entry → Entry
-seen least e = record { number = e.number; looked = least; stage = Looked }
+abbrev pub with_look : Option ℕ → Entry → Entry
+with_look least e = record { number = e.number; looked = least; stage = Looked }
 
 abbrev pub ended : Stage → Entry → Entry
 ended stage e = record { number = e.number; looked = e.looked; stage = stage }

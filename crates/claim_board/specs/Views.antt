@@ -1,5 +1,6 @@
 -- Bookkeeping: how the code's fields stand for a state, and the rule that every event keeps.
-use Rattle.std.specs.Prelude.{◌≡◌, ℕ, ◌+◌, ◌<◌, ◌≤◌, ◌^◌, List, [], ◌∷◌, length, map, reverse, true, Option, slice_index, slice_index_or, vec_capacity}
+use Rattle.std.specs.Prelude.{◌≡◌, ℕ, ◌+◌, ◌<◌, ◌≤◌, ◌^◌, List, [], ◌∷◌, length, map, reverse, true}
+use Rattle.std.specs.Prelude.{Option, slice_index, slice_index_or, vec_capacity}
 use Rattle.claim_board.specs.declared.entries.Stage.TheVariants.{Drawn}
 use Rattle.claim_board.specs.declared.entries.Entry.{Entry}
 use Rattle.claim_board.specs.declared.events.Status.TheVariants.{Stopped}
@@ -29,7 +30,8 @@ pub record IsShaped (n : ℕ) (h : Hand) : Type 0 where
 
 -- the rule of a state: that of its entries, and the shape of each hand
 pub record FollowsRule (s : State) : Type 0 where
-  pub kept : IsKept (slice_index s.begins) (found_of s.found) (length s.begins) s.next s.least (entry_lists s.hands)
+  pub kept : IsKept (slice_index s.begins) (found_of s.found) (length s.begins) s.next s.least
+      (entry_lists s.hands)
   pub shapes : Each (IsShaped (length s.begins)) s.hands
 
 -- the code keeps the oldest entry first
@@ -40,7 +42,9 @@ abbrev pub state_of : List ℕ → List (Option ℕ) → ℕ → Option ℕ → 
 state_of begins found next least workers = board begins found next least (map hand_of workers)
 
 -- the rule holds, and each worker has room for every entry that it can make
-pub record IsSound (begins : List ℕ) (found : List (Option ℕ)) (next : ℕ) (least : Option ℕ) (workers : List Worker) : Type 0 where
+pub record IsSound (begins : List ℕ) (found : List (Option ℕ)) (next : ℕ) (least : Option ℕ)
+    (workers : List Worker) : Type 0 where
   pub rule : FollowsRule (state_of begins found next least workers)
   pub few : length begins + length workers + 1 < 2 ^ 32
-  pub room : (k : ℕ) (d : Worker) → k < length workers → length begins + length workers + 1 ≤ vec_capacity (slice_index_or workers k d).entries
+  pub room : (k : ℕ) (d : Worker) → k < length workers
+      → length begins + length workers + 1 ≤ vec_capacity (slice_index_or workers k d).entries

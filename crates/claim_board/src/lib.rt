@@ -1,6 +1,6 @@
-//! The board of a parallel run as a pure machine over events: workers draw the numbers of chunks, look at the least failing step, skip or work
-//! the chunk, and post the failing step that they find. What is true after every list of events is proved here, for every number of
-//! workers.
+//! The board of a parallel run as a pure machine over events: workers draw the numbers of chunks,
+//! look at the least failing step, skip or work the chunk, and post the failing step that they
+//! find. What is true after every list of events is proved here, for every number of workers.
 #![tactic(auto)]
 
 mod entries;

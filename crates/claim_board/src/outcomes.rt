@@ -1,6 +1,7 @@
 ghost use Rattle.std.specs.Prelude.{◌≡◌, ◌+◌, ◌<◌, ◌^◌, ◌-◌, List, None, slice_index};
 ghost use Rattle.claim_board.specs.Entries.{ended, is_ended, lesser};
-ghost use Rattle.claim_board.specs.Board.{Hand, State, board, found_of, is_before, draws_next, becomes, outcome_of};
+ghost use Rattle.claim_board.specs.Board.{Hand, State, board, found_of, is_before, draws_next};
+ghost use Rattle.claim_board.specs.Board.{becomes, outcome_of};
 
 use crate::entries::{Entry, Stage};
 use crate::events::{Event, Outcome, Status};
@@ -35,7 +36,8 @@ fn least_with(least: Option<u32>, step: u32) -> Option<u32>
     }
 }
 
-/// A chunk's first step. Past the last chunk it is 0, as in the definition, so that nothing has to be known of the number.
+/// A chunk's first step. Past the last chunk it is 0, as in the definition, so that nothing has to
+/// be known of the number.
 fn begin_of(begins: &[u32], number: u32) -> u32
     ensures { result ≡ slice_index begins.now number }
 {

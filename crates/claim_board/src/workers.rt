@@ -1,5 +1,7 @@
-ghost use Rattle.std.specs.Prelude.{◌≡◌, ℕ, ◌-◌, ◌<◌, ◌≤◌, ◌^◌, List, Some, reverse, IfOk, vec_len, vec_capacity, slice_index_or, map, replicate};
-ghost use Rattle.claim_board.specs.Board.{Hand, board, change_of, change_for, change_if_enabled, idle};
+ghost use Rattle.std.specs.Prelude.{◌≡◌, ℕ, ◌-◌, ◌<◌, ◌≤◌, ◌^◌, List, Some, reverse, IfOk, vec_len};
+ghost use Rattle.std.specs.Prelude.{vec_capacity, slice_index_or, map, replicate};
+ghost use Rattle.claim_board.specs.Board.{Hand, board, change_of, change_for, change_if_enabled};
+ghost use Rattle.claim_board.specs.Board.{idle};
 ghost use Rattle.claim_board.specs.Views.{hand_of};
 
 use crate::entries::Entry;
@@ -42,7 +44,8 @@ pub fn worker_outcome(
     )
 }
 
-/// Changes the worker as the outcome says. There must be room for one entry more, so no memory is asked for.
+/// Changes the worker as the outcome says. There must be room for one entry more, so no memory is
+/// asked for.
 pub fn change_worker(worker: &mut Worker, outcome: Outcome)
     requires { vec_len worker.old.entries < vec_capacity worker.old.entries }
     ensures hand { hand_of worker.new ≡ (change_of (hand_of worker.old).entries outcome).hand }

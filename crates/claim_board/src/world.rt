@@ -1,5 +1,6 @@
 ghost use Rattle.std.specs.Prelude.{◌≡◌, ◌≤◌, ◌^◌, ◌↔◌, length, reverse, IfOk, IsTrue, IsSome};
-ghost use Rattle.claim_board.specs.Board.{first_state, change_by, after_event, entries_at, worker_of};
+ghost use Rattle.claim_board.specs.Board.{first_state, change_by, after_event, entries_at};
+ghost use Rattle.claim_board.specs.Board.{worker_of};
 
 use crate::entries::Entry;
 use crate::events::Event;
@@ -43,9 +44,10 @@ fn worker_number(event: Event) -> u8
 }
 
 impl World {
-    /// The board at first: `workers` workers that run, with no entries, and chunks that begin with the steps `begins` and have the first
-    /// failing steps `found`, none past the list's end. Memory for every entry that the workers can make is reserved here; the one error is
-    /// out of memory. The caller sees to it that there are at most 2^31 chunks.
+    /// The board at first: `workers` workers that run, with no entries, and chunks that begin with
+    /// the steps `begins` and have the first failing steps `found`, none past the list's end.
+    /// Memory for every entry that the workers can make is reserved here; the one error is out of
+    /// memory. The caller sees to it that there are at most 2^31 chunks.
     pub fn new(
         alloc: Global,
         workers: u8,
@@ -71,7 +73,8 @@ impl World {
         })
     }
 
-    /// The event happens, where it is enabled, and the answer is true; else nothing changes, and the answer is false. It takes no memory.
+    /// The event happens, where it is enabled, and the answer is true; else nothing changes, and
+    /// the answer is false. It takes no memory.
     pub fn apply(&mut self, event: Event) -> bool
         ensures enabled { IsTrue result ↔ IsSome (change_by self.old event) }
         ensures change { self.new ≡ after_event self.old event }

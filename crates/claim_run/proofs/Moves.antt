@@ -10,7 +10,7 @@ use Rattle.atomic_table.proofs.Lists.{at_set}
 use Rattle.claim_board.specs.declared.entries.Stage.{Stage}
 use Rattle.claim_board.specs.declared.entries.Stage.TheVariants.{Drawn, Looked, Skipped, Worked, Posted}
 use Rattle.claim_board.specs.declared.entries.Entry.{Entry}
-use Rattle.claim_board.specs.Entries.{total, Each, fresh, seen, ended, numbers, below, is_post, NotBefore, AtMost, lesser}
+use Rattle.claim_board.specs.Entries.{total, Each, fresh, with_look, ended, numbers, below, is_post, NotBefore, AtMost, lesser}
 use Rattle.claim_board.specs.Rule.{FitsStage, Fits, IsKept}
 use Rattle.claim_board.proofs.Sums.{total-append, each_at, each_map, set_same}
 use Rattle.claim_board.proofs.Keeps as keeping
@@ -170,10 +170,10 @@ module _ (begin : ℕ → ℕ) (find : ℕ → Option ℕ) (pieces workers : ℕ
       let n = slice_index s.words 1 in
       let least = least_of n in
       let all = fits_at s id me.0 rule at in (
-        view me.0.workers (on_newest (seen least) me.0.entries),
+        view me.0.workers (on_newest (with_look least) me.0.entries),
         keeps,
         tt,
-        changes_newest id me e es (seen least) n is refl staffed s rule at (λ there. keeping.sees begin find pieces id rule.kept there at_draw low),
+        changes_newest id me e es (with_look least) n is refl staffed s rule at (λ there. keeping.sees begin find pieces id rule.kept there at_draw low),
         (
           refl,
           each_map (Fits begin find pieces least (hands_of s.views)) (λ (x : Entry). ((l : ℕ) → x.looked ≡ Some l → AtMost least l) × ((f : ℕ) → x.stage ≡ Posted f → AtMost least f)) me.0.entries

@@ -1,7 +1,7 @@
 -- What a turn makes of a hand, step by step.
 use Rattle.std.proofs.Common.{◌≡◌, ℕ, ◌+◌, ◌<◌, ◌≤◌, List, [], ◌∷◌, ap, sym, ◌∙◌, refl, arith, Some, None}
 use Rattle.claim_board.specs.declared.entries.Entry.{Entry}
-use Rattle.claim_board.specs.Entries.{total, fresh, seen, ended, numbers, NotBefore}
+use Rattle.claim_board.specs.Entries.{total, fresh, with_look, ended, numbers, NotBefore}
 use Rattle.claim_run.specs.declared.views.View.{View}
 use Rattle.claim_run.specs.declared.views.Pending.{Pending}
 use Rattle.claim_run.specs.declared.views.Pending.TheVariants as pending

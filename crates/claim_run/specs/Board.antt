@@ -30,7 +30,8 @@ abbrev pub scout_of : {S : Type 0} → Board S → S
 scout_of board = scout_in board.inner
 
 -- a hand of this board, of which the scout knows each chunk
-pub record IsHandOf {S : Type 0} (begins : S → ℕ → ℕ) (finds : S → ℕ → Option ℕ) (pieces : S → ℕ) (board : Board S) (hand : Hand) : Type 0 where
+pub record IsHandOf {S : Type 0} (begins : S → ℕ → ℕ) (finds : S → ℕ → Option ℕ) (pieces : S → ℕ)
+    (board : Board S) (hand : Hand) : Type 0 where
   pub own : IsOf begins finds board.inner hand
   pub within : pieces_of board ≤ pieces (scout_of board)
 

@@ -1,7 +1,7 @@
 -- Bookkeeping: what calls on the board that threads share know of it and of its hands.
 use Rattle.std.specs.Prelude.{◌≡◌, ℕ, ◌+◌, ◌<◌, ◌≤◌, ◌^◌, List, [], ◌∷◌, Option, Some, None}
 use Rattle.claim_board.specs.declared.entries.Entry.{Entry}
-use Rattle.claim_board.specs.Entries.{fresh, seen}
+use Rattle.claim_board.specs.Entries.{fresh, with_look}
 use Rattle.claim_run.specs.declared.shared_board.Hand.{Hand}
 use Rattle.claim_run.specs.declared.shared_board.SharedBoard.{SharedBoard}
 use Rattle.claim_run.specs.declared.views.Pending.TheVariants.{Nothing}
@@ -18,10 +18,12 @@ pub record Knows {S : Type 0} (pieces : S → ℕ) (board : SharedBoard S) (scou
   pub within : board.pieces ≤ pieces scout
 
 -- a hand of the board
-pub record IsOf {S : Type 0} (begins : S → ℕ → ℕ) (finds : S → ℕ → Option ℕ) (board : SharedBoard S) (hand : Hand) : Type 0 where
+pub record IsOf {S : Type 0} (begins : S → ℕ → ℕ) (finds : S → ℕ → Option ℕ)
+    (board : SharedBoard S) (hand : Hand) : Type 0 where
   pub table : hand.seat.table_id ≡ board.table.shared.table_id
   pub slots : hand.seat.me.1 ≡ []
-  pub settles : MayEnd (begins (scout_in board)) (finds (scout_in board)) hand.pending hand.seat.me.0.entries
+  pub settles : MayEnd (begins (scout_in board))
+      (finds (scout_in board)) hand.pending hand.seat.me.0.entries
 
 -- a hand of the board that has done nothing and stands for n workers
 pub record IsNew {S : Type 0} (board : SharedBoard S) (n : ℕ) (hand : Hand) : Type 0 where
@@ -45,7 +47,8 @@ pub record HasDrawn {S : Type 0} (board : SharedBoard S) (k : ℕ) (hand : Hand)
 
 -- the newest entry is of number k, and has found this in word 1
 pub record HasLooked (word k : ℕ) (hand : Hand) : Type 0 where
-  pub newest : hand.seat.me.0.entries ≡ seen (least_of word) (fresh k) ∷ tail hand.seat.me.0.entries
+  pub newest : hand.seat.me.0.entries
+      ≡ with_look (least_of word) (fresh k) ∷ tail hand.seat.me.0.entries
   pub staffed : 0 < hand.seat.me.0.workers
 
 -- what a step is read from word 1 as

@@ -1,5 +1,6 @@
 -- Bookkeeping: slots for the values of numbered pieces.
-use Rattle.std.specs.Prelude.{◌≡◌, ℕ, zero, suc, List, [], ◌∷◌, Bool, true, false, Option, Some, None}
+use Rattle.std.specs.Prelude.{◌≡◌, ℕ, zero, suc, List, [], ◌∷◌, Bool, true, false, Option, Some}
+use Rattle.std.specs.Prelude.{None}
 
 abbrev pub Holds : {X : Type 0} → (ℕ → X) → ℕ → Option X → Type 0
 Holds value k None = Unit {0}

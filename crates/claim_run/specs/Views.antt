@@ -1,5 +1,5 @@
--- The table of a run. Word 0 is the next number; word 1 is the least posted step, or the greatest u64 for none. A seat sees the entries of the
--- workers that it stands for.
+-- The table of a run. Word 0 is the next number; word 1 is the least posted step, or the greatest
+-- u64 for none. A seat sees the entries of the workers that it stands for.
 use Rattle.std.specs.Prelude.{ℕ, List, map, cond, nat_lt, nat_eq, Option, Some, None}
 use Rattle.claim_board.specs.declared.entries.Entry.{Entry}
 use Rattle.claim_run.specs.declared.views.View.{View}

@@ -12,7 +12,8 @@ pub trait Job: Sync {
 
     ghost pieces: { Self → ℕ };
 
-    /// The value of piece `k`, or an error where there is no memory. Called once for each `k` below `pieces`, by any thread.
+    /// The value of piece `k`, or an error where there is no memory. Called once for each `k` below
+    /// `pieces`, by any thread.
     fn piece(&self, alloc: Global, k: u32) -> Result<Self::Out, AllocError>
         requires { k < pieces self.now }
         ensures { IfOk result (λ x. x ≡ value self.now k) };

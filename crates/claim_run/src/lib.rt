@@ -1,8 +1,10 @@
-//! Threads that draw the numbers of chunks from a shared board, each chunk to one of them, with an early stop: a chunk isn't looked at once a
-//! failing step before it is known. The answers are those of one thread, for every number of workers and every schedule.
+//! Threads that draw the numbers of chunks from a shared board, each chunk to one of them, with an
+//! early stop: a chunk isn't looked at once a failing step before it is known. The answers are
+//! those of one thread, for every number of workers and every schedule.
 //!
-//! [`run`] and [`run_least`] are the whole: they start as many threads as workers over one [`Board`]'s table and join them all. A [`Board`] serves
-//! threads of a caller's own. It knows no ship.
+//! [`run`] and [`run_least`] are the whole: they start as many threads as workers over one
+//! [`Board`]'s table and join them all. A [`Board`] serves threads of a caller's own. It knows no
+//! ship.
 #![tactic(auto)]
 
 mod board;

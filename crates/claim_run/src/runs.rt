@@ -17,7 +17,8 @@ use std::alloc::{AllocError, Global};
 use std::sync::Wait;
 use std::thread::Threads;
 
-// Joins the hands of all workers into one, and puts the values that came with them into the slots. The first error of a worker is answered.
+// Joins the hands of all workers into one, and puts the values that came with them into the slots.
+// The first error of a worker is answered.
 fn gather<S: Scout, J: Job>(
     board: &SharedBoard<S>,
     job: &J,
@@ -55,7 +56,8 @@ fn gather<S: Scout, J: Job>(
     Ok(hand)
 }
 
-// Works the pieces of a job and looks for the least step that a scout finds, by as many threads as workers.
+// Works the pieces of a job and looks for the least step that a scout finds, by as many threads as
+// workers.
 fn run_both<S: Scout, J: Job, G: Gate, R: Threads + Wait + Sync>(
     rt: &R,
     alloc: Global,
@@ -78,10 +80,11 @@ fn run_both<S: Scout, J: Job, G: Gate, R: Threads + Wait + Sync>(
     Ok((unwrapped(job, alloc, slots)?, least))
 }
 
-/// The values of the pieces 0, 1, .. below `pieces`, in order: those that one thread would give. It starts as many threads as workers, which draw
-/// pieces until none is left, and joins them all. An error where a piece answers one, where there is no memory, or where a thread isn't started; then
-/// too all that were started have been joined, and what they made is dropped. Which worker works a piece isn't promised, nor, at an error, which
-/// pieces were worked.
+/// The values of the pieces 0, 1, .. below `pieces`, in order: those that one thread would give. It
+/// starts as many threads as workers, which draw pieces until none is left, and joins them all. An
+/// error where a piece answers one, where there is no memory, or where a thread isn't started; then
+/// too all that were started have been joined, and what they made is dropped. Which worker works a
+/// piece isn't promised, nor, at an error, which pieces were worked.
 pub fn run<J: Job, G: Gate, R: Threads + Wait + Sync>(
     rt: &R,
     alloc: Global,
@@ -97,8 +100,9 @@ pub fn run<J: Job, G: Gate, R: Threads + Wait + Sync>(
     Ok(values)
 }
 
-/// The least failing step of the chunks 0, 1, .. below `pieces`, none where none has one: what one thread would find that looks at them all. A
-/// chunk that begins behind a step that was posted isn't looked at. Threads, errors and what isn't promised are as of [`run`].
+/// The least failing step of the chunks 0, 1, .. below `pieces`, none where none has one: what one
+/// thread would find that looks at them all. A chunk that begins behind a step that was posted
+/// isn't looked at. Threads, errors and what isn't promised are as of [`run`].
 pub fn run_least<S: Scout, G: Gate, R: Threads + Wait + Sync>(
     rt: &R,
     alloc: Global,

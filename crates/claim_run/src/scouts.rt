@@ -1,6 +1,7 @@
 ghost use Rattle.std.specs.Prelude.{◌≡◌, ℕ, ◌<◌, ◌≤◌, ◌^◌, Option, Some};
 
-/// What a run with an early stop looks for: where each chunk begins, and the first failing step in it. Threads share it.
+/// What a run with an early stop looks for: where each chunk begins, and the first failing step in
+/// it. Threads share it.
 pub trait Scout: Sync {
     // The first step of a chunk, its first failing step, and how many chunks there are at least.
     ghost begins: { Self → ℕ → ℕ };
@@ -14,7 +15,8 @@ pub trait Scout: Sync {
         requires { k < pieces self.now }
         ensures { result ≡ begins self.now k };
 
-    /// The first failing step of chunk `k`, or none. Called for `k` below `pieces` alone, and not for a chunk that is skipped.
+    /// The first failing step of chunk `k`, or none. Called for `k` below `pieces` alone, and not
+    /// for a chunk that is skipped.
     fn look(&self, k: u32) -> Option<u32>
         requires { k < pieces self.now }
         ensures { result ≡ finds self.now k };
@@ -24,8 +26,9 @@ pub trait Scout: Sync {
         → (begins s k ≤ step) × (step < 2 ^ 32) };
 }
 
-/// What is called once for every chunk that a worker takes, after the draw and before the look and the work. Nothing is claimed of it: it lets a
-/// test stop one worker until another has reached a place.
+/// What is called once for every chunk that a worker takes, after the draw and before the look and
+/// the work. Nothing is claimed of it: it lets a test stop one worker until another has reached a
+/// place.
 pub trait Gate: Sync {
     /// The worker of this number has drawn the chunk.
     fn pass(&self, worker: u8, chunk: u32);

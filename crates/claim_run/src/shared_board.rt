@@ -7,14 +7,16 @@ use crate::views::{Pending, View};
 use atomic_table::{Seat, Table};
 use std::alloc::Global;
 
-/// What some workers of a board did, and their right to take turns at it. A hand is used at its own board.
+/// What some workers of a board did, and their right to take turns at it. A hand is used at its own
+/// board.
 #[derive(Drop)]
 pub struct Hand {
     pub(crate) seat: Seat<(), View>,
     pub(crate) pending: Pending,
 }
 
-/// A table of a run. It has no lifetime, so that threads may share it beside the scout that they call.
+/// A table of a run. It has no lifetime, so that threads may share it beside the scout that they
+/// call.
 #[derive(Drop)]
 pub struct SharedBoard<S: Scout> {
     pub table: Table<(), View, Plan<S>, RunRule<S>, Global>,

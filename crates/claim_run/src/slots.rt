@@ -1,5 +1,6 @@
 // Values of numbered pieces, put in order.
-ghost use Rattle.std.specs.Prelude.{◌≡◌, ◌⊎◌, ℕ, ◌<◌, length, slice_index_or, IfOk, vec_len, true, None};
+ghost use Rattle.std.specs.Prelude.{◌≡◌, ◌⊎◌, ℕ, ◌<◌, length, slice_index_or, IfOk, vec_len, true};
+ghost use Rattle.std.specs.Prelude.{None};
 ghost use Rattle.claim_board.specs.Entries.{Each, total, is};
 ghost use Rattle.claim_run.specs.OneThread.{one_thread_values};
 ghost use Rattle.claim_run.specs.Slots.{IsRight, is_there};

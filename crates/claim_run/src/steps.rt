@@ -1,12 +1,14 @@
 // The steps of a hand on the board that threads share.
-ghost use Rattle.std.specs.Prelude.{◌≡◌, ◌+◌, ◌-◌, ◌<◌, ◌≤◌, ◌^◌, [], ◌∷◌, ◌++◌, IfOk, IfSome, Some, None};
-ghost use Rattle.claim_board.specs.Entries.{fresh, seen, ended};
+ghost use Rattle.std.specs.Prelude.{◌≡◌, ◌+◌, ◌-◌, ◌<◌, ◌≤◌, ◌^◌, [], ◌∷◌, ◌++◌, IfOk, IfSome};
+ghost use Rattle.std.specs.Prelude.{Some, None};
+ghost use Rattle.claim_board.specs.Entries.{fresh, with_look, ended};
 ghost use Rattle.claim_board.specs.Rule.{IsKept};
 ghost use Rattle.claim_board.specs.declared.entries.Stage.TheVariants.{Posted};
 ghost use Rattle.claim_run.specs.Views.{view, least_of};
 ghost use Rattle.claim_run.specs.Plays.{AtMostAll};
 ghost use Rattle.claim_run.specs.Hands.{entries_with, TookTurn, DrewLate, LooksBack, MayEnd};
-ghost use Rattle.claim_run.specs.Shared.{scout_in, Knows, IsOf, IsNew, MayDraw, HasDrawn, HasLooked, IsWord, tail};
+ghost use Rattle.claim_run.specs.Shared.{scout_in, Knows, IsOf, IsNew, MayDraw, HasDrawn};
+ghost use Rattle.claim_run.specs.Shared.{HasLooked, IsWord, tail};
 ghost use Rattle.claim_run.specs.declared.views.Pending.TheVariants.{Nothing};
 
 use crate::scouts::{Gate, Scout};
@@ -81,7 +83,7 @@ impl<S: Scout> SharedBoard<S> {
             × (hand.new.pending ≡ hand.old.pending) }
         ensures seen { hand.new.seat.me ≡ (
           view hand.old.seat.me.0.workers
-              (seen (least_of result) (fresh number) ∷ tail hand.old.seat.me.0.entries),
+              (with_look (least_of result) (fresh number) ∷ tail hand.old.seat.me.0.entries),
           hand.old.seat.me.1,
         ) }
         ensures least { AtMostAll (least_of result) (tail hand.old.seat.me.0.entries) }
@@ -100,7 +102,7 @@ impl<S: Scout> SharedBoard<S> {
             × (hand.new.pending ≡ hand.old.pending) }
         ensures posted { hand.new.seat.me ≡ (
           view hand.old.seat.me.0.workers
-              (ended (Posted step) (seen (least_of least) (fresh number))
+              (ended (Posted step) (with_look (least_of least) (fresh number))
               ∷ tail hand.old.seat.me.0.entries),
           hand.old.seat.me.1,
         ) }
@@ -169,7 +171,8 @@ impl<S: Scout> SharedBoard<S> {
         Hand { seat, pending }
     }
 
-    /// Takes in what another hand did. What is still pending of the other's newest entry is left out.
+    /// Takes in what another hand did. What is still pending of the other's newest entry is left
+    /// out.
     pub fn join(&self, hand: &mut Hand, other: Hand)
         requires seats { (hand.old.seat.table_id ≡ self.now.table.shared.table_id)
             × (other.seat.table_id ≡ self.now.table.shared.table_id)

@@ -1,4 +1,5 @@
-// The table of a run, the rule that its words and views keep, and what each step on a word shows its thread.
+// The table of a run, the rule that its words and views keep, and what each step on a word shows
+// its thread.
 use crate::scouts::Scout;
 use crate::views::View;
 use atomic_table::{Join, Play, Split, TableRule};

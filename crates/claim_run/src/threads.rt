@@ -63,7 +63,8 @@ fn join_each<T: Drop, P: Promise<T>, R: Threads>(rt: &R, threads: Vec<PromisedHa
     }
 }
 
-// Starts as many threads as workers, each with a hand of its own, the first hand's last. Where one isn't started, those before it are joined.
+// Starts as many threads as workers, each with a hand of its own, the first hand's last. Where one
+// isn't started, those before it are joined.
 fn start_all<'s, E, S: Scout, G: Gate, J: Job, R: Threads + Wait + Sync>(
     scope: &Scope<'s, E>,
     alloc: Global,
@@ -126,8 +127,9 @@ fn join_all<'s, S: Scout, J: Job, R: Threads>(
     }
 }
 
-/// What as many threads as workers give, each of which drew chunks until none was left. An error where one isn't started, or where there is no
-/// memory; then too every thread that was started has been joined.
+/// What as many threads as workers give, each of which drew chunks until none was left. An error
+/// where one isn't started, or where there is no memory; then too every thread that was started has
+/// been joined.
 pub fn run_threads<S: Scout, G: Gate, J: Job, R: Threads + Wait + Sync>(
     rt: &R,
     alloc: Global,

@@ -1,8 +1,10 @@
-ghost use Rattle.std.specs.Prelude.{◌≡◌, ℕ, ◌+◌, ◌-◌, ◌++◌, ◌<◌, ◌≤◌, [], ◌∷◌, IfOk, IfSome, None, OnErr, OnOk};
+ghost use Rattle.std.specs.Prelude.{◌≡◌, ℕ, ◌+◌, ◌-◌, ◌++◌, ◌<◌, ◌≤◌, [], ◌∷◌, IfOk, IfSome, None};
+ghost use Rattle.std.specs.Prelude.{OnErr, OnOk};
 ghost use Rattle.claim_board.specs.Entries.{numbers, posts};
 ghost use Rattle.claim_board.specs.Claims.{IsFair, IsLeastPosted};
 ghost use Rattle.claim_run.specs.Hands.{TookTurn, DrewLate, LooksBack};
-ghost use Rattle.claim_run.specs.Board.{entries_of, workers_of, pieces_of, staff_of, scout_of, IsHandOf, MayTurn, IsAtRest};
+ghost use Rattle.claim_run.specs.Board.{entries_of, workers_of, pieces_of, staff_of, scout_of};
+ghost use Rattle.claim_run.specs.Board.{IsHandOf, MayTurn, IsAtRest};
 
 use crate::board::Board;
 use crate::scouts::{Gate, Scout};
@@ -11,7 +13,8 @@ use crate::workers::Workers;
 use std::alloc::{AllocError, Global};
 
 impl<'a, S: Scout> Board<'a, S> {
-    /// A board of the first `pieces` chunks of a scout, with the hand of all workers, which has no entries. An error where there is no memory.
+    /// A board of the first `pieces` chunks of a scout, with the hand of all workers, which has no
+    /// entries. An error where there is no memory.
     pub fn new(
         alloc: Global,
         workers: Workers,
@@ -29,8 +32,9 @@ impl<'a, S: Scout> Board<'a, S> {
         Ok((Board { inner, scout }, hand))
     }
 
-    /// A new hand for one of the workers of a hand, which keeps the others and its entries. It takes no memory today; a caller is ready for a
-    /// board that does, and then the hand is as it was.
+    /// A new hand for one of the workers of a hand, which keeps the others and its entries. It
+    /// takes no memory today; a caller is ready for a board that does, and then the hand is as it
+    /// was.
     pub fn split(&self, hand: &mut Hand) -> Result<Hand, AllocError>
         requires hand { IsHandOf S.begins S.finds S.pieces self.now hand.old }
         requires workers { 2 ≤ workers_of hand.old }
@@ -46,9 +50,10 @@ impl<'a, S: Scout> Board<'a, S> {
         Ok(self.inner.split(hand))
     }
 
-    /// One chunk from its draw to its end: `Some` of its number, with one entry more in the hand, which is skipped where its look was a step before
-    /// the chunk, and else worked without a find or posted. `None` where no chunk is left, and then the worker takes no further turn. Which hand
-    /// draws which chunk isn't promised.
+    /// One chunk from its draw to its end: `Some` of its number, with one entry more in the hand,
+    /// which is skipped where its look was a step before the chunk, and else worked without a find
+    /// or posted. `None` where no chunk is left, and then the worker takes no further turn. Which
+    /// hand draws which chunk isn't promised.
     pub fn turn<G: Gate>(&self, gate: &G, worker: u8, hand: &mut Hand) -> Option<u32>
         requires hand { IsHandOf S.begins S.finds S.pieces self.now hand.old }
         requires may { MayTurn self.now hand.old }
@@ -82,8 +87,8 @@ impl<'a, S: Scout> Board<'a, S> {
         self.inner.join(hand, other);
     }
 
-    /// The next number and the least posted step, none where none is posted, once every hand is joined: the numbers below the next one are in
-    /// the hand, each once.
+    /// The next number and the least posted step, none where none is posted, once every hand is
+    /// joined: the numbers below the next one are in the hand, each once.
     pub fn close(self, hand: Hand) -> (u64, Option<u32>)
         requires hand { IsHandOf S.begins S.finds S.pieces self hand }
         requires all { workers_of hand ≡ staff_of self }

@@ -8,7 +8,8 @@ pub struct View {
     pub entries: LinkedList<Entry>,
 }
 
-/// What has become of a hand's newest entry since its last step on a word. It enters the view with the next draw.
+/// What has become of a hand's newest entry since its last step on a word. It enters the view with
+/// the next draw.
 #[derive(Clone, Copy)]
 pub enum Pending {
     Nothing,

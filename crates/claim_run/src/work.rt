@@ -16,7 +16,8 @@ pub struct WorkDone<T> {
     pub values: Vec<(u32, T)>,
 }
 
-/// Draws chunks and works their pieces until none is left. An error where a piece answers one, or where there is no memory for its value.
+/// Draws chunks and works their pieces until none is left. An error where a piece answers one, or
+/// where there is no memory for its value.
 pub fn work<S: Scout, G: Gate, J: Job, R: Wait>(
     rt: &R,
     alloc: Global,

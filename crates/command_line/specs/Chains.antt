@@ -7,7 +7,8 @@ use Rattle.clap.specs.declared.builder.arg.Arg.{Arg}
 use Rattle.clap.specs.declared.builder.command.Command.{Command}
 use Rattle.clap.specs.declared.builder.command.Command.TheViews.{out-Command}
 
--- an argument of this rule, which excludes nothing and is this command's alone; one that has to be there takes a value
+-- an argument of this rule, which excludes nothing and is this command's alone; one that has to be
+-- there takes a value
 pub record IsArgumentOf (rule : Rule) (argument : Arg) : Type 0 where
   pub same : rule_of argument ≡ rule
   pub plain : IsPlainArg argument
@@ -18,7 +19,8 @@ abbrev pub AreArgumentsOf : List Rule → List Arg → Type 0
 AreArgumentsOf [] [] = ⊤
 AreArgumentsOf [] (argument ∷ arguments) = ⊥
 AreArgumentsOf (rule ∷ rules) [] = ⊥
-AreArgumentsOf (rule ∷ rules) (argument ∷ arguments) = IsArgumentOf rule argument × AreArgumentsOf rules arguments
+AreArgumentsOf (rule ∷ rules) (argument ∷ arguments) =
+    IsArgumentOf rule argument × AreArgumentsOf rules arguments
 
 -- a command that takes nothing yet
 pub record IsBare (app : App) (command : Command) : Type 0 where

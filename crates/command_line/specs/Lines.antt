@@ -15,17 +15,25 @@ IsEditsWord rows WhatIf None = ⊥
 IsEditsWord rows Check edits = edits ≡ None
 IsEditsWord rows First edits = edits ≡ None
 
--- each field is the word that the command's definition gives it, and there is a steps file exactly where it gives one
+-- each field is the word that the command's definition gives it, and there is a steps file exactly
+-- where it gives one
 pub record IsLineOf (words : List Text) (line : Line) : Type 0 where
-  pub folder : first_of (codes "FOLDER") (matches_of (command_of line.task) words) ≡ Some line.folder.now
-  pub baplie : first_of (codes "BAPLIE") (matches_of (command_of line.task) words) ≡ Some line.baplie.now
-  pub movins : first_of (codes "MOVINS") (matches_of (command_of line.task) words) ≡ Some line.movins.now
-  pub edits : IsEditsWord (matches_of (command_of line.task) words) line.task (option_map (λ s. s.now) line.edits)
-  pub steps : first_of (codes "steps") (matches_of (command_of line.task) words) ≡ option_map (λ s. s.now) line.steps
-  pub workers : IsNumberOf (one_of (codes "workers") (matches_of (command_of line.task) words)) 4 line.workers
+  pub folder : first_of (codes "FOLDER") (matches_of (command_of line.task) words)
+      ≡ Some line.folder.now
+  pub baplie : first_of (codes "BAPLIE") (matches_of (command_of line.task) words)
+      ≡ Some line.baplie.now
+  pub movins : first_of (codes "MOVINS") (matches_of (command_of line.task) words)
+      ≡ Some line.movins.now
+  pub edits : IsEditsWord (matches_of (command_of line.task) words) line.task
+      (option_map (λ s. s.now) line.edits)
+  pub steps : first_of (codes "steps") (matches_of (command_of line.task) words)
+      ≡ option_map (λ s. s.now) line.steps
+  pub workers : IsNumberOf
+      (one_of (codes "workers") (matches_of (command_of line.task) words)) 4 line.workers
   pub some_workers : 1 ≤ line.workers
   pub few_workers : line.workers ≤ 16
-  pub chunk : IsNumberOf (one_of (codes "chunk") (matches_of (command_of line.task) words)) 256 line.chunk
+  pub chunk : IsNumberOf
+      (one_of (codes "chunk") (matches_of (command_of line.task) words)) 256 line.chunk
   pub at_least : 1 ≤ line.chunk
   pub at_most : line.chunk ≤ 200_000
 

@@ -13,7 +13,9 @@ HasWord matches name = is_some (first_value (found_of matches) name) ≡ true
 -- an option that is given has a text that its parser takes, and is read as that parser reads it
 abbrev pub IsAccepted : ArgMatches → List ℕ → ValueParser → Type 0
 IsAccepted matches name parser = HasWord matches name
-    → (text : List ℕ) × (one_text (found_of matches) name ≡ Some (read_as (reading_of parser) text)) × Accepts false parser text
+    → (text : List ℕ)
+    × (one_text (found_of matches) name ≡ Some (read_as (reading_of parser) text))
+    × Accepts false parser text
 
 -- the word that names the edits file, which is there for `whatif` alone
 abbrev pub HasEdits : Task → ArgMatches → Type 0

@@ -1,7 +1,8 @@
 -- The words of a command line: the first names the command, and the command reads those behind it.
 use Rattle.std.specs.Str.{bytes_eq}
 use Rattle.std.specs.Str.Parse.{digits_value, without_leading_plus}
-use Rattle.std.specs.Prelude.{◌≡◌, codes, if◌then◌else◌, ℕ, pos, true, List, [], ◌∷◌, ◌++◌, Option, Some, None, option_map}
+use Rattle.std.specs.Prelude.{◌≡◌, codes, if◌then◌else◌, ℕ, pos, true, List, [], ◌∷◌, ◌++◌, Option}
+use Rattle.std.specs.Prelude.{Some, None, option_map}
 use Rattle.clap.specs.Words.{App, Rule, Text, new_app, new_rule, with_rule}
 use Rattle.command_line.specs.declared.lines.Task.{Task}
 use Rattle.command_line.specs.declared.lines.Task.TheVariants.{Check, First, WhatIf}
@@ -47,10 +48,12 @@ edits_word task = []
 
 -- the words that have to be there for every command, and the options
 abbrev pub plain_words : List Rule
-plain_words = positional (codes "FOLDER") ∷ positional (codes "BAPLIE") ∷ positional (codes "MOVINS") ∷ []
+plain_words =
+    positional (codes "FOLDER") ∷ positional (codes "BAPLIE") ∷ positional (codes "MOVINS") ∷ []
 
 abbrev pub options : List Rule
-options = option_of (codes "steps") ∷ number_option (codes "workers") 1 16 ∷ number_option (codes "chunk") 1 200_000 ∷ []
+options = option_of (codes "steps") ∷ number_option (codes "workers") 1 16 ∷ number_option
+    (codes "chunk") 1 200_000 ∷ []
 
 -- what a command takes, in this order
 abbrev pub arguments_of : Task → List Rule
@@ -65,8 +68,8 @@ with_rules app (rule ∷ rules) = with_rules (with_rule app rule) rules
 abbrev pub bare : Task → App
 bare task = without_name (new_app (title_of task))
 
--- `loadseq check FOLDER BAPLIE MOVINS [--steps FILE] [--workers N] [--chunk N]`, `loadseq first` with the same words, and `loadseq whatif`
--- with a fourth word, `FOLDER BAPLIE MOVINS EDITS`
+-- `loadseq check FOLDER BAPLIE MOVINS [--steps FILE] [--workers N] [--chunk N]`, `loadseq first`
+-- with the same words, and `loadseq whatif` with a fourth word, `FOLDER BAPLIE MOVINS EDITS`
 abbrev pub command_of : Task → App
 command_of task = with_rules (bare task) (arguments_of task)
 

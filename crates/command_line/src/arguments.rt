@@ -26,8 +26,8 @@ fn masked_text(alloc: Global, bytes: &[u8]) -> Result<String, AllocError>
     Ok(text)
 }
 
-/// A word of the command line as text. One that isn't UTF-8 stays one word: as a path it can't be opened, and it prints with a question
-/// mark for each such byte.
+/// A word of the command line as text. One that isn't UTF-8 stays one word: as a path it can't be
+/// opened, and it prints with a question mark for each such byte.
 pub fn text_of(alloc: Global, bytes: &[u8]) -> Result<String, AllocError>
     ensures { IfOk result (λ text. IsWordOf bytes.now (string_bytes text)) }
 {
@@ -51,7 +51,8 @@ fn word(rt: &impl Env, alloc: Global, number: usize) -> Result<Option<String>, A
     Err(AllocError)
 }
 
-/// The words behind the program's name. `std::env::args` would refuse them all where one of them isn't UTF-8.
+/// The words behind the program's name. `std::env::args` would refuse them all where one of them
+/// isn't UTF-8.
 pub fn words(rt: &impl Env, alloc: Global) -> Result<Vec<String>, AllocError> {
     let mut words = Vec::new(alloc);
     for number in 1..usize::MAX {

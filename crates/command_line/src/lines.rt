@@ -1,11 +1,15 @@
-ghost use Rattle.std.specs.Prelude.{◌≡◌, ◌≢◌, ◌++◌, [], IfOk, IfErr, Some, true, false, map, option_map, codes};
-ghost use Rattle.clap.specs.Words.{app_of, args_of, groups_of, new_app, takes, fault_of, matches_of, rows_of, rule_of, found_of, kind_of};
+ghost use Rattle.std.specs.Prelude.{◌≡◌, ◌≢◌, ◌++◌, [], IfOk, IfErr, Some, true, false, map};
+ghost use Rattle.std.specs.Prelude.{option_map, codes};
+ghost use Rattle.clap.specs.Words.{app_of, args_of, groups_of, new_app, takes, fault_of};
+ghost use Rattle.clap.specs.Words.{matches_of, rows_of, rule_of, found_of, kind_of};
 ghost use Rattle.clap.specs.Built.{TakesValue, IsPlainArg};
 ghost use Rattle.clap.specs.declared.builder.command.Command.TheViews.{out-Command as fields_of};
 ghost use Rattle.command_line.specs.Chains.{TakesRules};
 ghost use Rattle.command_line.specs.Lines.{IsLine, IsLineOf, IsUsage, IsNotTaken};
 ghost use Rattle.command_line.specs.Promised.{HasWords, edits_in};
-ghost use Rattle.command_line.specs.Words.{arguments_of, bare, command_of, edits_word, number_option, option_of, plain_words, positional, task_named, without_name};
+ghost use Rattle.command_line.specs.Words.{arguments_of, bare, command_of, edits_word};
+ghost use Rattle.command_line.specs.Words.{number_option, option_of, plain_words, positional};
+ghost use Rattle.command_line.specs.Words.{task_named, without_name};
 
 use clap::error::ErrorKind;
 use clap::{Arg, ArgAction, ArgMatches, Command, value_parser};
@@ -181,7 +185,8 @@ fn with_words<'a>(alloc: Global, task: Task) -> Result<Command<'a>, AllocError>
         .arg(word(alloc, "MOVINS", ABOUT_MOVINS))
 }
 
-/// The command with the words of each command, and with the name of the edits file, where it takes one.
+/// The command with the words of each command, and with the name of the edits file, where it takes
+/// one.
 fn with_edits<'a>(alloc: Global, task: Task) -> Result<Command<'a>, AllocError>
     ensures { IfOk result (TakesRules (bare task) (plain_words ++ edits_word task)) }
 {
@@ -298,9 +303,10 @@ fn task_of(word: &str) -> Option<Task>
     }
 }
 
-/// The command line that the words after the program's name are: `check`, `first` or `whatif`, and what `clap` reads of the words
-/// behind it. [`LineFault::Usage`] comes only where there is no first word, it is another, or `clap` doesn't take
-/// the words behind it; help is such an answer too.
+/// The command line that the words after the program's name are: `check`, `first` or `whatif`, and
+/// what `clap` reads of the words behind it. [`LineFault::Usage`] comes only where there is no
+/// first word, it is another, or `clap` doesn't take the words behind it; help is such an answer
+/// too.
 pub fn read_line<'a>(alloc: Global, words: &'a [&'a str]) -> Result<Line<'a>, LineFault>
     ensures ok { IfOk result (IsLine (map (λ w. w.now) words.entry.now)) }
     ensures usage { IfErr result (λ e. IsUsage e → IsNotTaken (map (λ w. w.now) words.entry.now)) }

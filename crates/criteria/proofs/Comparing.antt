@@ -7,7 +7,7 @@ use Rattle.units_core.proofs.Signed.{signed_arith}
 use Rattle.units_core.proofs.Order.{cancel_order, times_order}
 use Rattle.units_core.proofs.Ring.{diff_of, diff_same, differences}
 use Rattle.units_core.specs.Ratio.{Ratio, ◌over◌, Is, floor_of, is_at_least, is_no_more}
-use Rattle.ship_profile.specs.declared.frames.Frame.{Frame}
+use Rattle.units_core.specs.declared.frames.Frame.{Frame}
 use Rattle.units_core.proofs.Decisions.{same_test, at_least_same, at_most_same}
 use Rattle.criteria.specs.Criteria.{every, is_within, reaches_at}
 use Rattle.criteria.specs.Printed.{IsFigure}

@@ -29,24 +29,41 @@ assessed (Some criterion) c = Fails criterion c
 -- Outside of the first table, in their order, in which the ship isn't: the hydrostatic table, the
 -- cross curves, the Bonjean curves at each station, then the closing error, and last the least
 -- metacentric heights. Within all of them, by the first criterion that doesn't hold.
-abbrev pub with_least : ShipRecord → Hydrostatics → Load → (ℕ → Ratio) → ℤ → (ℕ → ℤ) → (ℕ → ℤ) → Option (Option Ratio) → Assessment
+abbrev pub with_least : ShipRecord → Hydrostatics → Load → (ℕ → Ratio) → ℤ → (ℕ → ℤ) → (ℕ → ℤ)
+    → Option (Option Ratio) → Assessment
 with_least ship w l y closing shear bending None = IsOutside cause.GmLimit
 with_least ship w l y closing shear bending (Some least) =
-    let c : Condition = record { water = w; load = l; levers = y; closing = closing; shear = shear; bending = bending; least_gm = least } in
+    let c : Condition =
+    record {
+      water = w;
+      load = l;
+      levers = y;
+      closing = closing;
+      shear = shear;
+      bending = bending;
+      least_gm = least;
+    } in
     assessed (not_met ship c) c
 
-abbrev pub with_closing : ProfileRecord → Sum → Hydrostatics → (ℕ → Ratio) → (ℕ → ℤ) → Bool → Assessment
+abbrev pub with_closing : ProfileRecord → Sum → Hydrostatics → (ℕ → Ratio) → (ℕ → ℤ) → Bool
+    → Assessment
 with_closing p s w y areas false = IsOutside cause.Closing
 with_closing p s w y areas true =
-    with_least p.ship w (load_of s) y (closing_of s areas p.ship.stations) (shear_at s areas p.ship.stations p.ship.frames) (bending_at s areas p.ship.stations p.ship.frames) (least_at p.tables.least_gm (s Weight))
+    with_least p.ship w (load_of s) y (closing_of s areas p.ship.stations)
+    (shear_at s areas p.ship.stations p.ship.frames)
+    (bending_at s areas p.ship.stations p.ship.frames) (least_at p.tables.least_gm (s Weight))
 
-abbrev pub with_areas : ProfileRecord → Sum → Hydrostatics → (ℕ → Ratio) → Option (ℕ → ℤ) → Assessment
+abbrev pub with_areas : ProfileRecord → Sum → Hydrostatics → (ℕ → Ratio) → Option (ℕ → ℤ)
+    → Assessment
 with_areas p s w y None = IsOutside cause.Bonjean
-with_areas p s w y (Some areas) = with_closing p s w y areas (closes (closing_of s areas p.ship.stations) p.ship.closing_max)
+with_areas p s w y (Some areas) =
+    with_closing p s w y areas (closes (closing_of s areas p.ship.stations) p.ship.closing_max)
 
 abbrev pub with_levers : ProfileRecord → Sum → Hydrostatics → Option (ℕ → Ratio) → Assessment
 with_levers p s w None = IsOutside cause.Levers
-with_levers p s w (Some y) = with_areas p s w y (areas_of p.tables.bonjean (draught_at w (load_of s) p.ship.lbp) p.ship.stations)
+with_levers p s w (Some y) =
+    with_areas p s w y
+    (areas_of p.tables.bonjean (draught_at w (load_of s) p.ship.lbp) p.ship.stations)
 
 abbrev pub with_water : ProfileRecord → Sum → Option Hydrostatics → Assessment
 with_water p s None = IsOutside cause.Hydro

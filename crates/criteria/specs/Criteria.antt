@@ -1,12 +1,15 @@
--- The criteria (2008 IS Code, part A, 2.2, for C1 to C6), judged on fractions and never on the figures that are printed.
-use Rattle.std.specs.Prelude.{ℕ, suc, ℤ, pos, neg_ℤ, int_le, int_lt, nat_le, Bool, true, false, not, ◌&&◌, List, [], ◌∷◌, find, codes, Option, None, Some}
+-- The criteria (2008 IS Code, part A, 2.2, for C1 to C6), judged on fractions and never on the
+-- figures that are printed.
+use Rattle.std.specs.Prelude.{ℕ, suc, ℤ, pos, neg_ℤ, int_le, int_lt, nat_le, Bool, true, false, not}
+use Rattle.std.specs.Prelude.{◌&&◌, List, [], ◌∷◌, find, codes, Option, None, Some}
 use Rattle.units_core.specs.Ratio.{Ratio, is_at_least, is_at_most, is_no_more}
-use Rattle.ship_profile.specs.declared.frames.Frame.{Frame}
+use Rattle.units_core.specs.declared.frames.Frame.{Frame}
 use Rattle.ship_profile.specs.Ship.{ShipRecord}
 use Rattle.hydrostat.specs.Floating.{Hydrostatics, Load, gm, trim, list, draught_at}
 use Rattle.righting.specs.Levers.{area_of, greatest_of, simpson}
 use Rattle.criteria.specs.declared.criterion.Criterion.{Criterion}
-use Rattle.criteria.specs.declared.criterion.Criterion.TheVariants.{C0, C1, C2, C3, C4, C5, C6, C7, C8, C9, C10, C11}
+use Rattle.criteria.specs.declared.criterion.Criterion.TheVariants.{C0, C1, C2, C3, C4, C5, C6, C7}
+use Rattle.criteria.specs.declared.criterion.Criterion.TheVariants.{C8, C9, C10, C11}
 
 -- the code of a criterion, as it is printed
 abbrev pub code_of : Criterion → List ℕ
@@ -54,7 +57,9 @@ list_holds w l most = int_lt (pos 0) (gm w l).top && is_within (list w l) most
 
 -- the draughts aft and forward, and the trim
 abbrev pub draughts_hold : Hydrostatics → Load → ℤ → ℤ → ℤ → Bool
-draughts_hold w l lbp most trim_most = (is_at_most (draught_at w l lbp (pos 0)) most && is_at_most (draught_at w l lbp lbp) most) && is_within (trim w l) trim_most
+draughts_hold w l lbp most trim_most =
+    (is_at_most (draught_at w l lbp (pos 0)) most && is_at_most (draught_at w l lbp lbp) most)
+    && is_within (trim w l) trim_most
 
 -- at every frame, numbered from i
 abbrev pub every : (Frame → ℕ → Bool) → List Frame → ℕ → Bool
@@ -62,10 +67,12 @@ every holds [] i = true
 every holds (frame ∷ more) i = holds frame i && every holds more (suc i)
 
 abbrev pub shear_holds : (ℕ → ℤ) → Frame → ℕ → Bool
-shear_holds shear frame i = int_le (neg_ℤ frame.shear_max) (shear i) && int_le (shear i) frame.shear_max
+shear_holds shear frame i =
+    int_le (neg_ℤ frame.shear_max) (shear i) && int_le (shear i) frame.shear_max
 
 abbrev pub bending_holds : (ℕ → ℤ) → Frame → ℕ → Bool
-bending_holds bending frame i = int_le (neg_ℤ frame.sag_max) (bending i) && int_le (bending i) frame.hog_max
+bending_holds bending frame i =
+    int_le (neg_ℤ frame.sag_max) (bending i) && int_le (bending i) frame.hog_max
 
 -- no less than the limit, where there is one
 abbrev pub least_holds : Option Ratio → Ratio → Bool
@@ -76,13 +83,24 @@ least_holds (Some least) g = is_no_more least g
 abbrev pub criteria : List Criterion
 criteria = C0 ∷ C1 ∷ C2 ∷ C3 ∷ C4 ∷ C5 ∷ C6 ∷ C7 ∷ C8 ∷ C9 ∷ C10 ∷ C11 ∷ []
 
+-- The least areas of C2 to C4 (2008 IS Code, part A, 2.2.1) in millionths of a metre-degree: 0.055,
+-- 0.09 and 0.03 metre-radians, times 180 / pi and rounded up.
+abbrev pub area_to_30_min : ℤ
+area_to_30_min = pos 3151268
+
+abbrev pub area_to_40_min : ℤ
+area_to_40_min = pos 5156621
+
+abbrev pub area_30_to_40_min : ℤ
+area_30_to_40_min = pos 1718874
+
 -- whether a criterion holds of a condition of a ship
 abbrev pub holds : ShipRecord → Condition → Criterion → Bool
 holds p c C0 = true
 holds p c C1 = is_at_least (gm c.water c.load) (pos 150)
-holds p c C2 = is_at_least (area_of (simpson c.levers 0 3)) (pos 3151268)
-holds p c C3 = is_at_least (area_of (simpson c.levers 0 4)) (pos 5156621)
-holds p c C4 = is_at_least (area_of (simpson c.levers 6 1)) (pos 1718874)
+holds p c C2 = is_at_least (area_of (simpson c.levers 0 3)) area_to_30_min
+holds p c C3 = is_at_least (area_of (simpson c.levers 0 4)) area_to_40_min
+holds p c C4 = is_at_least (area_of (simpson c.levers 6 1)) area_30_to_40_min
 holds p c C5 = reaches_at c.levers (pos 200) (greatest_of c.levers 6 7)
 holds p c C6 = is_from 5 (greatest_of c.levers 0 13)
 holds p c C7 = list_holds c.water c.load p.list_max

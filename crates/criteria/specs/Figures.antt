@@ -21,9 +21,12 @@ pub record AreFigures (f : Figures) (ship : ShipRecord) (c : Condition) : Type 0
 -- the verdict says what the exact judgement does
 abbrev pub IsVerdict : Verdict → ShipRecord → Assessment → Type 0
 IsVerdict (verdict.Outside outside) ship a = a ≡ IsOutside outside
-IsVerdict (verdict.Fails criterion figures) ship a = (c : Condition) × (a ≡ Fails criterion c) × AreFigures figures ship c
-IsVerdict (verdict.Passes figures) ship a = (c : Condition) × (a ≡ Passes c) × AreFigures figures ship c
+IsVerdict (verdict.Fails criterion figures) ship a = (c : Condition) × (a ≡ Fails criterion c)
+    × AreFigures figures ship c
+IsVerdict (verdict.Passes figures) ship a = (c : Condition) × (a ≡ Passes c)
+    × AreFigures figures ship c
 
 -- whatever ordinates the numbers ns over d are
 abbrev pub IsVerdictFor : Verdict → ShipRecord → List ℤ → ℤ → ((ℕ → Ratio) → Assessment) → Type 0
-IsVerdictFor answer ship ns d of = (y : ℕ → Ratio) → AreOrdinates ns d y → IsVerdict answer ship (of y)
+IsVerdictFor answer ship ns d of = (y : ℕ → Ratio) → AreOrdinates ns d y
+    → IsVerdict answer ship (of y)

@@ -1,6 +1,7 @@
 -- How a ship is judged with a sum of masses and moments aboard, as it is printed: the exact
 -- judgement, its figures rounded.
-use Rattle.std.specs.Prelude.{◌≡◌, ℕ, ◌*◌, ℤ, pos, option_map, List, Option, None, Some, Result, Ok, Err, int_lt, if◌then◌else◌}
+use Rattle.std.specs.Prelude.{◌≡◌, ℕ, ◌*◌, ℤ, pos, option_map, List, Option, None, Some, Result, Ok}
+use Rattle.std.specs.Prelude.{Err, int_lt, if◌then◌else◌}
 use Rattle.units_core.specs.Interpolation.{at}
 use Rattle.units_core.specs.Ratio.{Ratio, floor_of}
 use Rattle.ship_profile.specs.Record.{ProfileRecord}
@@ -53,7 +54,8 @@ printed_of lbp c = record {
   bending = c.bending;
 }
 
--- outside of a table, for this cause; or the figures, and the first criterion that doesn't hold, if there is one
+-- outside of a table, for this cause; or the figures, and the first criterion that doesn't hold, if
+-- there is one
 pub data Judgement : Type 0 where
   IsOutside : Outside → Judgement
   Fails : Criterion → Printed → Judgement
@@ -92,9 +94,9 @@ read f = record {
 }
 
 -- what was found, with the figures beside it
-abbrev pub told_with : Result (Option Criterion) Outside → RoundedFigures → Judgement
-told_with (Err outside) figures = IsOutside outside
-told_with (Ok criterion) figures = judged criterion (read figures)
+abbrev pub judgement_by : Result (Option Criterion) Outside → RoundedFigures → Judgement
+judgement_by (Err outside) figures = IsOutside outside
+judgement_by (Ok criterion) figures = judged criterion (read figures)
 
 -- the answer is this of any ordinates that the numbers ns over d are
 abbrev pub IsWhatever : Judgement → List ℤ → ℤ → ((ℕ → Ratio) → Judgement) → Type 0

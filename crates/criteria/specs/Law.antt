@@ -1,4 +1,5 @@
--- What an assessment is in other words than those of its definition: the first cause, and else the first criterion, by numbers of their own.
+-- What an assessment is in other words than those of its definition: the first cause, and else the
+-- first criterion, by numbers of their own.
 use Rattle.std.specs.Prelude.{◌≡◌, ℕ, ◌<◌, ℤ, Bool, true, false, Option, None, Some}
 use Rattle.ship_profile.specs.Record.{ProfileRecord}
 use Rattle.moment_sums.specs.Sum.{Sum, Weight}
@@ -12,7 +13,8 @@ use Rattle.criteria.specs.Assessment.{Assessment, IsOutside, Fails, Passes, asse
 use Rattle.criteria.specs.Criteria.{holds}
 use Rattle.criteria.specs.Least.{least_at}
 use Rattle.criteria.specs.declared.criterion.Criterion.{Criterion}
-use Rattle.criteria.specs.declared.criterion.Criterion.TheVariants.{C0, C1, C2, C3, C4, C5, C6, C7, C8, C9, C10, C11}
+use Rattle.criteria.specs.declared.criterion.Criterion.TheVariants.{C0, C1, C2, C3, C4, C5, C6, C7}
+use Rattle.criteria.specs.declared.criterion.Criterion.TheVariants.{C8, C9, C10, C11}
 
 -- the number of a cause, O1 to O5, and of a criterion
 abbrev pub number_of_cause : Outside → ℕ
@@ -40,10 +42,12 @@ abbrev pub is_there : {A : Type 0} → Option A → Bool
 is_there None = false
 is_there (Some a) = true
 
--- the immersed areas at her stations, where the hydrostatic table says how she floats, and whether they carry what she displaces; without them nothing is at odds
+-- the immersed areas at her stations, where the hydrostatic table says how she floats, and whether
+-- they carry what she displaces; without them nothing is at odds
 abbrev pub areas_at : ProfileRecord → Sum → Option Hydrostatics → Option (ℕ → ℤ)
 areas_at p s None = None
-areas_at p s (Some w) = areas_of p.tables.bonjean (draught_at w (load_of s) p.ship.lbp) p.ship.stations
+areas_at p s (Some w) =
+    areas_of p.tables.bonjean (draught_at w (load_of s) p.ship.lbp) p.ship.stations
 
 abbrev pub carry : ProfileRecord → Sum → Option (ℕ → ℤ) → Bool
 carry p s None = true
@@ -61,15 +65,19 @@ is_given water levers areas carried least cause.GmLimit = least
 abbrev pub has : ProfileRecord → Sum → Outside → Bool
 has p s =
     let water = hydrostatics_at p.tables.hydro (s Weight) in
-    is_given water (is_there (levers_of p.tables.levers s)) (areas_at p s water) (carry p s (areas_at p s water)) (is_there (least_at p.tables.least_gm (s Weight)))
+    is_given water (is_there (levers_of p.tables.levers s)) (areas_at p s water)
+    (carry p s (areas_at p s water)) (is_there (least_at p.tables.least_gm (s Weight)))
 
--- A cause is named exactly where her tables lack what it speaks of and have that of each before it; and where they have all, a criterion exactly where it
--- isn't met and each before it is.
+-- A cause is named exactly where her tables lack what it speaks of and have that of each before it;
+-- and where they have all, a criterion exactly where it isn't met and each before it is.
 abbrev pub IsFirst : ProfileRecord → Sum → Assessment → Type 0
-IsFirst p s (IsOutside o) = (has p s o ≡ false) × ((before : Outside) → number_of_cause before < number_of_cause o → has p s before ≡ true)
+IsFirst p s (IsOutside o) = (has p s o ≡ false)
+    × ((before : Outside) → number_of_cause before < number_of_cause o → has p s before ≡ true)
 IsFirst p s (Fails k c) =
-    ((o : Outside) → has p s o ≡ true) × (holds p.ship c k ≡ false) × ((before : Criterion) → number_of before < number_of k → holds p.ship c before ≡ true)
-IsFirst p s (Passes c) = ((o : Outside) → has p s o ≡ true) × ((k : Criterion) → holds p.ship c k ≡ true)
+    ((o : Outside) → has p s o ≡ true) × (holds p.ship c k ≡ false)
+    × ((before : Criterion) → number_of before < number_of k → holds p.ship c before ≡ true)
+IsFirst p s (Passes c) = ((o : Outside) → has p s o ≡ true)
+    × ((k : Criterion) → holds p.ship c k ≡ true)
 
 abbrev pub JudgesInOrder : Type 0
 JudgesInOrder = (p : ProfileRecord) (s : Sum) → IsFirst p s (assessment_of p s)

@@ -25,9 +25,13 @@ condition_of a y strains least = record {
 }
 
 -- the answer is the first criterion that isn't met, whatever ordinates the measures are of
-abbrev pub IsFirstNotMet : Option Criterion → ShipRecord → Afloat → CurveMeasures → Strains → Option Frac → Type 0
-IsFirstNotMet answer ship a curve strains least = (y : ℕ → Ratio) → AreMeasures curve y → answer ≡ not_met ship (condition_of a y strains least)
+abbrev pub IsFirstNotMet : Option Criterion → ShipRecord → Afloat → CurveMeasures → Strains
+    → Option Frac → Type 0
+IsFirstNotMet answer ship a curve strains least = (y : ℕ → Ratio) → AreMeasures curve y
+    → answer ≡ not_met ship (condition_of a y strains least)
 
 -- and whether a criterion holds
-abbrev pub IsHeld : Bool → ShipRecord → Afloat → CurveMeasures → Strains → Option Frac → Criterion → Type 0
-IsHeld answer ship a curve strains least criterion = (y : ℕ → Ratio) → AreMeasures curve y → answer ≡ holds ship (condition_of a y strains least) criterion
+abbrev pub IsHeld : Bool → ShipRecord → Afloat → CurveMeasures → Strains → Option Frac → Criterion
+    → Type 0
+IsHeld answer ship a curve strains least criterion = (y : ℕ → Ratio) → AreMeasures curve y
+    → answer ≡ holds ship (condition_of a y strains least) criterion

@@ -1,4 +1,5 @@
--- Bookkeeping: the code's figures of a condition that lies within all tables but those of the loads, each the textbook's ratio rounded toward minus infinity.
+-- Bookkeeping: the code's figures of a condition that lies within all tables but those of the
+-- loads, each the textbook's ratio rounded toward minus infinity.
 use Rattle.std.specs.Prelude.{◌≡◌, ℕ, ◌*◌, ℤ, pos, Some, option_map}
 use Rattle.units_core.specs.Ratio.{Ratio, Is, floor_of}
 use Rattle.hydrostat.specs.declared.particulars.Afloat.{Afloat}
@@ -18,7 +19,8 @@ pub record AreFloating (f : RoundedFigures) (w : Hydrostatics) (l : Load) (lbp :
   pub trim : f.trim ≡ floor_of (trim w l)
   pub list : f.list ≡ list_down w l
 
--- her levers: three areas in mm degrees, the greatest ordinate from 30 to 60 degrees, the least angle that carries the greatest of all
+-- her levers: three areas in mm degrees, the greatest ordinate from 30 to 60 degrees, the least
+-- angle that carries the greatest of all
 pub record AreRighting (f : RoundedFigures) (y : ℕ → Ratio) : Type 0 where
   pub area_30 : f.area_30 ≡ floor_of (mm_degrees (simpson y 0 3))
   pub area_40 : f.area_40 ≡ floor_of (mm_degrees (simpson y 0 4))
@@ -32,10 +34,12 @@ pub record AreRounded (f : RoundedFigures) (a : Afloat) (curve : CurveMeasures) 
 
 -- of any ordinates that the measures are of
 abbrev pub IsLeverDown : ℤ → CurveMeasures → Type 0
-IsLeverDown q curve = (y : ℕ → Ratio) → AreMeasures curve y → Some q ≡ option_map (λ k. floor_of (y k)) (greatest_of y 6 7)
+IsLeverDown q curve = (y : ℕ → Ratio) → AreMeasures curve y
+    → Some q ≡ option_map (λ k. floor_of (y k)) (greatest_of y 6 7)
 
 abbrev pub IsAngle : ℕ → CurveMeasures → Type 0
-IsAngle q curve = (y : ℕ → Ratio) → AreMeasures curve y → Some q ≡ option_map (λ k. 5 * k) (greatest_of y 0 13)
+IsAngle q curve = (y : ℕ → Ratio) → AreMeasures curve y
+    → Some q ≡ option_map (λ k. 5 * k) (greatest_of y 0 13)
 
 -- the figure of any ratio that n / d is
 abbrev pub IsFigure : ℤ → ℤ → ℤ → Type 0

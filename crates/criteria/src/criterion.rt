@@ -1,14 +1,17 @@
 ghost use Rattle.std.specs.Prelude.{◌≡◌};
 ghost use Rattle.criteria.specs.Criteria.{code_of};
 
-/// A criterion that a condition may fail. C1 to C6 are those of the 2008 IS Code, part A, 2.2; the others are the ship's own.
+/// A criterion that a condition may fail. C1 to C6 are those of the 2008 IS Code, part A, 2.2; the
+/// others are the ship's own.
 #[derive(Clone, Copy, Debug, PartialEq, Eq)]
 pub enum Criterion {
-    /// The condition lies within the ship's tables, and buoyancy and displacement agree within her limit.
+    /// The condition lies within the ship's tables, and buoyancy and displacement agree within her
+    /// limit.
     C0,
     /// The metacentric height, corrected for free surfaces, is at least 0.15 m (2.2.4).
     C1,
-    /// The area under the righting levers from 0 to 30 degrees is at least 0.055 metre-radians (2.2.1).
+    /// The area under the righting levers from 0 to 30 degrees is at least 0.055 metre-radians
+    /// (2.2.1).
     C2,
     /// The area from 0 to 40 degrees is at least 0.09 metre-radians (2.2.1).
     C3,

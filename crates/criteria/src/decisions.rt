@@ -1,4 +1,5 @@
-ghost use Rattle.std.specs.Prelude.{◌≡◌, ◌*◌, ◌^◌, ◌≤◌, ◌&&◌, pos, ◌*ℤ◌, neg_ℤ, int_le, unsigned_abs, option_map};
+ghost use Rattle.std.specs.Prelude.{◌≡◌, ◌*◌, ◌^◌, ◌≤◌, ◌&&◌, pos, ◌*ℤ◌, neg_ℤ, int_le};
+ghost use Rattle.std.specs.Prelude.{unsigned_abs, option_map};
 ghost use Rattle.units_core.specs.Ratio.{◌over◌, is_at_least, is_at_most};
 ghost use Rattle.hydrostat.specs.Floating.{gm, load, water};
 ghost use Rattle.criteria.specs.Criteria.{draughts_hold, is_within, least_holds, list_holds};
@@ -59,11 +60,14 @@ fn is_within(fraction: Frac, limit: i128) -> bool
     both(reaches(fraction, negate(limit)), stays(fraction, limit))
 }
 
+/// The least metacentric height (C1), in mm.
+const GM_MIN: i128 = 150;
+
 /// Whether the metacentric height is at least 0.15 m.
 pub fn is_stiff(a: &Afloat) -> bool
     ensures { result ≡ is_at_least (gm (water a.now) (load a.now)) (pos 150) }
 {
-    reaches(gm_of(a), 150)
+    reaches(gm_of(a), GM_MIN)
 }
 
 /// Whether the list is there, and within its limit.

@@ -30,6 +30,22 @@ const CRITERIA: [Criterion; 12] = [
     Criterion::C11,
 ];
 
+/// The least area under the righting levers from 0 to 30 degrees (C2), in millionths of a
+/// metre-degree: 0.055 metre-radians, times 180 / pi and rounded up (3,151,267.9).
+const AREA_TO_30_MIN: i128 = 3_151_268;
+
+/// The least area from 0 to 40 degrees (C3): 0.09 metre-radians, rounded up (5,156,620.2).
+const AREA_TO_40_MIN: i128 = 5_156_621;
+
+/// The least area from 30 to 40 degrees (C4): 0.03 metre-radians, rounded up (1,718,873.4).
+const AREA_30_TO_40_MIN: i128 = 1_718_874;
+
+/// What the greatest lever from 30 to 60 degrees comes to at least (C5), in mm.
+const LEVER_MIN: i128 = 200;
+
+/// The least angle that carries the greatest of all levers (C6), in steps of 5 degrees.
+const PEAK_MIN: usize = 5;
+
 /// The criterion of a number, the first being 0.
 fn criterion_at(k: usize) -> Criterion
     requires { k < 12 }
@@ -38,8 +54,7 @@ fn criterion_at(k: usize) -> Criterion
     CRITERIA[k]
 }
 
-/// Whether a criterion holds of a condition within the ship's tables. Limits of areas are in millionths of a metre-degree, rounded up;
-/// lengths in mm; the angle is in steps of 5 degrees.
+/// Whether a criterion holds of a condition within the ship's tables.
 fn holds(
     profile: &Profile,
     a: &Afloat,
@@ -55,11 +70,11 @@ fn holds(
     match criterion {
         Criterion::C0 => true,
         Criterion::C1 => is_stiff(a),
-        Criterion::C2 => area_holds(curve.sum_30, 3_151_268),
-        Criterion::C3 => area_holds(curve.sum_40, 5_156_621),
-        Criterion::C4 => area_holds(curve.sum_30_40, 1_718_874),
-        Criterion::C5 => lever_reaches(curve, 200),
-        Criterion::C6 => peaks_from(curve, 5),
+        Criterion::C2 => area_holds(curve.sum_30, AREA_TO_30_MIN),
+        Criterion::C3 => area_holds(curve.sum_40, AREA_TO_40_MIN),
+        Criterion::C4 => area_holds(curve.sum_30_40, AREA_30_TO_40_MIN),
+        Criterion::C5 => lever_reaches(curve, LEVER_MIN),
+        Criterion::C6 => peaks_from(curve, PEAK_MIN),
         Criterion::C7 => list_holds(a, i128::from(profile.list_max())),
         Criterion::C8 => {
             let most = i128::from(profile.draught_max().get());

@@ -11,7 +11,7 @@ ghost use Rattle.strength.specs.Running.{AreStrains};
 ghost use Rattle.strength.specs.Strains.{closes, closing_of};
 ghost use Rattle.criteria.specs.Least.{least_at};
 ghost use Rattle.criteria.specs.Assessment.{with_areas, with_closing, with_least, with_levers};
-ghost use Rattle.criteria.specs.Judgement.{IsWhatever, judgement_of, rounded, told_with};
+ghost use Rattle.criteria.specs.Judgement.{IsWhatever, judgement_of, rounded, judgement_by};
 
 use crate::criterion::Criterion;
 use crate::holding::first_not_met;
@@ -47,7 +47,7 @@ fn judge_loaded(
 ) -> Result<Option<Criterion>, Outside>
     requires line { line.now.of ≡ a.now }
     requires length { a.now.lbp ≡ profile.now.ship.lbp }
-    ensures { IsWhatever (told_with result figures.new) levers.now.num levers.now.den
+    ensures { IsWhatever (judgement_by result figures.new) levers.now.num levers.now.den
         (λ y. rounded profile.now.ship.lbp (with_least profile.now.ship (water a.now) (load a.now) y
         figures.old.strains.closing (λ i. at figures.old.strains.shear i)
         (λ i. at figures.old.strains.bending i)
@@ -79,7 +79,7 @@ fn judge_strained(
     requires length { a.now.lbp ≡ profile.now.ship.lbp }
     ensures { (areas : ℕ → ℤ)
         → AreStrains figures.old.strains (values totals.now) areas profile.now.ship
-        → IsWhatever (told_with result figures.new) levers.now.num levers.now.den
+        → IsWhatever (judgement_by result figures.new) levers.now.num levers.now.den
         (λ y. rounded profile.now.ship.lbp (with_closing profile.now (values totals.now)
         (water a.now) y areas (closes (closing_of (values totals.now) areas
         profile.now.ship.stations) profile.now.ship.closing_max))) }
@@ -107,7 +107,7 @@ fn judge_righted(
     requires kg { unsigned_abs (values totals.now Weight) ≤ 10 ^ 9 }
     requires loaded { load a.now ≡ load_of (values totals.now) }
     requires length { a.now.lbp ≡ profile.now.ship.lbp }
-    ensures { IsWhatever (told_with result figures.new) levers.now.num levers.now.den
+    ensures { IsWhatever (judgement_by result figures.new) levers.now.num levers.now.den
         (λ y. rounded profile.now.ship.lbp (with_areas profile.now (values totals.now)
         (water a.now) y (areas_of profile.now.tables.bonjean (draught_at (water a.now)
         (load_of (values totals.now)) profile.now.ship.lbp) profile.now.ship.stations))) }
@@ -143,7 +143,7 @@ fn judge_afloat(
     requires side { unsigned_abs (values totals.now MomentY) ≤ 10 ^ 15 }
     requires loaded { load a.now ≡ load_of (values totals.now) }
     requires length { a.now.lbp ≡ profile.now.ship.lbp }
-    ensures { told_with result figures.new ≡ rounded profile.now.ship.lbp
+    ensures { judgement_by result figures.new ≡ rounded profile.now.ship.lbp
         (with_levers profile.now (values totals.now) (water a.now)
         (levers_of profile.now.tables.levers (values totals.now))) }
 {
@@ -166,7 +166,7 @@ pub fn judge_into(
 ) -> Result<Option<Criterion>, Outside>
     requires of { IsHullOf hull.now profile.now.ship }
     requires bounded { IsBounded (values totals.now) }
-    ensures { told_with result figures.new ≡ judgement_of profile.now (values totals.now) }
+    ensures { judgement_by result figures.new ≡ judgement_of profile.now (values totals.now) }
 {
     match on_waterline(profile, totals, &mut near.hydro) {
         Some(a) => judge_afloat(profile, totals, &a, hull, near, figures),

@@ -10,7 +10,8 @@ use righting::{Levers, area_over_pairs, best_from_30, greatest_number};
 
 /// The measures of a curve of levers.
 pub fn measures_of(levers: &Levers) -> CurveMeasures
-    ensures { (y : ℕ → Ratio) → AreOrdinates levers.now.num levers.now.den y → AreMeasures result y }
+    ensures { (y : ℕ → Ratio) → AreOrdinates levers.now.num levers.now.den y
+        → AreMeasures result y }
 {
     CurveMeasures {
         sum_30: area_over_pairs(levers, 0, 3),

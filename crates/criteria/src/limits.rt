@@ -37,8 +37,8 @@ fn least_of(curves: &Curves, kg: i128, near: &mut usize) -> Option<Option<Frac>>
     Some(Some(least_in(curves, kg, i)))
 }
 
-/// The least metacentric height that the ship may have with this aboard, where she has such limits; `None` where the displacement lies
-/// outside of their table.
+/// The least metacentric height that the ship may have with this aboard, where she has such limits;
+/// `None` where the displacement lies outside of their table.
 pub fn least_gm(profile: &Profile, totals: &Totals, near: &mut usize) -> Option<Option<Frac>>
     ensures value { option_map (λ o. option_map (λ f. f.num over f.den) o) result
         ≡ least_at profile.now.tables.least_gm (values totals.now Weight) }

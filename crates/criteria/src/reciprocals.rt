@@ -2,7 +2,8 @@ ghost use Rattle.std.specs.Prelude.{◌<◌};
 
 use units_core::{reciprocal_near, upper_half};
 
-/// About the reciprocal of a divisor, by which quotients are guessed. Nothing is promised of it, since each guess is tested.
+/// About the reciprocal of a divisor, by which quotients are guessed. Nothing is promised of it,
+/// since each guess is tested.
 #[derive(Clone, Copy)]
 pub struct Reciprocal {
     /// How many of the last bits of the divisor, and of what is divided by it, are left out.

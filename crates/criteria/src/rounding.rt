@@ -23,7 +23,8 @@ fn figure_near(fraction: Frac, near: Reciprocal) -> i128
     floor_near(fraction, near.guess(fraction.num))
 }
 
-/// The area in mm degrees of a Simpson's sum, rounded down. The sum's divisor has about this reciprocal.
+/// The area in mm degrees of a Simpson's sum, rounded down. The sum's divisor has about this
+/// reciprocal.
 pub fn area_figure(sum: Frac, near: Reciprocal) -> i128
     requires num { unsigned_abs sum.num ≤ 10 ^ 32 }
     requires den { unsigned_abs sum.den ≤ 10 ^ 23 }

@@ -1,5 +1,7 @@
--- The number that a field writes: spaces (code 32) may be at both ends, then a minus (45) or none, then 1 to 18 digits.
-use Rattle.std.specs.Prelude.{ℕ, ℤ, pos, neg_ℤ, List, [], ◌∷◌, ◌==◌, ◌&&◌, if◌then◌else◌, nat_le, length, Option, Some, None, option_map}
+-- The number that a field writes: spaces (code 32) may be at both ends, then a minus (45) or none,
+-- then 1 to 18 digits.
+use Rattle.std.specs.Prelude.{ℕ, ℤ, pos, neg_ℤ, List, [], ◌∷◌, ◌==◌, ◌&&◌, if◌then◌else◌, nat_le}
+use Rattle.std.specs.Prelude.{length, Option, Some, None, option_map}
 use Rattle.std.specs.List.{list_all}
 use Rattle.std.specs.Char.{is_ascii_digit}
 use Rattle.std.specs.Str.Parse.{digits_value}
@@ -21,12 +23,16 @@ before_spaces (c ∷ cs) = unless_last_space c (before_spaces cs)
 
 -- the number that 1 to 18 digits write
 abbrev pub natural_in : List ℕ → Option ℕ
-natural_in ds = if (nat_le 1 (length ds) && nat_le (length ds) 18) && list_all is_ascii_digit ds then Some (digits_value 10 ds) else None
+natural_in ds =
+    if (nat_le 1 (length ds) && nat_le (length ds) 18)
+    && list_all is_ascii_digit ds then Some (digits_value 10 ds) else None
 
 -- the number that a minus or none, and digits write
 abbrev pub signed_in : List ℕ → Option ℤ
 signed_in [] = None
-signed_in (c ∷ cs) = if c == 45 then option_map (λ n. neg_ℤ (pos n)) (natural_in cs) else option_map (λ n. pos n) (natural_in (c ∷ cs))
+signed_in (c ∷ cs) =
+    if c == 45 then option_map (λ n. neg_ℤ (pos n)) (natural_in cs)
+    else option_map (λ n. pos n) (natural_in (c ∷ cs))
 
 -- the number of a field
 abbrev pub number_in : List ℕ → Option ℤ

@@ -1,10 +1,12 @@
--- The records of a text, and those that a reader over it has yet to give, as `csv` defines them: commas, double quotes, records that
--- end by CR, LF or both, a byte order mark dropped. No record is taken for a heading, and records may differ in length.
+-- The records of a text, and those that a reader over it has yet to give, as `csv` defines them:
+-- commas, double quotes, records that end by CR, LF or both, a byte order mark dropped. No record
+-- is taken for a heading, and records may differ in length.
 use Rattle.std.specs.Prelude.{◌≡◌, ℕ, Bool, true, false, List, [], ◌∷◌, Some}
 use Rattle.std.specs.Borrow.{Bor}
 use Rattle.csv.specs.declared.reader.Reader.{Reader}
 use Rattle.csv.specs.declared.reader.Trim.TheVariants as trim
-use Rattle.csv.specs.Reading.{default_config, reader_config, reader_trim, reader_state, Ready, source_of, AreRecords, records, strip_bom}
+use Rattle.csv.specs.Reading.{default_config, reader_config, reader_trim, reader_state, Ready}
+use Rattle.csv.specs.Reading.{source_of, AreRecords, records, strip_bom}
 
 -- the fields of a record
 abbrev pub Fields : Type 0

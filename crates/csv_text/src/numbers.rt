@@ -47,7 +47,8 @@ fn natural(digits: &[u8]) -> Option<u64>
     Some(value)
 }
 
-/// The number that a field writes: spaces at both ends are skipped, then a minus or none, then 1 to 18 digits.
+/// The number that a field writes: spaces at both ends are skipped, then a minus or none, then 1 to
+/// 18 digits.
 pub fn number(text: &[u8]) -> Option<i64>
     ensures { result ≡ number_in text.now }
 {

@@ -15,8 +15,9 @@ pub fn open_records(alloc: Global, text: &[u8]) -> Reader<&[u8]>
         .from_reader(alloc, text)
 }
 
-/// Reads the next record into `fields`, in place of what stood there; false at the end of the text. The only error is
-/// out of memory: a reader over bytes has no other cause. After an error the reader is of no more use.
+/// Reads the next record into `fields`, in place of what stood there; false at the end of the text.
+/// The only error is out of memory: a reader over bytes has no other cause. After an error the
+/// reader is of no more use.
 pub fn next_record(reader: &mut Reader<&[u8]>, fields: &mut ByteRecord) -> Result<bool, AllocError>
     ensures { IfOk result (λ found. (rest : List Fields) → HasLeft reader.old rest
         → Gave found (fields_of fields.new) rest reader.new) }

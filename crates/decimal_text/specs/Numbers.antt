@@ -17,4 +17,5 @@ pair_text between x y = signed_decimal x ++ (between ∷ signed_decimal y)
 -- the pairs up to the n-th, each but the first behind a byte
 abbrev pub pairs_up_to : ℕ → ℕ → (ℕ → ℤ) → (ℕ → ℤ) → ℕ → List ℕ
 pairs_up_to parting between xs ys zero = pair_text between (xs 0) (ys 0)
-pairs_up_to parting between xs ys (suc n) = pairs_up_to parting between xs ys n ++ (parting ∷ pair_text between (xs (suc n)) (ys (suc n)))
+pairs_up_to parting between xs ys (suc n) =
+    pairs_up_to parting between xs ys n ++ (parting ∷ pair_text between (xs (suc n)) (ys (suc n)))

@@ -1,4 +1,5 @@
-ghost use Rattle.std.specs.Prelude.{◌≡◌, ◌+◌, ◌-◌, ◌*◌, ◌<◌, ◌≤◌, ◌∷◌, ◌++◌, [], length, replicate, IsAscii, is_ok, string_bytes, if◌then◌else◌};
+ghost use Rattle.std.specs.Prelude.{◌≡◌, ◌+◌, ◌-◌, ◌*◌, ◌<◌, ◌≤◌, ◌∷◌, ◌++◌, [], length, replicate};
+ghost use Rattle.std.specs.Prelude.{IsAscii, is_ok, string_bytes, if◌then◌else◌};
 ghost use Rattle.std.specs.Fmt.{decimal, signed_decimal};
 ghost use Rattle.decimal_text.specs.Numbers.{behind_each, entry, pairs_up_to};
 
@@ -42,7 +43,8 @@ impl<'a> BackwardText<'a> {
         }
     }
 
-    /// Empties the text, so that another can be written. The bytes of the buffer aren't cleared, since that costs more than writing a line.
+    /// Empties the text, so that another can be written. The bytes of the buffer aren't cleared,
+    /// since that costs more than writing a line.
     pub fn clear(&mut self)
         ensures { self.new ≡ [] }
     {
@@ -129,8 +131,8 @@ impl<'a> BackwardText<'a> {
         self.put_zeros(digits.saturating_sub(written));
     }
 
-    /// Writes a whole number before the text, a minus sign if it is negative and its decimal digits, and before it a byte that parts it from
-    /// what will be there.
+    /// Writes a whole number before the text, a minus sign if it is negative and its decimal
+    /// digits, and before it a byte that parts it from what will be there.
     #[inline]
     pub fn put_parted(&mut self, byte: u8, n: i128)
         requires ascii { byte < 128 }
@@ -144,8 +146,8 @@ impl<'a> BackwardText<'a> {
             .write_whole(byte, n, &mut self.bytes, self.start);
     }
 
-    /// Writes whole numbers before the text, the last of them next to it, each with a minus sign if it is negative, and each behind a
-    /// byte.
+    /// Writes whole numbers before the text, the last of them next to it, each with a minus sign if
+    /// it is negative, and each behind a byte.
     pub fn put_each(&mut self, byte: u8, numbers: &[i128])
         requires ascii { byte < 128 }
         requires room { length self.old + 41 * length numbers.now ≤ ROOM }
@@ -158,8 +160,9 @@ impl<'a> BackwardText<'a> {
             .write_each(byte, numbers, &mut self.bytes, self.start);
     }
 
-    /// Writes pairs of whole numbers before the text: the first numbers of two lists, the second of both, and so on up to those of the number
-    /// `last`, counted from 0. The two of a pair have `between` between them, the first pair is behind `opening`, and each other one behind
+    /// Writes pairs of whole numbers before the text: the first numbers of two lists, the second of
+    /// both, and so on up to those of the number `last`, counted from 0. The two of a pair have
+    /// `between` between them, the first pair is behind `opening`, and each other one behind
     /// `parting`.
     pub fn put_pairs(
         &mut self,
@@ -177,7 +180,8 @@ impl<'a> BackwardText<'a> {
         requires seconds { last < length seconds.now }
         requires room { length self.old + (82 * last + 82) ≤ ROOM }
         ensures text { self.new
-            ≡ (opening ∷ pairs_up_to parting between (entry firsts.now) (entry seconds.now) last) ++ self.old }
+            ≡ (opening ∷ pairs_up_to parting between (entry firsts.now) (entry seconds.now) last)
+            ++ self.old }
         ensures short { length self.new ≤ length self.old + (82 * last + 82) }
     {
         self.start = self.digits.writer().write_pairs(
@@ -206,6 +210,7 @@ impl<'a> BackwardText<'a> {
         ensures { string_bytes text.new
             ≡ (if is_ok result then string_bytes text.old ++ self.now else string_bytes text.old) }
     {
+        // SAFETY: all bytes of `as_bytes` are ASCII, as its clause `ascii` says, and so UTF-8.
         text.push_str(unsafe { std::str::from_utf8_unchecked(self.as_bytes()) })
     }
 }

@@ -1,12 +1,13 @@
-ghost use Rattle.std.specs.Prelude.{◌≡◌, ◌+◌, ◌*◌, ◌≤◌, ◌<◌, ◌∷◌, ◌++◌, length, drop, replicate, IsAscii};
+ghost use Rattle.std.specs.Prelude.{◌≡◌, ◌+◌, ◌*◌, ◌≤◌, ◌<◌, ◌∷◌, ◌++◌, length, drop, replicate};
+ghost use Rattle.std.specs.Prelude.{IsAscii};
 ghost use Rattle.std.specs.Fmt.{decimal, signed_decimal};
 ghost use Rattle.decimal_text.specs.Numbers.{behind_each, entry, pair_text, pairs_up_to};
 ghost use Rattle.decimal_text.specs.Quads.{AreQuads, AreZeros, quad};
 
 use itoa::Buffer;
 
-/// Writes numbers by the tables of [`crate::FourDigits`]. It is passed by value, so that where the tables are stays in registers: each byte written might be part of a
-/// struct that is lent.
+/// Writes numbers by the tables of [`crate::FourDigits`]. It is passed by value, so that where the
+/// tables are stays in registers: each byte written might be part of a struct that is lent.
 #[derive(Clone, Copy)]
 pub(crate) struct DigitWriter<'a> {
     pub(crate) table: &'a [[u8; 4]],
@@ -17,7 +18,8 @@ pub(crate) struct DigitWriter<'a> {
     pub(crate) ghost counted: { AreZeros zeros.now 10000 },
 }
 
-/// Writes four bytes over four. They are written as one number: `copy_from_slice` also looks whether the two overlap.
+/// Writes four bytes over four. They are written as one number: `copy_from_slice` also looks
+/// whether the two overlap.
 #[inline(always)]
 fn write_over(bytes: &mut [u8], four: [u8; 4])
     requires { length bytes.old ≡ 4 }
@@ -53,7 +55,8 @@ fn write_byte(bytes: &mut [u8], end: usize, byte: u8) -> usize
     end - 1
 }
 
-/// Writes up to four zeros that end at `end`, and answers where they begin. Up to four bytes in front of them are lost: there is no branch by how many they are.
+/// Writes up to four zeros that end at `end`, and answers where they begin. Up to four bytes in
+/// front of them are lost: there is no branch by how many they are.
 #[inline(always)]
 pub(crate) fn write_few_zeros(count: usize, bytes: &mut [u8], end: usize) -> usize
     requires few { count ≤ 4 }
@@ -86,8 +89,8 @@ fn write_wide(byte: u8, n: i128, bytes: &mut [u8], end: usize) -> usize
 }
 
 impl<'a> DigitWriter<'a> {
-    /// How many zeros are in front of a number among its four digits. They are looked up in a table, since a branch on the length of the next
-    /// number is mispredicted.
+    /// How many zeros are in front of a number among its four digits. They are looked up in a
+    /// table, since a branch on the length of the next number is mispredicted.
     #[inline(always)]
     fn zeros(self, n: u64) -> usize
         requires { n < 10000 }
@@ -96,7 +99,8 @@ impl<'a> DigitWriter<'a> {
         usize::from(self.zeros[n as usize])
     }
 
-    /// Writes the digits of a number below 10,000 so that they end at `end`, and answers where they begin.
+    /// Writes the digits of a number below 10,000 so that they end at `end`, and answers where they
+    /// begin.
     #[inline(always)]
     fn write_short(self, n: u64, bytes: &mut [u8], end: usize) -> usize
         requires low { n < 10000 }
@@ -109,7 +113,8 @@ impl<'a> DigitWriter<'a> {
         end - 4 + self.zeros(n)
     }
 
-    /// Writes the digits of a number so that they end at `end`, and answers where they begin. Up to three bytes in front of them are lost.
+    /// Writes the digits of a number so that they end at `end`, and answers where they begin. Up to
+    /// three bytes in front of them are lost.
     #[inline]
     pub(crate) fn write(self, n: u64, bytes: &mut [u8], end: usize) -> usize
         requires room { 20 ≤ end }
@@ -128,7 +133,8 @@ impl<'a> DigitWriter<'a> {
         self.write_short(left, bytes, at)
     }
 
-    /// Writes a whole number that no 64 bits without a sign hold, as [`DigitWriter::write_whole`] does.
+    /// Writes a whole number that no 64 bits without a sign hold, as [`DigitWriter::write_whole`]
+    /// does.
     #[inline(always)]
     fn write_other(self, byte: u8, n: i128, bytes: &mut [u8], end: usize) -> usize
         requires ascii { byte < 128 }
@@ -151,8 +157,9 @@ impl<'a> DigitWriter<'a> {
         write_byte(bytes, start, byte)
     }
 
-    /// Writes a whole number so that it ends at `end`, a minus sign if it is negative and its decimal digits, and before it a byte that parts it from
-    /// what will be there, and answers where that byte is. Most numbers of a line have no sign, so they take the short way.
+    /// Writes a whole number so that it ends at `end`, a minus sign if it is negative and its
+    /// decimal digits, and before it a byte that parts it from what will be there, and answers
+    /// where that byte is. Most numbers of a line have no sign, so they take the short way.
     #[inline(always)]
     pub(crate) fn write_whole(self, byte: u8, n: i128, bytes: &mut [u8], end: usize) -> usize
         requires ascii { byte < 128 }
@@ -170,8 +177,9 @@ impl<'a> DigitWriter<'a> {
         write_byte(bytes, start, byte)
     }
 
-    /// Writes whole numbers, each behind a byte, so that the last of them ends at `end`, and answers where they begin. Where the next one ends is kept in
-    /// a register from number to number.
+    /// Writes whole numbers, each behind a byte, so that the last of them ends at `end`, and
+    /// answers where they begin. Where the next one ends is kept in a register from number to
+    /// number.
     pub(crate) fn write_each(
         self,
         byte: u8,
@@ -184,7 +192,8 @@ impl<'a> DigitWriter<'a> {
         requires end { end ≤ length bytes.old }
         ensures near { end ≤ result + 41 * length numbers.now }
         ensures inside { result ≤ end }
-        ensures written { drop result bytes.new ≡ behind_each byte numbers.now ++ drop end bytes.old }
+        ensures written { drop result bytes.new
+            ≡ behind_each byte numbers.now ++ drop end bytes.old }
         ensures plain { IsAscii (drop end bytes.old) → IsAscii (drop result bytes.new) }
     {
         let mut left = numbers.len();
@@ -196,7 +205,8 @@ impl<'a> DigitWriter<'a> {
         at
     }
 
-    /// Writes two whole numbers, each behind a byte, so that the second ends at `end`, and answers where they begin.
+    /// Writes two whole numbers, each behind a byte, so that the second ends at `end`, and answers
+    /// where they begin.
     #[inline(always)]
     fn write_pair(
         self,
@@ -221,8 +231,8 @@ impl<'a> DigitWriter<'a> {
         self.write_whole(byte, first, bytes, start)
     }
 
-    /// Writes the pairs of two lists up to the one of this number, as `BackwardText::put_pairs` says, so that the last of them ends at `end`, and
-    /// answers where they begin.
+    /// Writes the pairs of two lists up to the one of this number, as `BackwardText::put_pairs`
+    /// says, so that the last of them ends at `end`, and answers where they begin.
     pub(crate) fn write_pairs(
         self,
         opening: u8,
@@ -244,7 +254,8 @@ impl<'a> DigitWriter<'a> {
         ensures near { end ≤ result + 82 * last + 82 }
         ensures inside { result ≤ end }
         ensures written { drop result bytes.new
-            ≡ (opening ∷ pairs_up_to parting between (entry firsts.now) (entry seconds.now) last) ++ drop end bytes.old }
+            ≡ (opening ∷ pairs_up_to parting between (entry firsts.now) (entry seconds.now) last)
+            ++ drop end bytes.old }
         ensures plain { IsAscii (drop end bytes.old) → IsAscii (drop result bytes.new) }
     {
         let mut left = last;

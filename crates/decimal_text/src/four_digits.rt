@@ -8,8 +8,8 @@ use std::alloc::{AllocError, Global};
 /// How many numbers have at most four digits.
 const ALL: usize = 10_000;
 
-/// The four digits of each number below 10,000, zeros in front among them, and how many these zeros are: numbers are written four digits at a
-/// time.
+/// The four digits of each number below 10,000, zeros in front among them, and how many these zeros
+/// are: numbers are written four digits at a time.
 #[derive(Drop)]
 pub struct FourDigits {
     table: Vec<[u8; 4]>,
@@ -63,7 +63,8 @@ impl FourDigits {
         }
     }
 
-    /// Writes the digits of a number so that they end at `end`, and answers where they begin. Up to three bytes in front of them are lost.
+    /// Writes the digits of a number so that they end at `end`, and answers where they begin. Up to
+    /// three bytes in front of them are lost.
     #[inline]
     pub fn write(&self, n: u64, bytes: &mut [u8], end: usize) -> usize
         requires room { 20 ≤ end }

@@ -31,16 +31,17 @@ static KINDS: [Kind; 8] = [
     Kind::Remove,
 ];
 
-/// How many rounds there are: three near the head of the list, three in its middle, and three behind its last step. A round has an edit of each
-/// kind, and leaves the list three steps longer.
+/// How many rounds there are: three near the head of the list, three in its middle, and three
+/// behind its last step. A round has an edit of each kind, and leaves the list three steps longer.
 const ROUNDS: u32 = 9;
 
 /// How many of the last edits can be taken back.
 const KEPT: usize = 64;
 
-/// The edit of a kind in a round that begins at this place, from which on no container stands aft or to starboard. One comes aboard aft, is
-/// restowed to starboard and goes ashore, and the tank is filled. The filling changes places with the first step. That is moved back to the head of
-/// the list, which leaves the filling behind it, where it is removed.
+/// The edit of a kind in a round that begins at this place, from which on no container stands aft
+/// or to starboard. One comes aboard aft, is restowed to starboard and goes ashore, and the tank is
+/// filled. The filling changes places with the first step. That is moved back to the head of the
+/// list, which leaves the filling behind it, where it is removed.
 fn edit_of(kind: Kind, place: u32, round: u32) -> Edit {
     let second = place.saturating_add(1);
     let third = place.saturating_add(2);
@@ -135,7 +136,8 @@ impl<'a> Editing<'a> {
         Ok(true)
     }
 
-    /// Takes the last 64 edits back, up to the first that isn't. Whether each list was the one before, and none is kept then.
+    /// Takes the last 64 edits back, up to the first that isn't. Whether each list was the one
+    /// before, and none is kept then.
     fn are_taken_back<W: Write>(&mut self, out: &mut W) -> bool {
         for number in 1..=KEPT {
             let back = match self.lists.pop() {
@@ -153,8 +155,8 @@ impl<'a> Editing<'a> {
     }
 }
 
-/// Where a round begins in a list that had `steps` steps at first. The steps that the rounds before it left are in
-/// front.
+/// Where a round begins in a list that had `steps` steps at first. The steps that the rounds before
+/// it left are in front.
 fn place_of(round: u32, steps: u32) -> u32 {
     let at_first = match round / 3 {
         0 => 3,
@@ -164,7 +166,8 @@ fn place_of(round: u32, steps: u32) -> u32 {
     round.saturating_mul(3).saturating_add(at_first)
 }
 
-/// Edits of each kind in a session on this number of steps, made and taken back. It stops after the first that is wrong.
+/// Edits of each kind in a session on this number of steps, made and taken back. It stops after the
+/// first that is wrong.
 pub fn try_edits<W: Write>(
     alloc: Global,
     out: &mut W,

@@ -5,7 +5,8 @@ use std::io::Write;
 #[derive(Clone, Copy)]
 pub struct Missing(pub &'static str);
 
-/// Whether a claim of a trial holds. Where it doesn't, what it is about is printed, with a number that tells it from others.
+/// Whether a claim of a trial holds. Where it doesn't, what it is about is printed, with a number
+/// that tells it from others.
 pub fn holds<W: Write>(out: &mut W, claim: bool, trial: &str, what: &str, number: usize) -> bool {
     if !claim {
         let _ = writeln!(out, "WRONG: {trial}: {what} {number}");

@@ -23,7 +23,8 @@ const STEPS: u32 = 120_000;
 /// How many containers come aboard and go ashore again.
 const TURNS: u32 = 60_000;
 
-/// The movement instruction: what it begins with, what it has of each container, and what it ends with.
+/// The movement instruction: what it begins with, what it has of each container, and what it ends
+/// with.
 const HEAD: &[u8] = b"UNB+UNOA:2+PLAN+SHIP+250101:1200+8'UNH+1+MOVINS:D:95B:UN'";
 
 const TURN: &[u8] = b"HAN+LOA'LOC+147+0030082'MEA+WT++KGM:20500'HAN+DIS'LOC+147+0030082'EQD+CN'";

@@ -15,7 +15,8 @@ const NAME: &str = "publications";
 /// How many lists have to be published.
 const LISTS: u32 = THREADS * EACH;
 
-/// Which numbers are looked up, whether a list has them or not: all below this, and some far above it.
+/// Which numbers are looked up, whether a list has them or not: all below this, and some far above
+/// it.
 const LOOKED_UP: usize = 4_096;
 
 static FAR: [usize; 4] = [0x10_0000, 0x1_0000_0000, 0x4000_0000_0000_0000, usize::MAX];
@@ -117,7 +118,8 @@ fn only_given_are_found<W: Write>(
     right
 }
 
-/// Eight threads publish 125 lists each. Whether each of them is found and opened, and nothing else is found.
+/// Eight threads publish 125 lists each. Whether each of them is found and opened, and nothing else
+/// is found.
 pub fn try_publications<R: AllocGlobal + Threads + Wait + Sync, W: Write>(
     rt: &R,
     out: &mut W,

@@ -15,7 +15,8 @@ pub const THREADS: u32 = 8;
 /// How many lists each of them publishes.
 pub const EACH: u32 = 125;
 
-/// The weight of the first container in the first list that is published. Each other list has another weight.
+/// The weight of the first container in the first list that is published. Each other list has
+/// another weight.
 pub const FIRST: u32 = 1_000;
 
 /// A list that was published at a desk.
@@ -110,7 +111,8 @@ fn publish_all<'a, R: Wait>(
     lists
 }
 
-/// What a thread promises that publishes lists: nothing of how many, since each list has with it that its ticket is of the desk.
+/// What a thread promises that publishes lists: nothing of how many, since each list has with it
+/// that its ticket is of the desk.
 #[derive(Clone, Copy)]
 struct Anything;
 

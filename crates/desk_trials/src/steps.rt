@@ -79,8 +79,9 @@ pub fn two_loads(alloc: Global, kg: u32) -> Result<Vec<Op>, AllocError> {
     Ok(list)
 }
 
-/// A list of this number of steps, which is even: a container comes aboard and stays there, the tank is filled, and other containers, each of
-/// another weight, come aboard amidships and go ashore in turn.
+/// A list of this number of steps, which is even: a container comes aboard and stays there, the
+/// tank is filled, and other containers, each of another weight, come aboard amidships and go
+/// ashore in turn.
 pub fn turns(alloc: Global, steps: u32) -> Result<Vec<Op>, AllocError> {
     let mut list = Vec::new(alloc);
     list.push(load(FORWARD, 20_500))?;

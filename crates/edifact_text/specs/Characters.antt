@@ -1,5 +1,7 @@
--- The characters with a meaning of their own: the service characters, which an interchange may set, and the blanks.
-use Rattle.std.specs.Prelude.{ℕ, Option, Some, None, Bool, false, nat_le, nat_eq, ◌==◌, ◌&&◌, ◌||◌, if◌then◌else◌}
+-- The characters with a meaning of their own: the service characters, which an interchange may set,
+-- and the blanks.
+use Rattle.std.specs.Prelude.{ℕ, Option, Some, None, Bool, false, nat_le, nat_eq, ◌==◌, ◌&&◌, ◌||◌}
+use Rattle.std.specs.Prelude.{if◌then◌else◌}
 use Rattle.edifact_text.specs.declared.service.Service.{Service}
 
 -- Carriage return, line feed, tab and space.
@@ -13,11 +15,13 @@ is_release (Some r) byte = nat_eq byte r
 
 -- The service characters where there is no advice: `:`, `+`, `.`, `?` and `'`.
 abbrev pub default_service : Service
-default_service = record { component = 58; element = 43; mark = 46; release = Some 63; terminator = 39 }
+default_service =
+    record { component = 58; element = 43; mark = 46; release = Some 63; terminator = 39 }
 
 -- A letter, a digit or a blank other than the space.
 abbrev pub is_plain : ℕ → Bool
-is_plain b = (nat_le 48 b && nat_le b 57) || (nat_le 65 b && nat_le b 90) || (nat_le 97 b && nat_le b 122) || b == 13 || b == 10 || b == 9
+is_plain b = (nat_le 48 b && nat_le b 57) || (nat_le 65 b && nat_le b 90)
+    || (nat_le 97 b && nat_le b 122) || b == 13 || b == 10 || b == 9
 
 -- It can't separate.
 abbrev pub is_unfit : ℕ → Bool
@@ -29,9 +33,11 @@ release_of b = if b == 32 then None else Some b
 
 abbrev pub is_bad_release : Service → Option ℕ → Bool
 is_bad_release sv None = false
-is_bad_release sv (Some r) = is_plain r || r == sv.component || r == sv.element || r == sv.terminator
+is_bad_release sv (Some r) =
+    is_plain r || r == sv.component || r == sv.element || r == sv.terminator
 
--- A separator, the terminator or the release character can't serve, or two of them are one. The decimal mark may be any byte.
+-- A separator, the terminator or the release character can't serve, or two of them are one. The
+-- decimal mark may be any byte.
 abbrev pub is_bad_service : Service → Bool
 is_bad_service sv =
     is_unfit sv.component || is_unfit sv.element || is_unfit sv.terminator

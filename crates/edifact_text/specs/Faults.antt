@@ -1,5 +1,6 @@
 -- What a text is: a message, or a text with this fault.
-use Rattle.std.specs.Prelude.{◌≡◌, ◌≢◌, ◌⊎◌, ℕ, ◌+◌, ◌<◌, List, [], ◌∷◌, ◌++◌, length, map, Some, None, true, false, codes}
+use Rattle.std.specs.Prelude.{◌≡◌, ◌≢◌, ◌⊎◌, ℕ, ◌+◌, ◌<◌, List, [], ◌∷◌, ◌++◌, length, map, Some}
+use Rattle.std.specs.Prelude.{None, true, false, codes}
 use Rattle.edifact_text.specs.declared.faults.EdiFault.{EdiFault}
 use Rattle.edifact_text.specs.declared.faults.EdiCode.TheVariants.{Truncated, BadUna, Trailing}
 use Rattle.edifact_text.specs.declared.faults.Kind.{Kind}
@@ -23,8 +24,8 @@ abbrev pub advice : Service → ℕ → ℕ → List ℕ → List ℕ
 advice sv release reserved bytes =
     codes "UNA" ++ sv.component ∷ sv.element ∷ sv.mark ∷ release ∷ reserved ∷ sv.terminator ∷ bytes
 
--- Behind any blanks the text has a service string advice, which sets these characters, and then these bytes from this place on.
--- A release character of space means that there is none.
+-- Behind any blanks the text has a service string advice, which sets these characters, and then
+-- these bytes from this place on. A release character of space means that there is none.
 pub record IsAdvised (text : List ℕ) (sv : Service) (at : ℕ) (bytes : List ℕ) : Type 0 where
   pub blanks : List ℕ
   pub release : ℕ
@@ -46,11 +47,14 @@ pub record IsUnadvised (text : List ℕ) (sv : Service) (at : ℕ) (bytes : List
 
 -- The text's segments are spelt with these service characters, in these bytes from this place on.
 abbrev pub Begins : List ℕ → Service → ℕ → List ℕ → Type 0
-Begins text sv at bytes = (IsAdvised text sv at bytes × (is_bad_service sv ≡ false)) ⊎ IsUnadvised text sv at bytes
+Begins text sv at bytes = (IsAdvised text sv at bytes × (is_bad_service sv ≡ false))
+    ⊎ IsUnadvised text sv at bytes
 
--- The text is a message of the kind, with this decimal mark and these segments: the interchange's header, the message's header,
--- the segments, both trailers, and then nothing but blanks; and no row applies.
-pub record IsMessage (kind : Kind) (text : List ℕ) (mark : ℕ) (segments : List Numbered) : Type 0 where
+-- The text is a message of the kind, with this decimal mark and these segments: the interchange's
+-- header, the message's header, the segments, both trailers, and then nothing but blanks; and no
+-- row applies.
+pub record IsMessage (kind : Kind) (text : List ℕ) (mark : ℕ)
+    (segments : List Numbered) : Type 0 where
   pub service : Service
   pub at : ℕ
   pub bytes : List ℕ
@@ -89,8 +93,10 @@ pub record IsBadAdvice (text : List ℕ) (f : EdiFault) : Type 0 where
   pub code_is : f.code ≡ BadUna
   pub place_is : f.place + 9 ≡ at
 
--- A row applies to a segment, and none to those before it. The place is that of the segment's first byte.
-pub record IsRowFault (kind : Kind) (sv : Service) (at : ℕ) (bytes : List ℕ) (f : EdiFault) : Type 0 where
+-- A row applies to a segment, and none to those before it. The place is that of the segment's first
+-- byte.
+pub record IsRowFault (kind : Kind) (sv : Service) (at : ℕ) (bytes : List ℕ)
+    (f : EdiFault) : Type 0 where
   pub before : List Placed
   pub segment : Placed
   pub end : ℕ
@@ -101,8 +107,10 @@ pub record IsRowFault (kind : Kind) (sv : Service) (at : ℕ) (bytes : List ℕ)
   pub row : row_of kind (parts_of before) segment.parts ≡ Some f.code
   pub place_is : f.place ≡ segment.place
 
--- The text ends before the interchange does: no row applies, and no further segment can be spelt. The place is the text's length.
-pub record IsCut (kind : Kind) (sv : Service) (len at : ℕ) (bytes : List ℕ) (f : EdiFault) : Type 0 where
+-- The text ends before the interchange does: no row applies, and no further segment can be spelt.
+-- The place is the text's length.
+pub record IsCut (kind : Kind) (sv : Service) (len at : ℕ) (bytes : List ℕ)
+    (f : EdiFault) : Type 0 where
   pub before : List Placed
   pub end : ℕ
   pub rest : List ℕ
@@ -112,8 +120,10 @@ pub record IsCut (kind : Kind) (sv : Service) (len at : ℕ) (bytes : List ℕ) 
   pub no_more : (s : Placed) (e : ℕ) (r : List ℕ) → Segments sv end (s ∷ []) rest e r → ⊥
   pub fault_is : f ≡ record { code = Truncated; place = len }
 
--- A byte that is no blank follows the interchange. The place is that of the first byte that is no blank.
-pub record IsTrailed (kind : Kind) (sv : Service) (at : ℕ) (bytes : List ℕ) (f : EdiFault) : Type 0 where
+-- A byte that is no blank follows the interchange. The place is that of the first byte that is no
+-- blank.
+pub record IsTrailed (kind : Kind) (sv : Service) (at : ℕ) (bytes : List ℕ)
+    (f : EdiFault) : Type 0 where
   pub before : List Placed
   pub end : ℕ
   pub blanks : List ℕ
@@ -135,4 +145,5 @@ AreFaulty kind sv len at bytes f =
 abbrev pub IsFault : Kind → List ℕ → EdiFault → Type 0
 IsFault kind text f =
     IsCutAdvice text f ⊎ (IsBadAdvice text f
-    ⊎ ((sv : Service) × (at : ℕ) × (bytes : List ℕ) × Begins text sv at bytes × AreFaulty kind sv (length text) at bytes f))
+    ⊎ ((sv : Service) × (at : ℕ) × (bytes : List ℕ) × Begins text sv at bytes
+    × AreFaulty kind sv (length text) at bytes f))

@@ -1,6 +1,7 @@
--- How separators cut bytes into pieces, and what the bytes of a piece mean: both go through them with one flag, that the byte
--- before was a release character.
-use Rattle.std.specs.Prelude.{ℕ, List, [], ◌∷◌, Option, Some, None, Bool, true, false, nat_eq, not, ◌&&◌, if◌then◌else◌, option_map, ◌+◌}
+-- How separators cut bytes into pieces, and what the bytes of a piece mean: both go through them
+-- with one flag, that the byte before was a release character.
+use Rattle.std.specs.Prelude.{ℕ, List, [], ◌∷◌, Option, Some, None, Bool, true, false, nat_eq, not}
+use Rattle.std.specs.Prelude.{◌&&◌, if◌then◌else◌, option_map, ◌+◌}
 use Rattle.edifact_text.specs.Characters.{is_release}
 
 -- The byte releases the next one. One that is released itself (held) doesn't.

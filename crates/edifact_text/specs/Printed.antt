@@ -1,8 +1,13 @@
 -- The printed text of a code, and of a fault.
 use Rattle.std.specs.Prelude.{ℕ, List, ◌++◌, codes, decimal}
 use Rattle.edifact_text.specs.declared.faults.EdiCode.{EdiCode}
-use Rattle.edifact_text.specs.declared.faults.EdiCode.TheVariants.{Truncated, BadUna, NoUnb, Groups, NoUnh, WrongType, SegmentCount, MessageRef}
-use Rattle.edifact_text.specs.declared.faults.EdiCode.TheVariants.{SeveralMessages, InterchangeCount, InterchangeRef, Trailing, EmptySegment, TooManyElements}
+use Rattle.edifact_text.specs.declared.faults.EdiCode.TheVariants.{Truncated, BadUna, NoUnb, Groups}
+use Rattle.edifact_text.specs.declared.faults.EdiCode.TheVariants.{NoUnh, WrongType, SegmentCount}
+use Rattle.edifact_text.specs.declared.faults.EdiCode.TheVariants.{MessageRef}
+use Rattle.edifact_text.specs.declared.faults.EdiCode.TheVariants.{SeveralMessages}
+use Rattle.edifact_text.specs.declared.faults.EdiCode.TheVariants.{InterchangeCount, InterchangeRef}
+use Rattle.edifact_text.specs.declared.faults.EdiCode.TheVariants.{Trailing, EmptySegment}
+use Rattle.edifact_text.specs.declared.faults.EdiCode.TheVariants.{TooManyElements}
 use Rattle.edifact_text.specs.declared.faults.EdiFault.{EdiFault}
 
 abbrev pub edi_code_text : EdiCode → List ℕ

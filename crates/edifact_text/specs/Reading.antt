@@ -1,6 +1,8 @@
 -- An interchange as it is read, from left to right: its message, or its first fault.
-use Rattle.std.specs.Prelude.{ℕ, ◌+◌, ◌-◌, List, [], ◌∷◌, ◌++◌, length, take, map, Option, Some, None}
-use Rattle.std.specs.Prelude.{Result, Ok, Err, Bool, true, false, nat_lt, ◌==◌, ◌&&◌, if◌then◌else◌, ⊤}
+use Rattle.std.specs.Prelude.{ℕ, ◌+◌, ◌-◌, List, [], ◌∷◌, ◌++◌, length, take, map, Option, Some}
+use Rattle.std.specs.Prelude.{None}
+use Rattle.std.specs.Prelude.{Result, Ok, Err, Bool, true, false, nat_lt, ◌==◌, ◌&&◌, if◌then◌else◌}
+use Rattle.std.specs.Prelude.{⊤}
 use Rattle.edifact_text.specs.declared.faults.EdiFault.{EdiFault}
 use Rattle.edifact_text.specs.declared.faults.EdiCode.{EdiCode}
 use Rattle.edifact_text.specs.declared.faults.EdiCode.TheVariants.{Truncated, BadUna, Trailing}
@@ -54,13 +56,18 @@ pub record Stretch : Type 0 where
 abbrev pub stretches : ℕ → List (List ℕ) → List Stretch
 stretches at [] = []
 stretches at (piece ∷ more) =
-    record { place = at + (length piece - length (trimmed piece)); bytes = trimmed piece } ∷ stretches (at + length piece + 1) more
+    record {
+      place = at + (length piece - length (trimmed piece));
+      bytes = trimmed piece;
+    } ∷ stretches (at + length piece + 1) more
 
--- All the segments, headers and trailers too, judged one by one behind those before. The last stretch has no terminator.
+-- All the segments, headers and trailers too, judged one by one behind those before. The last
+-- stretch has no terminator.
 abbrev pub judged : Kind → Service → ℕ → List Parts → List Stretch → Result (List Parts) EdiFault
 judged kind sv len before [] = if is_closed before then Ok before else fault Truncated len
 judged kind sv len before (s ∷ []) =
-    if is_closed before then (row (nat_lt 0 (length s.bytes)) Trailing s.place >>= λ _. Ok before) else fault Truncated len
+    if is_closed before then (row (nat_lt 0 (length s.bytes)) Trailing s.place >>= λ _. Ok before)
+    else fault Truncated len
 judged kind sv len before (s ∷ t ∷ more) =
     if is_closed before then fault Trailing s.place
     else (as_result (row_of kind before (segment_of sv s.bytes)) s.place
@@ -79,7 +86,14 @@ pub record Start : Type 0 where
 
 abbrev pub advised : ℕ → ℕ → List ℕ → Result Start EdiFault
 advised len place (component ∷ element ∷ mark ∷ release ∷ reserved ∷ terminator ∷ rest) =
-    let sv : Service = record { component = component; element = element; mark = mark; release = release_of release; terminator = terminator } in
+    let sv : Service =
+    record {
+      component = component;
+      element = element;
+      mark = mark;
+      release = release_of release;
+      terminator = terminator;
+    } in
     if is_bad_service sv then fault BadUna place else Ok (record { service = sv; bytes = rest })
 advised len place bytes = fault Truncated len
 
@@ -96,5 +110,6 @@ start_of len place bytes = unadvised bytes
 unfoldable pub opened : Kind → List ℕ → Result Opened EdiFault
 opened kind text = do
   start ← start_of (length text) (length text - length (trimmed text)) (trimmed text)
-  all ← judged kind start.service (length text) [] (stretches (length text - length start.bytes) (cut_text start.service start.bytes))
+  all ← judged kind start.service (length text) []
+      (stretches (length text - length start.bytes) (cut_text start.service start.bytes))
   Ok (record { mark = start.service.mark; segments = numbered 2 (inner all) })

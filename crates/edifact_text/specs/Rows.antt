@@ -1,11 +1,15 @@
 -- The rows of the fault table: what is asked of a segment, by the segments that are before it.
 use Rattle.std.specs.Prelude.{ℕ, ◌+◌, ◌-◌, ◌*◌, List, [], ◌∷◌, ◌++◌, length, Option, Some}
-use Rattle.std.specs.Prelude.{None, Bool, false, nat_lt, nat_le, nat_eq, not, ◌&&◌, ◌||◌, if◌then◌else◌, codes}
+use Rattle.std.specs.Prelude.{None, Bool, false, nat_lt, nat_le, nat_eq, not, ◌&&◌, ◌||◌}
+use Rattle.std.specs.Prelude.{if◌then◌else◌, codes}
 use Rattle.std.specs.List.{list_any}
 use lib.Pointwise.{pointwise}
 use Rattle.edifact_text.specs.declared.faults.EdiCode.{EdiCode}
-use Rattle.edifact_text.specs.declared.faults.EdiCode.TheVariants.{NoUnb, Groups, NoUnh, WrongType, SegmentCount, MessageRef}
-use Rattle.edifact_text.specs.declared.faults.EdiCode.TheVariants.{SeveralMessages, InterchangeCount, InterchangeRef, EmptySegment, TooManyElements}
+use Rattle.edifact_text.specs.declared.faults.EdiCode.TheVariants.{NoUnb, Groups, NoUnh, WrongType}
+use Rattle.edifact_text.specs.declared.faults.EdiCode.TheVariants.{SegmentCount, MessageRef}
+use Rattle.edifact_text.specs.declared.faults.EdiCode.TheVariants.{SeveralMessages}
+use Rattle.edifact_text.specs.declared.faults.EdiCode.TheVariants.{InterchangeCount, InterchangeRef}
+use Rattle.edifact_text.specs.declared.faults.EdiCode.TheVariants.{EmptySegment, TooManyElements}
 use Rattle.edifact_text.specs.declared.faults.Kind.{Kind}
 use Rattle.edifact_text.specs.declared.faults.Kind.TheVariants.{Baplie, Movins}
 use Rattle.edifact_text.specs.Interchange.{Parts, component}
@@ -43,7 +47,8 @@ abbrev pub type_name : Kind → List ℕ
 type_name Baplie = codes "BAPLIE"
 type_name Movins = codes "MOVINS"
 
--- Element 2 of the message header names the kind, in directory D.95B of the United Nations. What follows is ignored.
+-- Element 2 of the message header names the kind, in directory D.95B of the United Nations. What
+-- follows is ignored.
 abbrev pub is_of_type : Kind → Parts → Bool
 is_of_type kind s =
     is_text (component s 2 0) (type_name kind) && (is_text (component s 2 1) (codes "D")
@@ -66,7 +71,8 @@ rows_of_all s =
     ∷ (nat_lt 64 (length s) || list_any (λ e. nat_lt 64 (length e)) s, TooManyElements)
     ∷ []
 
--- The rows of the interchange header, of the message header, of the segment behind the message trailer, and of those up to it.
+-- The rows of the interchange header, of the message header, of the segment behind the message
+-- trailer, and of those up to it.
 abbrev pub rows_behind : Kind → List Parts → Parts → Rows
 rows_behind kind [] s = (not (is_tag s (codes "UNB")), NoUnb) ∷ []
 rows_behind kind (unb ∷ []) s =
@@ -81,8 +87,11 @@ rows_behind kind (unb ∷ unh ∷ body) s =
     ∷ (not (is_one (component s 1 0)), InterchangeCount)
     ∷ (not (is_text (component s 2 0) (component unb 5 0)), InterchangeRef)
     ∷ []
-    else
-    (is_tag s (codes "UNT") && not (is_number (count_of (component s 1 0)) (length body + 2)), SegmentCount)
+    else (
+      is_tag s (codes "UNT")
+          && not (is_number (count_of (component s 1 0)) (length body + 2)),
+      SegmentCount,
+    )
     ∷ (is_tag s (codes "UNT") && not (is_text (component s 2 0) (component unh 1 0)), MessageRef)
     ∷ (is_tag s (codes "UNZ"), SegmentCount)
     ∷ []

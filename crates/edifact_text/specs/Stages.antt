@@ -1,23 +1,31 @@
 -- Bookkeeping: the reading stage by stage, as the functions of this crate share it out.
 use Rattle.std.specs.Prelude.{◌≡◌, ℕ, ◌+◌, ◌-◌, List, [], ◌∷◌, length, take, map, Result}
-use Rattle.std.specs.Prelude.{Ok, Err, Bool, nat_lt, ◌&&◌, ◌||◌, not, if◌then◌else◌, codes, ⊤, slice_index_or}
+use Rattle.std.specs.Prelude.{Ok, Err, Bool, nat_lt, ◌&&◌, ◌||◌, not, if◌then◌else◌, codes, ⊤}
+use Rattle.std.specs.Prelude.{slice_index_or}
 use Rattle.std.specs.List.{list_any}
 use Rattle.edifact_text.specs.declared.faults.EdiFault.{EdiFault}
-use Rattle.edifact_text.specs.declared.faults.EdiCode.TheVariants.{Truncated, NoUnb, Groups, NoUnh, WrongType, SegmentCount, MessageRef}
-use Rattle.edifact_text.specs.declared.faults.EdiCode.TheVariants.{SeveralMessages, InterchangeCount, InterchangeRef, Trailing, EmptySegment, TooManyElements}
+use Rattle.edifact_text.specs.declared.faults.EdiCode.TheVariants.{Truncated, NoUnb, Groups, NoUnh}
+use Rattle.edifact_text.specs.declared.faults.EdiCode.TheVariants.{WrongType, SegmentCount}
+use Rattle.edifact_text.specs.declared.faults.EdiCode.TheVariants.{MessageRef}
+use Rattle.edifact_text.specs.declared.faults.EdiCode.TheVariants.{SeveralMessages}
+use Rattle.edifact_text.specs.declared.faults.EdiCode.TheVariants.{InterchangeCount, InterchangeRef}
+use Rattle.edifact_text.specs.declared.faults.EdiCode.TheVariants.{Trailing, EmptySegment}
+use Rattle.edifact_text.specs.declared.faults.EdiCode.TheVariants.{TooManyElements}
 use Rattle.edifact_text.specs.declared.faults.Kind.{Kind}
 use Rattle.edifact_text.specs.declared.service.Service.{Service}
 use Rattle.edifact_text.specs.Interchange.{Parts, Opened, numbered}
 use Rattle.edifact_text.specs.Pieces.{pieces, literal}
 use Rattle.edifact_text.specs.Rows.{is_text, type_name, count_of, is_number, is_one}
-use Rattle.edifact_text.specs.Reading.{◌>>=◌, fault, row, trimmed, segment_of, Stretch, stretches, start_of, cut_text}
+use Rattle.edifact_text.specs.Reading.{◌>>=◌, fault, row, trimmed, segment_of, Stretch, stretches}
+use Rattle.edifact_text.specs.Reading.{start_of, cut_text}
 
 -- The bytes of an element, and of a component; empty where its number is past the last.
 abbrev pub element_bytes : Service → List ℕ → ℕ → List ℕ
 element_bytes sv segment i = slice_index_or (pieces sv.release sv.element segment) i []
 
 abbrev pub component_bytes : Service → List ℕ → ℕ → ℕ → List ℕ
-component_bytes sv segment i j = slice_index_or (pieces sv.release sv.component (element_bytes sv segment i)) j []
+component_bytes sv segment i j =
+    slice_index_or (pieces sv.release sv.component (element_bytes sv segment i)) j []
 
 -- The literal of component j of element i.
 unfoldable pub part : Service → List ℕ → ℕ → ℕ → List ℕ
@@ -145,8 +153,12 @@ message_parts sv segments = map (λ s. segment_of sv s.bytes) segments
 unfoldable pub staged : Kind → List ℕ → Result Opened EdiFault
 staged kind text = do
   start ← start_of (length text) (length text - length (trimmed text)) (trimmed text)
-  segments ← message_of kind start.service (length text) (stretches (length text - length start.bytes) (cut_text start.service start.bytes))
-  Ok (record { mark = start.service.mark; segments = numbered 2 (message_parts start.service segments) })
+  segments ← message_of kind start.service (length text)
+      (stretches (length text - length start.bytes) (cut_text start.service start.bytes))
+  Ok (record {
+    mark = start.service.mark;
+    segments = numbered 2 (message_parts start.service segments);
+  })
 
 -- What a function returned, seen by view, is what reading gives.
 abbrev pub Gives : {X Y : Type 0} → (X → Y) → Result X EdiFault → Result Y EdiFault → Type 0

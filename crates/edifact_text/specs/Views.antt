@@ -1,5 +1,6 @@
 -- Bookkeeping: the code's values, as contracts see them.
-use Rattle.std.specs.Prelude.{ℕ, ◌-◌, List, [], ◌∷◌, length, take, Option, Some, None, Bool, false, ◌==◌, ◌||◌, slice_index_or}
+use Rattle.std.specs.Prelude.{ℕ, ◌-◌, List, [], ◌∷◌, length, take, Option, Some, None, Bool, false}
+use Rattle.std.specs.Prelude.{◌==◌, ◌||◌, slice_index_or}
 use Rattle.edifact_text.specs.declared.raw.Raw.{Raw}
 use Rattle.edifact_text.specs.declared.segment_text.SegmentText.{SegmentText}
 use Rattle.edifact_text.specs.declared.cursor.Cursor.{Cursor}
@@ -28,15 +29,16 @@ is_end None byte = false
 is_end (Some ends) byte = byte == ends.element || byte == ends.component
 
 -- The literal that some bytes of a segment mean.
-unfoldable pub meant : Raw → List ℕ
-meant raw = literal raw.release (up_to raw.release raw.ends raw.bytes.now)
+unfoldable pub meaning_of : Raw → List ℕ
+meaning_of raw = literal raw.release (up_to raw.release raw.ends raw.bytes.now)
 
-abbrev pub seen : SegmentText → Stretch
-seen text = record { place = text.place; bytes = text.bytes.now }
+abbrev pub stretch_of : SegmentText → Stretch
+stretch_of text = record { place = text.place; bytes = text.bytes.now }
 
 -- The segments ahead: the pieces of what is left of the text, the last of which has no terminator.
 abbrev pub ahead : Cursor → List Stretch
-ahead c = stretches (c.len - length c.rest.now) (pieces c.service.release c.service.terminator c.rest.now)
+ahead c = stretches (c.len - length c.rest.now)
+    (pieces c.service.release c.service.terminator c.rest.now)
 
 -- The letters of a tag.
 abbrev pub letters_of : Tag → List ℕ
@@ -48,11 +50,13 @@ numbered_view s = record { number = s.number; parts = segment_of s.service s.byt
 
 -- The segments that are left.
 unfoldable pub left_of : Segments → List Numbered
-left_of s = numbered s.first (message_parts s.left.service (take s.count (ended_ones (ahead s.left))))
+left_of s = numbered s.first
+    (message_parts s.left.service (take s.count (ended_ones (ahead s.left))))
 
 -- The decimal mark of the interchange, and the segments of the message.
 unfoldable pub message_view : Message → Opened
 message_view m = record {
   mark = m.behind.service.mark;
-  segments = numbered 2 (message_parts m.behind.service (take m.count (ended_ones (ahead m.behind))));
+  segments = numbered 2
+      (message_parts m.behind.service (take m.count (ended_ones (ahead m.behind))));
 }

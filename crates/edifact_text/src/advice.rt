@@ -1,5 +1,6 @@
 ghost use Rattle.std.specs.Prelude.{◌≡◌, ◌≤◌, length, IfOk};
-ghost use Rattle.edifact_text.specs.Characters.{is_plain, is_unfit, release_of, is_bad_release, is_bad_service, default_service};
+ghost use Rattle.edifact_text.specs.Characters.{is_plain, is_unfit, release_of, is_bad_release};
+ghost use Rattle.edifact_text.specs.Characters.{is_bad_service, default_service};
 ghost use Rattle.edifact_text.specs.Reading.{start_of, advised, Start, unadvised};
 ghost use Rattle.edifact_text.specs.Stages.{Gives};
 

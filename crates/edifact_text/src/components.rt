@@ -4,7 +4,7 @@ ghost use Rattle.edifact_text.specs.Pieces.{literal, pieces};
 ghost use Rattle.edifact_text.specs.Reading.{segment_of};
 ghost use Rattle.edifact_text.specs.Spelling.{is_service};
 ghost use Rattle.edifact_text.specs.Stages.{part};
-ghost use Rattle.edifact_text.specs.Views.{letters_of, meant};
+ghost use Rattle.edifact_text.specs.Views.{letters_of, meaning_of};
 
 use crate::pieces::{cut, from_piece, is_release};
 use crate::raw::Raw;
@@ -22,8 +22,8 @@ pub(crate) fn is_service(service: Service, byte: u8) -> bool
         || byte == service.terminator
 }
 
-/// The tag of a segment, where that begins with three ordinary bytes and an element separator. Nearly
-/// every segment begins so, and for the others nothing is said.
+/// The tag of a segment, where that begins with three ordinary bytes and an element separator.
+/// Nearly every segment begins so, and for the others nothing is said.
 #[inline(always)]
 #[tactic(auto, using(crate::proofs::TagLemmas::tag_part, crate::proofs::TagLemmas::tag_parts))]
 pub(crate) fn plain_tag(bytes: &[u8], service: Service) -> Option<Tag>
@@ -61,12 +61,12 @@ pub(crate) fn is_plain(bytes: &[u8], service: Service) -> bool
     }
 }
 
-/// Component `j` of element `i` of a segment, or nothing where there is none. The first of an element isn't cut: where it ends
-/// is seen when it is read.
+/// Component `j` of element `i` of a segment, or nothing where there is none. The first of an
+/// element isn't cut: where it ends is seen when it is read.
 #[inline(always)]
 #[tactic(auto, unfolding(crate::specs::Stages::part))]
 pub(crate) fn component_of(bytes: &[u8], service: Service, i: usize, j: usize) -> Raw<'_>
-    ensures { meant result ≡ part service bytes.now i j }
+    ensures { meaning_of result ≡ part service bytes.now i j }
 {
     let rest = match from_piece(bytes, service.release, service.element, i) {
         Some(rest) => rest,
@@ -82,7 +82,7 @@ pub(crate) fn component_of(bytes: &[u8], service: Service, i: usize, j: usize) -
 /// Component `j` of an element, or nothing where there is none.
 #[inline(never)]
 fn inner_of(element: &[u8], service: Service, j: usize) -> Raw<'_>
-    ensures { meant result ≡ literal service.release
+    ensures { meaning_of result ≡ literal service.release
         (slice_index_or (pieces service.release service.component element.now) j []) }
 {
     match from_piece(element, service.release, service.component, j) {

@@ -1,5 +1,6 @@
 //! Going through the text, a segment at a time.
-ghost use Rattle.std.specs.Prelude.{◌≡◌, ◌<◌, ◌≤◌, length, MatchResult, MatchOption, IfOk, IfSome, [], ◌∷◌};
+ghost use Rattle.std.specs.Prelude.{◌≡◌, ◌<◌, ◌≤◌, length, MatchResult, MatchOption, IfOk, IfSome};
+ghost use Rattle.std.specs.Prelude.{[], ◌∷◌};
 
 use crate::faults::{EdiCode, EdiFault};
 use crate::pieces::{far_cut, skip_blanks};
@@ -18,13 +19,14 @@ pub(crate) struct Cursor<'a> {
 
 impl<'a> Cursor<'a> {
     ghost use Rattle.edifact_text.specs.Stages.{next_of, ended_ones};
-    ghost use Rattle.edifact_text.specs.Views.{ahead, seen};
+    ghost use Rattle.edifact_text.specs.Views.{ahead, stretch_of};
 
     /// The text before the next terminator, and the text behind it; without one, all that is left.
     #[inline(always)]
     pub(crate) fn take(self) -> (SegmentText<'a>, Option<Cursor<'a>>)
-        ensures first { MatchOption result.1 (ahead self.entry ≡ seen result.0 ∷ [])
-            (λ rest. (ahead self.entry ≡ seen result.0 ∷ ahead rest) × (0 < length (ahead rest))) }
+        ensures first { MatchOption result.1 (ahead self.entry ≡ stretch_of result.0 ∷ [])
+            (λ rest. (ahead self.entry ≡ stretch_of result.0 ∷ ahead rest)
+            × (0 < length (ahead rest))) }
         ensures service { result.0.service ≡ self.entry.service }
         ensures same { IfSome result.1
             (λ rest. (rest.service ≡ self.entry.service) × (rest.len ≡ self.entry.len)
@@ -56,7 +58,7 @@ impl<'a> Cursor<'a> {
     #[inline(always)]
     pub(crate) fn split_first(self) -> Option<(SegmentText<'a>, Cursor<'a>)>
         ensures first { MatchOption result (ended_ones (ahead self.entry) ≡ [])
-            (λ p. ended_ones (ahead self.entry) ≡ seen p.0 ∷ ended_ones (ahead p.1)) }
+            (λ p. ended_ones (ahead self.entry) ≡ stretch_of p.0 ∷ ended_ones (ahead p.1)) }
         ensures same { IfSome result
             (λ p. (p.0.service ≡ self.entry.service) × (p.1.service ≡ self.entry.service)) }
     {
@@ -69,7 +71,7 @@ impl<'a> Cursor<'a> {
     pub(crate) fn next(self) -> Result<(SegmentText<'a>, Cursor<'a>), EdiFault>
         ensures next { MatchResult result
             (λ p. next_of self.entry.service self.entry.len (ahead self.entry)
-            ≡ Ok (seen p.0, ahead p.1))
+            ≡ Ok (stretch_of p.0, ahead p.1))
             (λ e. next_of self.entry.service self.entry.len (ahead self.entry) ≡ Err e) }
         ensures same { IfOk result
             (λ p. (p.0.service ≡ self.entry.service) × (p.1.service ≡ self.entry.service)

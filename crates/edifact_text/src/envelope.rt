@@ -2,8 +2,9 @@
 ghost use Rattle.std.specs.Prelude.{◌≡◌, ◌≤◌, ◌+◌, length, IfOk, IfErr, take, MatchResult};
 ghost use Rattle.edifact_text.specs.Faults.{IsMessage, IsFault};
 ghost use Rattle.edifact_text.specs.Reading.{opened};
-ghost use Rattle.edifact_text.specs.Stages.{Gives, ended_ones, headers_of, trailer_of, ends_of, end_rows, message_of, staged};
-ghost use Rattle.edifact_text.specs.Views.{ahead, seen, message_view};
+ghost use Rattle.edifact_text.specs.Stages.{Gives, ended_ones, headers_of, trailer_of, ends_of};
+ghost use Rattle.edifact_text.specs.Stages.{end_rows, message_of, staged};
+ghost use Rattle.edifact_text.specs.Views.{ahead, stretch_of, message_view};
 
 use crate::advice::start_of;
 use crate::cursor::Cursor;
@@ -24,7 +25,11 @@ struct Headers<'a> {
 #[tactic(auto, unfolding(crate::specs::Stages::headers_of))]
 fn read_headers<'a>(kind: Kind, cursor: Cursor<'a>) -> Result<Headers<'a>, EdiFault>
     ensures value { Gives
-        (λ h. record { unb = seen h.unb; unh = seen h.unh; behind = ahead h.behind }) result
+        (λ h. record {
+          unb = stretch_of h.unb;
+          unh = stretch_of h.unh;
+          behind = ahead h.behind;
+        }) result
         (headers_of kind cursor.entry.service cursor.entry.len (ahead cursor.entry)) }
     ensures same { IfOk result
         (λ h. (h.unb.service ≡ cursor.entry.service) × (h.unh.service ≡ cursor.entry.service)
@@ -53,7 +58,8 @@ fn end_rows(cursor: Cursor<'_>) -> Result<(), EdiFault>
 fn ends(unb: SegmentText<'_>, cursor: Cursor<'_>) -> Result<(), EdiFault>
     requires { unb.service ≡ cursor.service }
     ensures { result
-        ≡ ends_of cursor.entry.service cursor.entry.len (seen unb.entry) (ahead cursor.entry) }
+        ≡ ends_of cursor.entry.service cursor.entry.len (stretch_of unb.entry)
+        (ahead cursor.entry) }
 {
     let (unz, behind) = cursor.next()?;
     unz.unz_rows(unb)?;
@@ -71,7 +77,11 @@ struct Ended<'a> {
 /// The segments up to the message trailer, each checked.
 fn trailer<'a>(cursor: Cursor<'a>) -> Result<Ended<'a>, EdiFault>
     ensures value { Gives (λ e.
-        record { trailer = seen e.trailer; number = e.number; behind = ahead e.behind }) result
+        record {
+          trailer = stretch_of e.trailer;
+          number = e.number;
+          behind = ahead e.behind;
+        }) result
         (trailer_of cursor.entry.service cursor.entry.len 2 (ahead cursor.entry)) }
     ensures same { IfOk result
         (λ e. (e.trailer.service ≡ cursor.entry.service) × (e.behind.service ≡ cursor.entry.service)
@@ -130,11 +140,13 @@ fn read_text(bytes: &[u8], kind: Kind) -> Result<Message<'_>, EdiFault>
     )
 }
 
-/// The message of this kind that the text is, or its first fault and the fault's place, in bytes from the beginning.
+/// The message of this kind that the text is, or its first fault and the fault's place, in bytes
+/// from the beginning.
 ///
-/// The text is one interchange by ISO 9735: a service string advice or none, UNB, UNH, the message, UNT, UNZ, and nothing but
-/// blanks behind it. Segments are looked at in their order, each once its terminator is found; which fault each answers, and
-/// which goes before which, is the table of `specs/Rows.antt`.
+/// The text is one interchange by ISO 9735: a service string advice or none, UNB, UNH, the message,
+/// UNT, UNZ, and nothing but blanks behind it. Segments are looked at in their order, each once its
+/// terminator is found; which fault each answers, and which goes before which, is the table of
+/// `specs/Rows.antt`.
 pub fn open(bytes: &[u8], kind: Kind) -> Result<Message<'_>, EdiFault>
     // What is answered, as a function of the text.
     ensures exact { MatchResult result (λ m. opened kind bytes.now ≡ Ok (message_view m))

@@ -12,7 +12,8 @@ pub enum Kind {
 /// Why a text isn't the message that is asked for. It prints as its code.
 #[derive(Clone, Copy, Debug, PartialEq, Eq)]
 pub enum EdiCode {
-    /// The text ends inside the service string advice, inside a segment, or before the interchange trailer.
+    /// The text ends inside the service string advice, inside a segment, or before the interchange
+    /// trailer.
     Truncated,
     /// The service string advice sets characters that can't serve.
     BadUna,
@@ -24,7 +25,8 @@ pub enum EdiCode {
     NoUnh,
     /// The message is of another type, directory or agency.
     WrongType,
-    /// The message trailer doesn't count the segments from the header to itself, or the interchange's trailer comes before it.
+    /// The message trailer doesn't count the segments from the header to itself, or the
+    /// interchange's trailer comes before it.
     SegmentCount,
     /// The message trailer's reference isn't its header's.
     MessageRef,

@@ -7,12 +7,14 @@ ghost use Rattle.edifact_text.specs.Spelling.{Segment, Apart, terminated};
 ghost use Rattle.edifact_text.specs.Faults.{IsMessage, IsFault};
 ghost use Rattle.edifact_text.specs.Reading.{cut_text, segment_of, opened};
 
-/// A text has one reading: it is exactly one message of the kind, or it has exactly one fault. [`open`](crate::open)
-/// answers what the definitions say (`specs/Spelling.antt`, `specs/Rows.antt`, `specs/Faults.antt`). Of one segment: where
-/// it is spelt before a terminator, it is read there, and what is read there is spelt so.
+/// A text has one reading: it is exactly one message of the kind, or it has exactly one fault.
+/// [`open`](crate::open) answers what the definitions say (`specs/Spelling.antt`,
+/// `specs/Rows.antt`, `specs/Faults.antt`). Of one segment: where it is spelt before a terminator,
+/// it is read there, and what is read there is spelt so.
 pub fn one_reading()
     ensures message { (kind : Kind) (text : List ℕ) (mark : ℕ) (segments : List Numbered) →
-        IsMessage kind text mark segments → opened kind text ≡ Ok (record { mark = mark; segments = segments }) }
+        IsMessage kind text mark segments
+        → opened kind text ≡ Ok (record { mark = mark; segments = segments }) }
     ensures fault { (kind : Kind) (text : List ℕ) (f : EdiFault) → IsFault kind text f
         → opened kind text ≡ Err f }
     ensures either { (kind : Kind) (text : List ℕ) →

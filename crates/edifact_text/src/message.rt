@@ -4,7 +4,8 @@ ghost use Rattle.edifact_text.specs.Reading.{segment_of};
 use crate::cursor::Cursor;
 use crate::service::Service;
 
-/// The message of an interchange: the segments between its header and its trailer. It borrows the text.
+/// The message of an interchange: the segments between its header and its trailer. It borrows the
+/// text.
 #[derive(Clone, Copy)]
 pub struct Message<'a> {
     /// The text behind the message header.

@@ -1,6 +1,6 @@
 ghost use Rattle.std.specs.Prelude.{◌≡◌};
 ghost use Rattle.edifact_text.specs.Rows.{count_of, is_one};
-ghost use Rattle.edifact_text.specs.Views.{meant};
+ghost use Rattle.edifact_text.specs.Views.{meaning_of};
 
 use crate::raw::Raw;
 use arrayvec::ArrayVec;
@@ -24,7 +24,7 @@ pub(crate) fn number(digits: &[u8]) -> Option<u64>
 
 /// The number that a literal of 1 to 10 digits writes.
 pub(crate) fn count(raw: Raw<'_>) -> Option<u64>
-    ensures { result ≡ count_of (meant raw.entry) }
+    ensures { result ≡ count_of (meaning_of raw.entry) }
 {
     let mut digits: ArrayVec<u8, 35> = ArrayVec::new();
     if !raw.literal_into(&mut digits) {
@@ -35,7 +35,7 @@ pub(crate) fn count(raw: Raw<'_>) -> Option<u64>
 
 /// The literal is the number 1, behind any zeros.
 pub(crate) fn is_one(raw: Raw<'_>) -> bool
-    ensures { result ≡ is_one (meant raw.entry) }
+    ensures { result ≡ is_one (meaning_of raw.entry) }
 {
     let mut left = raw;
     while let Some((byte, rest)) = left.split_first() {

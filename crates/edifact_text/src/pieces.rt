@@ -1,5 +1,7 @@
 //! Cutting bytes at a separator. A separator behind a release character cuts nothing.
-ghost use Rattle.std.specs.Prelude.{◌≡◌, ◌↔◌, ◌<◌, ◌≤◌, IsTrue, false, IfSome, MatchOption, length, slice_index_or, [], ◌∷◌, ◌+◌, drop, option_map, take, not, ◌==◌};
+ghost use Rattle.std.specs.Prelude.{◌≡◌, ◌↔◌, ◌<◌, ◌≤◌, IsTrue, false, IfSome, MatchOption, length};
+ghost use Rattle.std.specs.Prelude.{slice_index_or, [], ◌∷◌, ◌+◌, drop, option_map, take, not};
+ghost use Rattle.std.specs.Prelude.{◌==◌};
 ghost use Rattle.std.specs.List.{prefix_len};
 ghost use Rattle.edifact_text.specs.Characters.{is_release, is_blank};
 ghost use Rattle.edifact_text.specs.Pieces.{end_from, pieces};
@@ -88,8 +90,8 @@ fn near_length(bytes: &[u8], release: Option<u8>, separator: u8) -> Option<usize
     if at < 32 { Some(at) } else { None }
 }
 
-/// The index of the first separator that cuts, where it may be far off. Only from a release character on is each byte
-/// looked at.
+/// The index of the first separator that cuts, where it may be far off. Only from a release
+/// character on is each byte looked at.
 #[inline(always)]
 #[tactic(auto, using(crate::proofs::FarLemmas::ends_at))]
 pub(crate) fn far_end_of(bytes: &[u8], release: Option<u8>, separator: u8) -> Option<usize>
@@ -117,7 +119,8 @@ fn end_behind(bytes: &[u8], release: Option<u8>, separator: u8) -> Option<usize>
     }
 }
 
-/// The bytes before this end, and those behind the separator that is there; all of them where there is none.
+/// The bytes before this end, and those behind the separator that is there; all of them where there
+/// is none.
 #[inline(always)]
 fn parted(
     bytes: &[u8],

@@ -1,14 +1,16 @@
-ghost use Rattle.std.specs.Prelude.{◌≡◌, ◌↔◌, ◌<◌, ◌≤◌, IsTrue, IfSome, MatchOption, length, [], ◌∷◌};
+ghost use Rattle.std.specs.Prelude.{◌≡◌, ◌↔◌, ◌<◌, ◌≤◌, IsTrue, IfSome, MatchOption, length, []};
+ghost use Rattle.std.specs.Prelude.{◌∷◌};
 ghost use Rattle.edifact_text.specs.Rows.{is_text};
 ghost use Rattle.edifact_text.specs.Pieces.{literal};
-ghost use Rattle.edifact_text.specs.Views.{meant, front, is_end};
+ghost use Rattle.edifact_text.specs.Views.{meaning_of, front, is_end};
 
 use crate::pieces::is_release;
 use crate::service::{Ends, Service};
 use arrayvec::ArrayVec;
 
-/// A component as the text writes it. It means its literal: the release character makes the byte behind it literal, and isn't
-/// meant itself. It borrows the text, and everything here is asked of the literal.
+/// A component as the text writes it. It means its literal: the release character makes the byte
+/// behind it literal, and isn't meant itself. It borrows the text, and everything here is asked of
+/// the literal.
 #[derive(Clone, Copy)]
 pub struct Raw<'a> {
     bytes: &'a [u8],
@@ -19,9 +21,9 @@ pub struct Raw<'a> {
 
 impl<'a> Raw<'a> {
     /// These bytes of a segment, where this is the release character.
-    #[tactic(auto, unfolding(crate::specs::Views::meant))]
+    #[tactic(auto, unfolding(crate::specs::Views::meaning_of))]
     pub(crate) fn new(bytes: &'a [u8], release: Option<u8>) -> Raw<'a>
-        ensures { meant result ≡ literal release bytes.now }
+        ensures { meaning_of result ≡ literal release bytes.now }
     {
         Raw {
             bytes,
@@ -31,9 +33,10 @@ impl<'a> Raw<'a> {
     }
 
     /// The component with which these bytes of a segment begin.
-    #[tactic(auto, unfolding(crate::specs::Views::meant))]
+    #[tactic(auto, unfolding(crate::specs::Views::meaning_of))]
     pub(crate) fn leading(bytes: &'a [u8], service: Service) -> Raw<'a>
-        ensures { meant result ≡ literal service.release (front service.release service.component
+        ensures { meaning_of result ≡ literal service.release
+            (front service.release service.component
             (front service.release service.element bytes.now)) }
     {
         Raw {
@@ -59,10 +62,10 @@ impl<'a> Raw<'a> {
 
     /// The literal's first byte, and a component that means the rest of it.
     #[inline(always)]
-    #[tactic(auto, unfolding(crate::specs::Views::meant))]
+    #[tactic(auto, unfolding(crate::specs::Views::meaning_of))]
     pub(crate) fn split_first(self) -> Option<(u8, Raw<'a>)>
-        ensures first { MatchOption result (meant self.entry ≡ [])
-            (λ p. meant self.entry ≡ p.0 ∷ meant p.1) }
+        ensures first { MatchOption result (meaning_of self.entry ≡ [])
+            (λ p. meaning_of self.entry ≡ p.0 ∷ meaning_of p.1) }
         ensures less { IfSome result (λ p. length p.1.bytes.now < length self.entry.bytes.now) }
     {
         match self.bytes {
@@ -96,9 +99,9 @@ impl<'a> Raw<'a> {
 
     /// The literal, unchanged from the text, where no byte of it is released.
     #[inline(always)]
-    #[tactic(auto, unfolding(crate::specs::Views::meant))]
+    #[tactic(auto, unfolding(crate::specs::Views::meaning_of))]
     fn unreleased(self) -> Option<&'a [u8]>
-        ensures { IfSome result (λ text. meant self.entry ≡ text.now) }
+        ensures { IfSome result (λ text. meaning_of self.entry ≡ text.now) }
     {
         for (at, byte) in self.bytes.iter().enumerate() {
             if is_release(self.release, *byte) {
@@ -111,12 +114,12 @@ impl<'a> Raw<'a> {
         Some(self.bytes)
     }
 
-    /// Writes the literal to `out`, in place of what it held. Where it has more than `MOST` bytes the answer is false, and `out`
-    /// is empty.
+    /// Writes the literal to `out`, in place of what it held. Where it has more than `MOST` bytes
+    /// the answer is false, and `out` is empty.
     #[inline(always)]
     pub fn literal_into<const MOST: usize>(self, out: &mut ArrayVec<u8, MOST>) -> bool
-        ensures fits { IsTrue result ↔ (length (meant self.entry) ≤ MOST) }
-        ensures literal { IsTrue result → out.new.items ≡ meant self.entry }
+        ensures fits { IsTrue result ↔ (length (meaning_of self.entry) ≤ MOST) }
+        ensures literal { IsTrue result → out.new.items ≡ meaning_of self.entry }
         ensures empty { ¬ IsTrue result → out.new.items ≡ [] }
     {
         if let Some(text) = self.unreleased() {
@@ -129,8 +132,8 @@ impl<'a> Raw<'a> {
     /// Writes the literal to `out` as `literal_into` does, byte by byte.
     #[inline(never)]
     fn spelt_into<const MOST: usize>(self, out: &mut ArrayVec<u8, MOST>) -> bool
-        ensures fits { IsTrue result ↔ (length (meant self.entry) ≤ MOST) }
-        ensures literal { IsTrue result → out.new.items ≡ meant self.entry }
+        ensures fits { IsTrue result ↔ (length (meaning_of self.entry) ≤ MOST) }
+        ensures literal { IsTrue result → out.new.items ≡ meaning_of self.entry }
         ensures empty { ¬ IsTrue result → out.new.items ≡ [] }
     {
         out.clear();
@@ -147,7 +150,7 @@ impl<'a> Raw<'a> {
 
     /// The two literals are equal.
     pub fn same(self, other: Raw<'_>) -> bool
-        ensures { IsTrue result ↔ (meant self.entry ≡ meant other.entry) }
+        ensures { IsTrue result ↔ (meaning_of self.entry ≡ meaning_of other.entry) }
     {
         let mut left = self;
         let mut right = other;
@@ -169,7 +172,7 @@ impl<'a> Raw<'a> {
     /// The literal is this text.
     #[inline(always)]
     pub fn is(self, text: &[u8]) -> bool
-        ensures { IsTrue result ↔ (meant self.entry ≡ text.now) }
+        ensures { IsTrue result ↔ (meaning_of self.entry ≡ text.now) }
     {
         let mut left = self;
         for expected in text {
@@ -189,14 +192,14 @@ impl<'a> Raw<'a> {
     /// The literal is this text, for definitions that compute.
     #[tactic(auto, using(crate::proofs::Texts::told))]
     pub(crate) fn reads(self, text: &[u8]) -> bool
-        ensures { result ≡ is_text (meant self.entry) text.now }
+        ensures { result ≡ is_text (meaning_of self.entry) text.now }
     {
         self.is(text)
     }
 
     /// The literal is empty.
     pub fn is_empty(self) -> bool
-        ensures { IsTrue result ↔ (meant self.entry ≡ []) }
+        ensures { IsTrue result ↔ (meaning_of self.entry ≡ []) }
     {
         self.split_first().is_none()
     }

@@ -1,8 +1,9 @@
 //! The envelope's rows of the fault table, in their order.
 ghost use Rattle.std.specs.Prelude.{◌≡◌, codes};
 ghost use Rattle.edifact_text.specs.Rows.{is_text};
-ghost use Rattle.edifact_text.specs.Stages.{unb_rows, unh_rows, unt_rows, unz_rows, is_of_type, part};
-ghost use Rattle.edifact_text.specs.Views.{seen};
+ghost use Rattle.edifact_text.specs.Stages.{unb_rows, unh_rows, unt_rows, unz_rows, is_of_type};
+ghost use Rattle.edifact_text.specs.Stages.{part};
+ghost use Rattle.edifact_text.specs.Views.{stretch_of};
 
 use crate::components::is_service;
 use crate::faults::{EdiCode, EdiFault, Kind};
@@ -53,14 +54,14 @@ impl SegmentText<'_> {
 
     /// The interchange header.
     pub(crate) fn unb_rows(self) -> Result<(), EdiFault>
-        ensures { result ≡ unb_rows self.entry.service (seen self.entry) }
+        ensures { result ≡ unb_rows self.entry.service (stretch_of self.entry) }
     {
         self.fault(!self.has(0, 0, b"UNB"), EdiCode::NoUnb)
     }
 
     /// The message type, directory and agency are those of the kind.
     fn is_of_type(self, kind: Kind) -> bool
-        ensures { result ≡ is_of_type kind self.entry.service (seen self.entry) }
+        ensures { result ≡ is_of_type kind self.entry.service (stretch_of self.entry) }
     {
         let name: &[u8] = match kind {
             Kind::Baplie => b"BAPLIE",
@@ -74,7 +75,7 @@ impl SegmentText<'_> {
 
     /// The message header.
     pub(crate) fn unh_rows(self, kind: Kind) -> Result<(), EdiFault>
-        ensures { result ≡ unh_rows kind self.entry.service (seen self.entry) }
+        ensures { result ≡ unh_rows kind self.entry.service (stretch_of self.entry) }
     {
         self.fault(self.has(0, 0, b"UNG"), EdiCode::Groups)?;
         self.fault(!self.has(0, 0, b"UNH"), EdiCode::NoUnh)?;
@@ -84,7 +85,8 @@ impl SegmentText<'_> {
     /// The message trailer, by its header and its own number in the message.
     pub(crate) fn unt_rows(self, unh: SegmentText<'_>, number: u64) -> Result<(), EdiFault>
         requires { self.service ≡ unh.service }
-        ensures { result ≡ unt_rows self.entry.service (seen unh.entry) (seen self.entry) number }
+        ensures { result
+            ≡ unt_rows self.entry.service (stretch_of unh.entry) (stretch_of self.entry) number }
     {
         self.fault(!self.has_count(1, 0, number), EdiCode::SegmentCount)?;
         self.fault(!self.same(2, 0, unh, 1, 0), EdiCode::MessageRef)
@@ -93,7 +95,8 @@ impl SegmentText<'_> {
     /// The segment behind the message trailer, by the interchange header.
     pub(crate) fn unz_rows(self, unb: SegmentText<'_>) -> Result<(), EdiFault>
         requires { self.service ≡ unb.service }
-        ensures { result ≡ unz_rows self.entry.service (seen unb.entry) (seen self.entry) }
+        ensures { result
+            ≡ unz_rows self.entry.service (stretch_of unb.entry) (stretch_of self.entry) }
     {
         self.fault(
             self.has(0, 0, b"UNG") || self.has(0, 0, b"UNE"),

@@ -5,7 +5,7 @@ ghost use Rattle.edifact_text.specs.Rows.{is_text, is_number, count_of};
 ghost use Rattle.edifact_text.specs.Pieces.{pieces};
 ghost use Rattle.edifact_text.specs.Reading.{row};
 ghost use Rattle.edifact_text.specs.Stages.{part, whole, is_long, is_too_large};
-ghost use Rattle.edifact_text.specs.Views.{meant, seen};
+ghost use Rattle.edifact_text.specs.Views.{meaning_of, stretch_of};
 
 use crate::components::{component_of, is_service};
 use crate::faults::{EdiCode, EdiFault};
@@ -14,7 +14,8 @@ use crate::pieces::{are_at_most, cut};
 use crate::raw::Raw;
 use crate::service::Service;
 
-/// The bytes of a segment without its terminator, their place in the text, and the service characters.
+/// The bytes of a segment without its terminator, their place in the text, and the service
+/// characters.
 #[derive(Clone, Copy)]
 pub(crate) struct SegmentText<'a> {
     pub(crate) bytes: &'a [u8],
@@ -26,7 +27,7 @@ impl<'a> SegmentText<'a> {
     /// Component `j` of element `i`, or nothing where there is none.
     #[inline(never)]
     pub(crate) fn component(self, i: usize, j: usize) -> Raw<'a>
-        ensures { meant result ≡ part self.entry.service self.entry.bytes.now i j }
+        ensures { meaning_of result ≡ part self.entry.service self.entry.bytes.now i j }
     {
         component_of(self.bytes, self.service, i, j)
     }
@@ -132,7 +133,7 @@ impl<'a> SegmentText<'a> {
     /// The rows of any segment.
     #[inline(always)]
     pub(crate) fn check(self) -> Result<(), EdiFault>
-        ensures { result ≡ whole self.entry.service (seen self.entry) }
+        ensures { result ≡ whole self.entry.service (stretch_of self.entry) }
     {
         self.fault(self.is_without_tag(), EdiCode::EmptySegment)?;
         self.fault(self.is_too_large(), EdiCode::TooManyElements)

@@ -2,7 +2,8 @@
 ghost use Rattle.std.specs.Prelude.{◌≡◌, IfSome, drop};
 ghost use Rattle.std.specs.Iterator.{YieldsFirstBy, item_count};
 ghost use Rattle.edifact_text.specs.Interchange.{component};
-ghost use Rattle.edifact_text.specs.Views.{letters_of, meant, message_view, numbered_view, left_of};
+ghost use Rattle.edifact_text.specs.Views.{letters_of, meaning_of, message_view, numbered_view};
+ghost use Rattle.edifact_text.specs.Views.{left_of};
 
 use crate::components::{component_of, is_plain};
 use crate::message::{Message, Segment, Segments};
@@ -22,7 +23,8 @@ impl<'a> Message<'a> {
         }
     }
 
-    /// The interchange's decimal mark, as its service string advice sets it: `.` where there is none.
+    /// The interchange's decimal mark, as its service string advice sets it: `.` where there is
+    /// none.
     #[tactic(auto, unfolding(crate::specs::Views::message_view))]
     pub fn decimal_mark(&self) -> u8
         ensures { result ≡ (message_view self.now).mark }
@@ -43,17 +45,18 @@ impl<'a> Segment<'a> {
 
     /// The tag: component 0 of element 0.
     pub fn tag(&self) -> Raw<'a>
-        ensures { meant result ≡ component (numbered_view self.now).parts 0 0 }
+        ensures { meaning_of result ≡ component (numbered_view self.now).parts 0 0 }
     {
         self.component(0, 0)
     }
 
-    /// The tag where it is three ordinary bytes before an element separator, as nearly every tag is. Nothing is said of another:
-    /// that is what [`Segment::tag`] is for.
+    /// The tag where it is three ordinary bytes before an element separator, as nearly every tag
+    /// is. Nothing is said of another: that is what [`Segment::tag`] is for.
     #[inline(always)]
     #[tactic(auto, using(crate::proofs::TagLemmas::three_taken), unfolding(crate::specs::Views::numbered_view, crate::specs::Interchange::component))]
     pub fn plain_tag(&self) -> Option<Tag>
-        ensures { IfSome result (λ tag. component (numbered_view self.now).parts 0 0 ≡ letters_of tag) }
+        ensures { IfSome result
+            (λ tag. component (numbered_view self.now).parts 0 0 ≡ letters_of tag) }
     {
         if !self.is_plain {
             return None;
@@ -79,11 +82,12 @@ impl<'a> Segment<'a> {
         }
     }
 
-    /// Component `j` of element `i`, both counted from 0. It is empty where the segment has no such element or component.
+    /// Component `j` of element `i`, both counted from 0. It is empty where the segment has no such
+    /// element or component.
     #[inline(always)]
     #[tactic(auto, using(crate::proofs::ReadingLemmas::part_is), unfolding(crate::specs::Views::numbered_view, crate::specs::Interchange::component))]
     pub fn component(&self, i: usize, j: usize) -> Raw<'a>
-        ensures { meant result ≡ component (numbered_view self.now).parts i j }
+        ensures { meaning_of result ≡ component (numbered_view self.now).parts i j }
     {
         if self.is_plain && i > 0 {
             return component_of(self.behind_tag(), self.service, i - 1, j);
@@ -95,7 +99,7 @@ impl<'a> Segment<'a> {
     #[inline(never)]
     #[tactic(auto, using(crate::proofs::ReadingLemmas::part_is), unfolding(crate::specs::Views::numbered_view))]
     fn seen_component(&self, i: usize, j: usize) -> Raw<'a>
-        ensures { meant result ≡ component (numbered_view self.now).parts i j }
+        ensures { meaning_of result ≡ component (numbered_view self.now).parts i j }
     {
         component_of(self.bytes, self.service, i, j)
     }

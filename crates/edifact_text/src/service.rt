@@ -1,4 +1,5 @@
-/// The service characters of an interchange: two separators, the decimal mark, a release character or none, and the terminator.
+/// The service characters of an interchange: two separators, the decimal mark, a release character
+/// or none, and the terminator.
 #[derive(Clone, Copy)]
 pub(crate) struct Service {
     pub(crate) component: u8,

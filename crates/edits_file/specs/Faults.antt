@@ -9,7 +9,8 @@ use Rattle.edits_file.specs.Words.{lines_in}
 
 -- the text is these lines, each with LF (code 10) behind it; behind the last it may be missing
 abbrev pub AreLines : List ℕ → List (List ℕ) → Type 0
-AreLines text lines = (text ≡ flat_map (λ line. line ++ 10 ∷ []) lines) ⊎ (text ++ 10 ∷ [] ≡ flat_map (λ line. line ++ 10 ∷ []) lines)
+AreLines text lines = (text ≡ flat_map (λ line. line ++ 10 ∷ []) lines)
+    ⊎ (text ++ 10 ∷ [] ≡ flat_map (λ line. line ++ 10 ∷ []) lines)
 
 -- each line of the text orders its edit, one after another
 abbrev pub AreEdits : List ℕ → List EditLine → Type 0

@@ -1,6 +1,8 @@
--- What a line orders, by its words: `swap A B`, `move FROM TO`, `remove AT`, `insert AT L CELL KG ID`, `insert AT D CELL ID`,
--- `insert AT T NAME KG`, `insert AT R FROM TO ID`, `reweigh AT KG` or `undo`. Any other line is of no form.
-use Rattle.std.specs.Prelude.{ℕ, List, [], ◌∷◌, if◌then◌else◌, codes, Option, Some, None, option_map}
+-- What a line orders, by its words: `swap A B`, `move FROM TO`, `remove AT`,
+-- `insert AT L CELL KG ID`, `insert AT D CELL ID`, `insert AT T NAME KG`, `insert AT R FROM TO ID`,
+-- `reweigh AT KG` or `undo`. Any other line is of no form.
+use Rattle.std.specs.Prelude.{ℕ, List, [], ◌∷◌, if◌then◌else◌, codes, Option, Some, None}
+use Rattle.std.specs.Prelude.{option_map}
 use Rattle.std.specs.Str.{bytes_eq}
 use Rattle.arrayvec.specs.ArrayVec.{ArrayVec}
 use Rattle.units_core.specs.declared.cells.Cell.{Cell}
@@ -16,7 +18,8 @@ use Rattle.edits_file.specs.Words.{words_in, step_in, mass_in, id_in, name_in}
 
 -- the step that words name, where each of them says what it should
 abbrev pub load_of : Option Cell → Option ℕ → Option (ArrayVec ℕ) → Option Op
-load_of (Some cell) (Some kg) (Some id) = Some (Lift (Load (record { cell = cell; id = id; kg = kg })))
+load_of (Some cell) (Some kg) (Some id) =
+    Some (Lift (Load (record { cell = cell; id = id; kg = kg })))
 load_of cell kg id = None
 
 abbrev pub discharge_of : Option Cell → Option (ArrayVec ℕ) → Option Op
@@ -76,10 +79,12 @@ removal_of kind at = if bytes_eq kind (codes "remove") then option_map Remove (s
 
 -- `insert AT` and a step
 abbrev pub short_insert : List ℕ → List ℕ → List ℕ → List ℕ → List ℕ → Option edit.Edit
-short_insert kind at letter a b = if bytes_eq kind (codes "insert") then insert_of (step_in at) (short_step letter a b) else None
+short_insert kind at letter a b =
+    if bytes_eq kind (codes "insert") then insert_of (step_in at) (short_step letter a b) else None
 
 abbrev pub long_insert : List ℕ → List ℕ → List ℕ → List ℕ → List ℕ → List ℕ → Option edit.Edit
-long_insert kind at letter a b c = if bytes_eq kind (codes "insert") then insert_of (step_in at) (long_step letter a b c) else None
+long_insert kind at letter a b c =
+    if bytes_eq kind (codes "insert") then insert_of (step_in at) (long_step letter a b c) else None
 
 -- the edit that the words of a line order, by how many they are
 abbrev pub edit_of : List (List ℕ) → Option edit.Edit
@@ -91,4 +96,5 @@ edit_of words = None
 
 -- what a line orders
 abbrev pub line_in : List ℕ → Option EditLine
-line_in text = if bytes_eq text (codes "undo") then Some Undo else option_map Edit (edit_of (words_in text))
+line_in text =
+    if bytes_eq text (codes "undo") then Some Undo else option_map Edit (edit_of (words_in text))

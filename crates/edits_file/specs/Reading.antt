@@ -1,4 +1,5 @@
--- What an edits file orders, line by line, or the number of its first line that is of no form. The lines count from 1.
+-- What an edits file orders, line by line, or the number of its first line that is of no form. The
+-- lines count from 1.
 use Rattle.std.specs.Prelude.{ℕ, ◌+◌, List, [], ◌∷◌, ◌++◌, length, Result, Ok}
 use Rattle.units_core.specs.Outcome.{◌>>=◌, or_fault}
 use Rattle.edits_file.specs.declared.files.EditsFault.{EditsFault}
@@ -11,7 +12,8 @@ use Rattle.edits_file.specs.Words.{lines_in}
 abbrev pub edits_from : List EditLine → List (List ℕ) → Result (List EditLine) EditsFault
 edits_from before [] = Ok before
 edits_from before (line ∷ more) =
-    or_fault (Line (length before + 1)) (line_in line) >>= (λ edit. edits_from (before ++ edit ∷ []) more)
+    or_fault (Line (length before + 1)) (line_in line)
+    >>= (λ edit. edits_from (before ++ edit ∷ []) more)
 
 -- the orders of a text
 abbrev pub edits_of : List ℕ → Result (List EditLine) EditsFault

@@ -1,5 +1,7 @@
--- The lines of a text and the words of a line, and what a word says: a number, an identification, a name.
-use Rattle.std.specs.Prelude.{ℕ, List, [], ◌∷◌, ◌==◌, ◌&&◌, if◌then◌else◌, nat_le, length, codes, Option, Some, None}
+-- The lines of a text and the words of a line, and what a word says: a number, an identification, a
+-- name.
+use Rattle.std.specs.Prelude.{ℕ, List, [], ◌∷◌, ◌==◌, ◌&&◌, if◌then◌else◌, nat_le, length, codes}
+use Rattle.std.specs.Prelude.{Option, Some, None}
 use Rattle.std.specs.List.{list_all, slice_split, onto_first}
 use Rattle.std.specs.Char.{is_ascii_digit}
 use Rattle.std.specs.Str.{bytes_eq}
@@ -19,7 +21,8 @@ words_in line = slice_split (λ c. c == 32) line
 -- the number that 1 to 10 digits write
 abbrev pub natural_in : List ℕ → Option ℕ
 natural_in word =
-    if (nat_le 1 (length word) && nat_le (length word) 10) && list_all is_ascii_digit word then Some (digits_value 10 word) else None
+    if (nat_le 1 (length word) && nat_le (length word) 10)
+    && list_all is_ascii_digit word then Some (digits_value 10 word) else None
 
 -- the number of a word, where it isn't above the greatest
 abbrev pub up_to : ℕ → Option ℕ → Option ℕ
@@ -29,7 +32,8 @@ up_to most (Some n) = if nat_le n most then Some n else None
 abbrev pub number_in : ℕ → List ℕ → Option ℕ
 number_in most word = up_to most (natural_in word)
 
--- the number of a step, or the mass of a tank's filling in kg; and the gross mass of a container in kg
+-- the number of a step, or the mass of a tank's filling in kg; and the gross mass of a container in
+-- kg
 abbrev pub step_in : List ℕ → Option ℕ
 step_in word = number_in 1000000000 word
 

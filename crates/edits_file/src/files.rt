@@ -15,8 +15,9 @@ pub enum EditsFault {
     NoMemory,
 }
 
-/// What the lines of an edits file order, in their order. The answer is [`EditsFault::Line`] for the first line that is of no form, and
-/// [`EditsFault::NoMemory`] where a growth was refused. It takes time in the length of the file, and copies identifications and names alone.
+/// What the lines of an edits file order, in their order. The answer is [`EditsFault::Line`] for
+/// the first line that is of no form, and [`EditsFault::NoMemory`] where a growth was refused. It
+/// takes time in the length of the file, and copies identifications and names alone.
 pub fn edits(alloc: Global, bytes: &[u8]) -> Result<Vec<EditLine>, EditsFault>
     ensures ok { IfOk result (λ edits. edits_of bytes.now ≡ Ok edits.items) }
     ensures refused { IfErr result (λ e. e ≢ EditsFault.NoMemory → edits_of bytes.now ≡ Err e) }

@@ -1,7 +1,9 @@
 ghost use Rattle.std.specs.Prelude.{◌≡◌, map};
 ghost use Rattle.units_core.specs.Cells.{cell_in};
 ghost use Rattle.edits_file.specs.Words.{step_in, mass_in, id_in, name_in};
-ghost use Rattle.edits_file.specs.Forms.{load_of, discharge_of, fill_of, restow_of, short_step, long_step, pair_of, removal_of, short_insert, long_insert, edit_of, line_in};
+ghost use Rattle.edits_file.specs.Forms.{load_of, discharge_of, fill_of, restow_of, short_step};
+ghost use Rattle.edits_file.specs.Forms.{long_step, pair_of, removal_of, short_insert, long_insert};
+ghost use Rattle.edits_file.specs.Forms.{edit_of, line_in};
 
 use crate::words::{identification, is, mass, name, step, words_of};
 use lift_sequence::Op;

@@ -1,7 +1,9 @@
-ghost use Rattle.std.specs.Prelude.{◌≡◌, ◌<◌, ◌^◌, ◌==◌, ◌++◌, ◌∷◌, false, length, map, All, IfSome, MatchOption};
+ghost use Rattle.std.specs.Prelude.{◌≡◌, ◌<◌, ◌^◌, ◌==◌, ◌++◌, ◌∷◌, false, length, map, All};
+ghost use Rattle.std.specs.Prelude.{IfSome, MatchOption};
 ghost use Rattle.std.specs.Str.{bytes_eq};
 ghost use Rattle.stow_messages.specs.Steps.{text_of};
-ghost use Rattle.edits_file.specs.Words.{natural_in, number_in, step_in, mass_in, id_in, name_in, words_in};
+ghost use Rattle.edits_file.specs.Words.{natural_in, number_in, step_in, mass_in, id_in, name_in};
+ghost use Rattle.edits_file.specs.Words.{words_in};
 
 use arrayvec::ArrayVec;
 use units_core::Kg;
@@ -15,8 +17,8 @@ const MOST_DIGITS: usize = 10;
 /// The greatest number of a step, and the greatest mass of a tank's filling in kg.
 const MOST: u32 = 1_000_000_000;
 
-/// The text before the first of these bytes, and the text behind it; the whole text where it has none of
-/// them.
+/// The text before the first of these bytes, and the text behind it; the whole text where it has
+/// none of them.
 pub fn cut(text: &[u8], end: u8) -> (&[u8], Option<&[u8]>)
     ensures before { All (λ c. (c == end) ≡ false) result.0.now }
     ensures parts { MatchOption result.1 (text.now ≡ result.0.now)

@@ -1,7 +1,8 @@
 -- The figures of a ship afloat.
 use Rattle.std.specs.Prelude.{◌≡◌, ℤ, pos, Option, Some, None, Result, Ok, Err}
 use Rattle.units_core.specs.Ratio.{Is}
-use Rattle.hydrostat.specs.Floating.{IsListOf, Load, Hydrostatics, draught_at, gm, load, trim, water}
+use Rattle.hydrostat.specs.Floating.{IsListOf, Load, Hydrostatics, draught_at, gm, load, trim}
+use Rattle.hydrostat.specs.Floating.{water}
 use Rattle.hydrostat.specs.declared.figures.Floating.{Floating}
 use Rattle.hydrostat.specs.declared.outside.Outside.{Outside}
 use Rattle.hydrostat.specs.declared.outside.Outside.TheVariants.{Hydro}

@@ -1,5 +1,7 @@
--- How a ship floats, as the textbooks have it. Lengths run forward from the after perpendicular, in mm.
-use Rattle.std.specs.Prelude.{◌≡◌, ℕ, ◌*◌, ◌^◌, ◌≤◌, ℤ, pos, ◌+ℤ◌, ◌≤ℤ◌, ◌<ℤ◌, Option, None, Some, option_map, unsigned_abs}
+-- How a ship floats, as the textbooks have it. Lengths run forward from the after perpendicular, in
+-- mm.
+use Rattle.std.specs.Prelude.{◌≡◌, ℕ, ◌*◌, ◌^◌, ◌≤◌, ℤ, pos, ◌+ℤ◌, ◌≤ℤ◌, ◌<ℤ◌, Option, None, Some}
+use Rattle.std.specs.Prelude.{option_map, unsigned_abs}
 use Rattle.units_core.specs.Ratio.{Ratio, ◌over◌, whole, ◌⊕◌, ◌⊖◌, ◌⊗◌, ◌⊘◌, Is}
 use Rattle.units_core.specs.declared.fractions.Frac.{Frac}
 use Rattle.units_core.specs.Interpolation.{interval, reading}
@@ -7,8 +9,8 @@ use Rattle.ship_tables.specs.Record.{HydroTable}
 use Rattle.moment_sums.specs.Sum.{Weight, MomentX, MomentY, MomentZ, Surface, Sum}
 use Rattle.hydrostat.specs.declared.particulars.Afloat.{Afloat}
 
--- what the hydrostatic table gives at a displacement: mean draught, height of the transverse metacentre above the keel,
--- centre of buoyancy, centre of flotation, moment to change trim
+-- what the hydrostatic table gives at a displacement: mean draught, height of the transverse
+-- metacentre above the keel, centre of buoyancy, centre of flotation, moment to change trim
 pub record Hydrostatics : Type 0 where
   pub draught : Ratio
   pub kmt : Ratio
@@ -29,8 +31,8 @@ hydrostatics_in h w i = record {
 abbrev pub hydrostatics_at : HydroTable → ℤ → Option Hydrostatics
 hydrostatics_at h w = option_map (hydrostatics_in h w) (interval h.kg w)
 
--- what is aboard, as it bears on how the ship floats: its mass, its moments about the after perpendicular and about the middle line, and
--- that about the keel with the free surfaces
+-- what is aboard, as it bears on how the ship floats: its mass, its moments about the after
+-- perpendicular and about the middle line, and that about the keel with the free surfaces
 pub record Load : Type 0 where
   pub kg : ℤ
   pub x : ℤ
@@ -69,7 +71,8 @@ list w l = (whole (pos 10000) ⊗ tcg l) ⊘ gm w l
 -- the list, which there is where the metacentric height is positive
 abbrev pub IsListOf : Option Frac → Hydrostatics → Load → Type 0
 IsListOf None w l = (gm w l).top ≤ℤ pos 0
-IsListOf (Some r) w l = (pos 0 <ℤ (gm w l).top) × Is r.num r.den (list w l) × (unsigned_abs r.den ≤ 3 * 10 ^ 23)
+IsListOf (Some r) w l = (pos 0 <ℤ (gm w l).top) × Is r.num r.den (list w l)
+    × (unsigned_abs r.den ≤ 3 * 10 ^ 23)
 
 -- the hydrostatics and the load of the numbers
 abbrev pub water : Afloat → Hydrostatics

@@ -1,4 +1,5 @@
--- Bookkeeping: the draught along a ship is a straight line, (base - step x) / divisor; and its numbers in whole units.
+-- Bookkeeping: the draught along a ship is a straight line, (base - step x) / divisor; and its
+-- numbers in whole units.
 use Rattle.std.specs.Prelude.{◌^◌, ◌≤◌, ℤ, pos, unsigned_abs, ◌+ℤ◌, ◌-ℤ◌, ◌*ℤ◌, ◌≤ℤ◌, ◌<ℤ◌}
 use Rattle.hydrostat.specs.declared.particulars.Afloat.{Afloat}
 
@@ -25,8 +26,8 @@ pub record IsLedBy (unit base step divisor : ℤ) (a : Afloat) : Type 0 where
   pub is_step : IsInUnits step unit (line_step a)
   pub is_divisor : IsInUnits divisor unit (line_divisor a)
 
--- q is the whole part of top / divisor, and so far from the whole numbers on both sides that rounding to units, of the base and of a million
--- times the step and the divisor, changes nothing
+-- q is the whole part of top / divisor, and so far from the whole numbers on both sides that
+-- rounding to units, of the base and of a million times the step and the divisor, changes nothing
 pub record IsSure (q top divisor : ℤ) : Type 0 where
   pub low : pos 0 ≤ℤ q
   pub within : unsigned_abs q ≤ 10 ^ 6

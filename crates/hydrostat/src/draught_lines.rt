@@ -1,4 +1,5 @@
-ghost use Rattle.std.specs.Prelude.{◌≡◌, ◌*◌, ◌^◌, ◌<◌, ◌≤◌, pos, ◌+ℤ◌, ◌-ℤ◌, ◌*ℤ◌, ◌≤ℤ◌, ◌<ℤ◌, unsigned_abs, true, IfSome};
+ghost use Rattle.std.specs.Prelude.{◌≡◌, ◌*◌, ◌^◌, ◌<◌, ◌≤◌, pos, ◌+ℤ◌, ◌-ℤ◌, ◌*ℤ◌, ◌≤ℤ◌, ◌<ℤ◌};
+ghost use Rattle.std.specs.Prelude.{unsigned_abs, true, IfSome};
 ghost use Rattle.std.specs.Option.{ForSome};
 ghost use Rattle.units_core.specs.Ratio.{floor_of};
 ghost use Rattle.hydrostat.specs.Floating.{draught_at, load, water};
@@ -12,15 +13,16 @@ use units_core::{Mm, floor, is_rest, reciprocal_near, upper_half};
 /// Upper bound, in units, on the total rounding error of base, 10^6 * step and 10^6 * divisor.
 const SLACK: i64 = 2_000_002;
 
-/// The draught along a ship, (base - step x) / divisor, each of base, step and divisor in 64 bits: in whole
-/// units, rounded down.
+/// The draught along a ship, (base - step x) / divisor, each of base, step and divisor in 64 bits:
+/// in whole units, rounded down.
 #[derive(Clone, Copy)]
 struct Leading {
     unit: i128,
     base: i64,
     step: i64,
     divisor: i64,
-    /// About 2^64 over the divisor. Quotients are guessed by it, and then tested: any number would do.
+    /// About 2^64 over the divisor. Quotients are guessed by it, and then tested: any number would
+    /// do.
     reciprocal: u64,
     ghost base_within: { unsigned_abs base ≤ 2 ^ 61 },
     ghost step_within: { unsigned_abs step ≤ 2 ^ 40 },
@@ -37,7 +39,8 @@ pub struct DraughtLine {
     ghost leads: { ForSome leading (λ l. IsLedBy l.unit l.base l.step l.divisor of) },
 }
 
-/// A number in whole units, rounded down; `None` where it doesn't fit 64 bits, or where the unit isn't 2^`shift`.
+/// A number in whole units, rounded down; `None` where it doesn't fit 64 bits, or where the unit
+/// isn't 2^`shift`.
 fn in_units(whole: i128, unit: i128, shift: u32) -> Option<i64>
     requires { shift < 128 }
     ensures { IfSome result (λ high. IsInUnits high unit whole) }
@@ -93,7 +96,8 @@ fn fitted(unit: i128, base: i64, step: i64, divisor: i64) -> Option<Leading>
     })
 }
 
-/// The draught along a ship in numbers of 64 bits, the divisor in about 40; `None` where they aren't enough.
+/// The draught along a ship in numbers of 64 bits, the divisor in about 40; `None` where they
+/// aren't enough.
 fn leading_of(a: &Afloat) -> Option<Leading>
     ensures { IfSome result (λ l. IsLedBy l.unit l.base l.step l.divisor a.now) }
 {
@@ -194,7 +198,8 @@ impl DraughtLine {
         }
     }
 
-    /// The draught in mm at `x`, rounded down, as [`DraughtLine::draught_down`] gives it, where 64 bits decide it.
+    /// The draught in mm at `x`, rounded down, as [`DraughtLine::draught_down`] gives it, where 64
+    /// bits decide it.
     #[inline(always)]
     pub fn decided(&self, x: Mm) -> Option<i64>
         ensures { IfSome result (λ q. q
@@ -209,7 +214,8 @@ impl DraughtLine {
         Some(draught)
     }
 
-    /// The draught in mm at `x`, which is measured forward from the after perpendicular, rounded down: the floor of [`draught`].
+    /// The draught in mm at `x`, which is measured forward from the after perpendicular, rounded
+    /// down: the floor of [`draught`].
     pub fn draught_down(&self, x: Mm) -> i128
         ensures { result
             ≡ floor_of (draught_at (water self.now.of) (load self.now.of) self.now.of.lbp x) }

@@ -21,7 +21,8 @@ pub fn draught_by(a: &Afloat, trim: i128, x: i128) -> Frac
     }
 }
 
-/// The draught in mm at `x`, in mm from the after perpendicular: the mean draught, and the trim by the distance from the centre of flotation.
+/// The draught in mm at `x`, in mm from the after perpendicular: the mean draught, and the trim by
+/// the distance from the centre of flotation.
 pub fn draught(a: &Afloat, x: i128) -> Frac
     requires { unsigned_abs x ≤ 10 ^ 6 }
     ensures value { Is result.num result.den (draught_at (water a.now) (load a.now) a.now.lbp x) }

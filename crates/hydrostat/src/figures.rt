@@ -28,7 +28,8 @@ pub struct Floating {
     pub fwd: Frac,
     /// The trim in mm, by the stern positive.
     pub trim: Frac,
-    /// The list in ten-thousandths of the tangent, to starboard; `None` where the metacentric height isn't positive.
+    /// The list in ten-thousandths of the tangent, to starboard; `None` where the metacentric
+    /// height isn't positive.
     pub list: Option<Frac>,
     /// The ship afloat, of which these are the figures.
     pub afloat: Afloat,
@@ -59,7 +60,8 @@ fn figures(afloat: &Afloat) -> Floating
     }
 }
 
-/// How the ship floats with this aboard; [`Outside::Hydro`] where the displacement lies outside of her hydrostatic table.
+/// How the ship floats with this aboard; [`Outside::Hydro`] where the displacement lies outside of
+/// her hydrostatic table.
 pub fn floating_of(profile: &Profile, totals: &Totals) -> Result<Floating, Outside>
     requires bounded { IsBounded (values totals.now) }
     ensures { IsFloatingOf result

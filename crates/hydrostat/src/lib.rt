@@ -1,4 +1,5 @@
-//! How a ship floats: metacentric height, draughts, trim and list, read at her displacement in her hydrostatic table.
+//! How a ship floats: metacentric height, draughts, trim and list, read at her displacement in her
+//! hydrostatic table.
 #![tactic(auto)]
 
 mod draught_lines;

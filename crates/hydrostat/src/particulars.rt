@@ -1,7 +1,8 @@
 ghost use Rattle.std.specs.Prelude.{◌*◌, ◌^◌, ◌≤◌, pos, ◌≤ℤ◌, unsigned_abs};
 
-/// A ship afloat, in whole numbers: what is aboard, and the hydrostatic particulars at her displacement, each of which is to be divided by
-/// `gap`, the length of the table's interval in which the displacement lies.
+/// A ship afloat, in whole numbers: what is aboard, and the hydrostatic particulars at her
+/// displacement, each of which is to be divided by `gap`, the length of the table's interval in
+/// which the displacement lies.
 #[derive(Clone, Copy)]
 pub struct Afloat {
     /// The displacement in kg.

@@ -6,7 +6,8 @@ use crate::numerators::{gm_top, list_top, trim_top};
 use crate::particulars::Afloat;
 use units_core::Frac;
 
-/// The metacentric height in mm, with the centre of gravity raised by the free surfaces: GM = KMT - KG.
+/// The metacentric height in mm, with the centre of gravity raised by the free surfaces: GM = KMT -
+/// KG.
 pub fn gm_of(a: &Afloat) -> Frac
     ensures value { Is result.num result.den (gm (water a.now) (load a.now)) }
     ensures num { unsigned_abs result.num ≤ 3 * 10 ^ 23 }
@@ -18,8 +19,8 @@ pub fn gm_of(a: &Afloat) -> Frac
     }
 }
 
-/// The trim in mm, by the stern positive: the displacement times the distance of the centre of gravity aft of that of buoyancy, over the
-/// moment to change trim.
+/// The trim in mm, by the stern positive: the displacement times the distance of the centre of
+/// gravity aft of that of buoyancy, over the moment to change trim.
 pub fn trim_of(a: &Afloat) -> Frac
     ensures value { Is result.num result.den (trim (water a.now) (load a.now)) }
     ensures num { unsigned_abs result.num ≤ 2 * 10 ^ 23 }
@@ -42,7 +43,8 @@ pub fn mean_of(a: &Afloat) -> Frac
     }
 }
 
-/// The list, in ten-thousandths of the tangent of the angle, to starboard; `None` where the metacentric height isn't positive.
+/// The list, in ten-thousandths of the tangent of the angle, to starboard; `None` where the
+/// metacentric height isn't positive.
 pub fn list_of(a: &Afloat) -> Option<Frac>
     ensures { IsListOf result (water a.now) (load a.now) }
 {

@@ -1,4 +1,5 @@
-ghost use Rattle.std.specs.Prelude.{◌≡◌, ◌*◌, ◌^◌, ◌≤◌, pos, ◌≤ℤ◌, unsigned_abs, MatchOption, None, Some};
+ghost use Rattle.std.specs.Prelude.{◌≡◌, ◌*◌, ◌^◌, ◌≤◌, pos, ◌≤ℤ◌, unsigned_abs, MatchOption, None};
+ghost use Rattle.std.specs.Prelude.{Some};
 ghost use Rattle.moment_sums.specs.Bounded.{IsBounded};
 ghost use Rattle.moment_sums.specs.Kept.{values};
 ghost use Rattle.moment_sums.specs.Sum.{Weight};
@@ -45,8 +46,9 @@ fn afloat_at(hydro: &Hydro, lbp: i128, totals: &Totals, i: usize) -> Afloat
     }
 }
 
-/// The ship afloat with this aboard; `None` where the displacement lies outside of her hydrostatic table. The displacement is looked for
-/// first in the interval `near` of the table, which is then the one where it was found.
+/// The ship afloat with this aboard; `None` where the displacement lies outside of her hydrostatic
+/// table. The displacement is looked for first in the interval `near` of the table, which is then
+/// the one where it was found.
 pub fn on_waterline(profile: &Profile, totals: &Totals, near: &mut usize) -> Option<Afloat>
     requires bounded { IsBounded (values totals.now) }
     ensures { MatchOption result

@@ -30,11 +30,13 @@ container_of item = record { id = item.id; kg = item.kg }
 
 -- what is aboard with this container in a cell, or this mass in a tank
 abbrev pub with_cell : Aboard → Cell → Option Container → Aboard
-with_cell at cell container = record { cells = update cell_eq at.cells cell container; tanks = at.tanks }
+with_cell at cell container =
+    record { cells = update cell_eq at.cells cell container; tanks = at.tanks }
 
 abbrev pub with_tank : Aboard → Option ℕ → ℕ → Aboard
 with_tank at None kg = at
-with_tank at (Some tank) kg = record { cells = at.cells; tanks = update nat_eq at.tanks tank (Some kg) }
+with_tank at (Some tank) kg =
+    record { cells = at.cells; tanks = update nat_eq at.tanks tank (Some kg) }
 
 -- what is aboard with an item in its cell, and with the container of one cell in another
 abbrev pub with_item : Aboard → Item → Aboard
@@ -43,8 +45,8 @@ with_item at item = with_cell at item.cell (Some (container_of item))
 abbrev pub with_restow : Aboard → Cell → Cell → Aboard
 with_restow at from to = with_cell (with_cell at from None) to (at.cells from)
 
--- What is aboard after a step: a load puts its container into its cell, a discharge empties its cell, a fill sets the mass in its
--- tank, and a restow moves the container of one cell to another.
+-- What is aboard after a step: a load puts its container into its cell, a discharge empties its
+-- cell, a fill sets the mass in its tank, and a restow moves the container of one cell to another.
 abbrev pub after_step : ProfileRecord → Aboard → operation.Op → Aboard
 after_step ship at (Lift (Load item)) = with_item at item
 after_step ship at (Lift (Discharge cell id)) = with_cell at cell None

@@ -1,5 +1,7 @@
--- What is aboard on arrival: the items of the bay plan, in their order, and then the fills of the ship's tanks.
-use Rattle.std.specs.Prelude.{◌≡◌, ◌≢◌, ℕ, ◌+◌, ℤ, nat_eq, List, [], ◌∷◌, ◌++◌, map, Option, None, Some, option_map, filter_map}
+-- What is aboard on arrival: the items of the bay plan, in their order, and then the fills of the
+-- ship's tanks.
+use Rattle.std.specs.Prelude.{◌≡◌, ◌≢◌, ℕ, ◌+◌, ℤ, nat_eq, List, [], ◌∷◌, ◌++◌, map, Option, None}
+use Rattle.std.specs.Prelude.{Some, option_map, filter_map}
 use Rattle.std.specs.List.{IsDistinct}
 use Rattle.std.specs.Option.{option_or}
 use Rattle.units_core.specs.Bodies.{Mass}
@@ -30,8 +32,8 @@ on_arrival items fills = with_fills (with_items nothing items) fills
 abbrev pub fault_at : ℕ → SeqCode → SeqFault
 fault_at number code = record { code = code; at = number }
 
--- the first item that its cell can't take after those before it, and the first fill that its tank can't hold; both are
--- numbered from 1
+-- the first item that its cell can't take after those before it, and the first fill that its tank
+-- can't hold; both are numbered from 1
 abbrev pub items_fault : ProfileRecord → Aboard → ℕ → List Item → Option SeqFault
 items_fault ship at number [] = None
 items_fault ship at number (item ∷ more) =
@@ -41,10 +43,12 @@ items_fault ship at number (item ∷ more) =
 abbrev pub fills_fault : ProfileRecord → ℕ → List TankFill → Option SeqFault
 fills_fault ship number [] = None
 fills_fault ship number (fill ∷ more) =
-    option_or (option_map (fault_at number) (over_fault (fill_body ship fill))) (fills_fault ship (number + 1) more)
+    option_or (option_map (fault_at number) (over_fault (fill_body ship fill)))
+    (fills_fault ship (number + 1) more)
 
 abbrev pub arrival_fault : ProfileRecord → List Item → List TankFill → Option SeqFault
-arrival_fault ship items fills = option_or (items_fault ship nothing 1 items) (fills_fault ship 1 fills)
+arrival_fault ship items fills =
+    option_or (items_fault ship nothing 1 items) (fills_fault ship 1 fills)
 
 -- a refusal gives the fault that is defined, or is out of memory
 abbrev pub TellsAt : Option SeqFault → SeqFault → Type 0
@@ -59,7 +63,8 @@ fill_bodies ship fills = filter_map (fill_body ship) fills
 
 -- the bodies aboard, one by one: the blocks, the fillings, the items
 abbrev pub arrival_bodies : ProfileRecord → List Item → List TankFill → List Mass
-arrival_bodies ship items fills = ship.ship.blocks ++ (fill_bodies ship fills ++ item_bodies ship items)
+arrival_bodies ship items fills =
+    ship.ship.blocks ++ (fill_bodies ship fills ++ item_bodies ship items)
 
 -- no tank is filled twice
 abbrev pub AreFilledOnce : List TankFill → Type 0

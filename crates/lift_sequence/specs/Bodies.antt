@@ -1,6 +1,7 @@
--- The bodies aboard: the parts of the light ship, the filling of each tank, and the container in each of the ship's cells; and
--- those that a step takes out and puts in.
-use Rattle.std.specs.Prelude.{ℕ, pos, List, [], ◌∷◌, ◌++◌, length, flat_map, Option, None, Some, option_map}
+-- The bodies aboard: the parts of the light ship, the filling of each tank, and the container in
+-- each of the ship's cells; and those that a step takes out and puts in.
+use Rattle.std.specs.Prelude.{ℕ, pos, List, [], ◌∷◌, ◌++◌, length, flat_map, Option, None, Some}
+use Rattle.std.specs.Prelude.{option_map}
 use Rattle.std.specs.List.{range_with_len}
 use Rattle.std.specs.Option.{option_to_list}
 use Rattle.units_core.specs.declared.bodies.Place.{Place}
@@ -44,21 +45,27 @@ filling_in ship tank (Some kg) = tank_body ship tank kg
 
 abbrev pub bodies_in_tanks : ProfileRecord → (ℕ → Option ℕ) → List Mass
 bodies_in_tanks ship tanks =
-    flat_map (λ tank. option_to_list (filling_in ship tank (tanks tank))) (range_with_len 0 (length ship.tables.tanks))
+    flat_map (λ tank. option_to_list (filling_in ship tank (tanks tank)))
+    (range_with_len 0 (length ship.tables.tanks))
 
 abbrev pub bodies_in_cells : ProfileRecord → (Cell → Option Container) → List Mass
-bodies_in_cells ship cells = flat_map (λ (e : Cell × Place). option_to_list (body_in (Some e.1) (cells e.0))) ship.tables.cells
+bodies_in_cells ship cells =
+    flat_map
+    (λ (e : Cell × Place). option_to_list (body_in (Some e.1) (cells e.0))) ship.tables.cells
 
 abbrev pub bodies : ProfileRecord → Aboard → List Mass
-bodies ship at = ship.ship.blocks ++ (bodies_in_tanks ship at.tanks ++ bodies_in_cells ship at.cells)
+bodies ship at =
+    ship.ship.blocks ++ (bodies_in_tanks ship at.tanks ++ bodies_in_cells ship at.cells)
 
 -- what a step takes out, and what it puts in
 abbrev pub filling_step : ProfileRecord → Aboard → Option ℕ → ℕ → Step
 filling_step ship at None kg = record { out = None; put = None }
-filling_step ship at (Some tank) kg = record { out = filling_in ship tank (at.tanks tank); put = tank_body ship tank kg }
+filling_step ship at (Some tank) kg =
+    record { out = filling_in ship tank (at.tanks tank); put = tank_body ship tank kg }
 
 abbrev pub restow_step : ProfileRecord → Aboard → Cell → Cell → Step
-restow_step ship at from to = record { out = cell_body ship at from; put = body_in (place_of ship to) (at.cells from) }
+restow_step ship at from to =
+    record { out = cell_body ship at from; put = body_in (place_of ship to) (at.cells from) }
 
 abbrev pub step_of : ProfileRecord → Aboard → operation.Op → Step
 step_of ship at (Lift (Load item)) = record { out = None; put = item_body ship item }

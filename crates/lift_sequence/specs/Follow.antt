@@ -1,6 +1,8 @@
--- A container on its way through the steps behind its load, and what another weight of the container
--- changes in these steps.
-use Rattle.std.specs.Prelude.{◌≡◌, ℕ, ◌+◌, ◌≤◌, List, [], ◌∷◌, take, drop, Option, None, Some, option_map, option_and_then, slice_get, slice_set, Bool, true, false, if◌then◌else◌}
+-- A container on its way through the steps behind its load, and what another weight of the
+-- container changes in these steps.
+use Rattle.std.specs.Prelude.{◌≡◌, ℕ, ◌+◌, ◌≤◌, List, [], ◌∷◌, take, drop, Option, None, Some}
+use Rattle.std.specs.Prelude.{option_map, option_and_then, slice_get, slice_set, Bool, true, false}
+use Rattle.std.specs.Prelude.{if◌then◌else◌}
 use Rattle.std.specs.Option.{is_some}
 use Rattle.units_core.specs.declared.cells.Cell.{Cell}
 use Rattle.units_core.specs.Cells.{cell_eq}
@@ -71,35 +73,43 @@ moves_in cell (op ∷ more) = (if moves cell op then 1 else 0) + moves_in (next_
 
 abbrev pub restows_in : Option Cell → List operation.Op → ℕ
 restows_in cell [] = 0
-restows_in cell (op ∷ more) = (if restows cell op then 1 else 0) + restows_in (next_cell cell op) more
+restows_in cell (op ∷ more) = (if restows cell op then 1 else 0)
+    + restows_in (next_cell cell op) more
 
 -- One step at most moves a container besides its restows: its discharge.
 abbrev pub FewMoves : Type 0
-FewMoves = (cell : Option Cell) (ops : List operation.Op) → moves_in cell ops ≤ restows_in cell ops + 1
+FewMoves = (cell : Option Cell) (ops : List operation.Op)
+    → moves_in cell ops ≤ restows_in cell ops + 1
 
 -- what some steps do, those that move the container being of another weight
 abbrev pub steps_weighed : ℕ → Option Cell → List operation.Op → List Step → List Step
 steps_weighed kg cell ops [] = []
 steps_weighed kg cell [] (step ∷ steps) = step ∷ steps
 steps_weighed kg cell (op ∷ ops) (step ∷ steps) =
-    (if moves cell op then step_weighed kg step else step) ∷ steps_weighed kg (next_cell cell op) ops steps
+    (if moves cell op then step_weighed kg step else step) ∷ steps_weighed kg
+    (next_cell cell op) ops steps
 
--- What the steps of a list did, and what they do where the load at place i has another weight: those before it the same, the load and
--- the steps behind it that move its container the same with bodies of the new weight, and all others the same.
+-- What the steps of a list did, and what they do where the load at place i has another weight:
+-- those before it the same, the load and the steps behind it that move its container the same with
+-- bodies of the new weight, and all others the same.
 pub record AreReweighed (kg i : ℕ) (ops : List operation.Op) (old new : List Step) : Type 0 where
   pub before : take i new ≡ take i old
   pub load : slice_get new i ≡ option_map (step_weighed kg) (slice_get old i)
-  pub behind : drop (i + 1) new ≡ steps_weighed kg (loaded_at ops i) (drop (i + 1) ops) (drop (i + 1) old)
+  pub behind : drop (i + 1) new
+      ≡ steps_weighed kg (loaded_at ops i) (drop (i + 1) ops) (drop (i + 1) old)
 
--- Where every step of a list can be done, each of them can be done with another weight of one load, and that is all that changes.
+-- Where every step of a list can be done, each of them can be done with another weight of one load,
+-- and that is all that changes.
 abbrev pub Reweighs : Type 0
-Reweighs = (ship : ProfileRecord) (at : Aboard) (number : ℕ) (ops : List operation.Op) (i kg : ℕ) → first_fault ship at number ops ≡ None
+Reweighs = (ship : ProfileRecord) (at : Aboard) (number : ℕ) (ops : List operation.Op) (i kg : ℕ)
+    → first_fault ship at number ops ≡ None
     → IsLoad ops i → (first_fault ship at number (weighed_at kg i ops) ≡ None)
     × AreReweighed kg i ops (steps_of ship at ops) (steps_of ship at (weighed_at kg i ops))
 
 -- the law for a sequence, whose length is limited as well
 abbrev pub ReweighsSequences : Type 0
-ReweighsSequences = (ship : ProfileRecord) (at : Aboard) (ops : List operation.Op) (i kg : ℕ) → sequence_fault ship at ops ≡ None
+ReweighsSequences = (ship : ProfileRecord) (at : Aboard) (ops : List operation.Op) (i kg : ℕ)
+    → sequence_fault ship at ops ≡ None
     → IsLoad ops i → sequence_fault ship at (weighed_at kg i ops) ≡ None
 
 -- no other list of steps fits these claims

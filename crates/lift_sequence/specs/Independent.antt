@@ -1,6 +1,8 @@
--- Steps that are independent of each other: no cell of the one is or overlaps a cell of the other, and they don't fill the same tank. So
--- they can be done in either order. First as a relation, and then as the test for it.
-use Rattle.std.specs.Prelude.{◌≡◌, ◌↔◌, ◌⊎◌, ℕ, ◌-◌, ◌<◌, ◌≤◌, List, Option, None, Some, slice_get, Bool, true, false, not, ◌&&◌, nat_eq}
+-- Steps that are independent of each other: no cell of the one is or overlaps a cell of the other,
+-- and they don't fill the same tank. So they can be done in either order. First as a relation, and
+-- then as the test for it.
+use Rattle.std.specs.Prelude.{◌≡◌, ◌↔◌, ◌⊎◌, ℕ, ◌-◌, ◌<◌, ◌≤◌, List, Option, None, Some, slice_get}
+use Rattle.std.specs.Prelude.{Bool, true, false, not, ◌&&◌, nat_eq}
 use Rattle.std.specs.List.{insert, remove}
 use Rattle.std.specs.Str.{bytes_eq}
 use Rattle.units_core.specs.declared.cells.Cell.{Cell}
@@ -13,7 +15,8 @@ use Rattle.lift_sequence.specs.Aboard.{Aboard, after_step}
 use Rattle.lift_sequence.specs.Bodies.{step_of}
 use Rattle.lift_sequence.specs.Legal.{fault_of}
 
--- a step takes a container out of this cell, or puts one into it; and it fills the tank of this name
+-- a step takes a container out of this cell, or puts one into it; and it fills the tank of this
+-- name
 abbrev pub Touches : operation.Op → Cell → Type 0
 Touches (Lift (Load item)) cell = item.cell ≡ cell
 Touches (Lift (Discharge from id)) cell = from ≡ cell
@@ -29,8 +32,8 @@ pub record AreIndependent (a b : operation.Op) : Type 0 where
   pub cells : (one other : Cell) → Touches a one → Touches b other → Conflicts one other → ⊥
   pub tanks : (name : List ℕ) → Fills a name → Fills b name → ⊥
 
--- A step has the same fault and the same effect before another step and after it, and after both the same is aboard in either
--- order.
+-- A step has the same fault and the same effect before another step and after it, and after both
+-- the same is aboard in either order.
 pub record Commute (ship : ProfileRecord) (at : Aboard) (a b : operation.Op) : Type 0 where
   pub fault : fault_of ship (after_step ship at a) b ≡ fault_of ship at b
   pub step : step_of ship (after_step ship at a) b ≡ step_of ship at b
@@ -38,7 +41,8 @@ pub record Commute (ship : ProfileRecord) (at : Aboard) (a b : operation.Op) : T
 
 -- so it is with two independent steps, whatever is aboard
 abbrev pub IndependentCommute : Type 0
-IndependentCommute = (ship : ProfileRecord) (at : Aboard) (a b : operation.Op) → AreIndependent a b → Commute ship at a b × Commute ship at b a
+IndependentCommute = (ship : ProfileRecord) (at : Aboard) (a b : operation.Op) → AreIndependent a b
+    → Commute ship at a b × Commute ship at b a
 
 -- two cells don't overlap
 abbrev pub are_apart : Cell → Cell → Bool
@@ -76,17 +80,19 @@ both_independent a b = false
 abbrev pub independent_at : List operation.Op → ℕ → ℕ → Bool
 independent_at ops i j = both_independent (slice_get ops i) (slice_get ops j)
 
--- the steps at two places, the one before the other, are independent of each other and of all steps between
+-- the steps at two places, the one before the other, are independent of each other and of all steps
+-- between
 pub record AreExchangeable (ops : List operation.Op) (i j : ℕ) : Type 0 where
   pub order : i < j
   pub pair : independent_at ops i j ≡ true
   pub first : (k : ℕ) → i < k → k < j → independent_at ops i k ≡ true
   pub last : (k : ℕ) → i < k → k < j → independent_at ops j k ≡ true
 
--- two steps can be exchanged; their numbers are given in any order, the first step being 1; a step can be
--- exchanged with itself
+-- two steps can be exchanged; their numbers are given in any order, the first step being 1; a step
+-- can be exchanged with itself
 abbrev pub CanSwap : List operation.Op → ℕ → ℕ → Type 0
-CanSwap ops a b = (a ≡ b) ⊎ (AreExchangeable ops (a - 1) (b - 1) ⊎ AreExchangeable ops (b - 1) (a - 1))
+CanSwap ops a b = (a ≡ b)
+    ⊎ (AreExchangeable ops (a - 1) (b - 1) ⊎ AreExchangeable ops (b - 1) (a - 1))
 
 -- a list with the element at one place taken out, and put in again so that it is at another
 abbrev pub put_in : {X : Type 0} → List X → ℕ → Option X → List X

@@ -1,7 +1,10 @@
 -- The codes of an arrival's and a sequence's faults, as they are printed.
 use Rattle.std.specs.Prelude.{ℕ, List, codes}
 use Rattle.lift_sequence.specs.declared.faults.SeqCode.{SeqCode}
-use Rattle.lift_sequence.specs.declared.faults.SeqCode.TheVariants.{UnknownCell, CellTaken, Overlap, CellEmpty, WrongContainer, TankOver, TooManySteps, NoMemory, UnknownTank}
+use Rattle.lift_sequence.specs.declared.faults.SeqCode.TheVariants.{UnknownCell, CellTaken, Overlap}
+use Rattle.lift_sequence.specs.declared.faults.SeqCode.TheVariants.{CellEmpty, WrongContainer}
+use Rattle.lift_sequence.specs.declared.faults.SeqCode.TheVariants.{TankOver, TooManySteps}
+use Rattle.lift_sequence.specs.declared.faults.SeqCode.TheVariants.{NoMemory, UnknownTank}
 
 abbrev pub seq_code_text : SeqCode → List ℕ
 seq_code_text UnknownCell = codes "S1"

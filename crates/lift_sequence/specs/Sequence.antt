@@ -1,5 +1,8 @@
--- A sequence of steps: what the planner orders, in his order, and the first step that can't be done.
-use Rattle.std.specs.Prelude.{◌≡◌, ℕ, zero, suc, ◌+◌, ℤ, ◌+ℤ◌, List, [], ◌∷◌, length, map, take, filter_map, Option, None, Some, option_map, slice_get, nat_lt, if◌then◌else◌}
+-- A sequence of steps: what the planner orders, in his order, and the first step that can't be
+-- done.
+use Rattle.std.specs.Prelude.{◌≡◌, ℕ, zero, suc, ◌+◌, ℤ, ◌+ℤ◌, List, [], ◌∷◌, length, map, take}
+use Rattle.std.specs.Prelude.{filter_map, Option, None, Some, option_map, slice_get, nat_lt}
+use Rattle.std.specs.Prelude.{if◌then◌else◌}
 use Rattle.std.specs.Option.{option_or}
 use Rattle.stow_messages.specs.declared.lifts.Lift as lift
 use Rattle.stow_messages.specs.declared.step_rows.StepRow.{StepRow}
@@ -38,23 +41,27 @@ ops_of lifts (Some rows) = filter_map (op_of lifts) rows
 abbrev pub first_fault : ProfileRecord → Aboard → ℕ → List operation.Op → Option SeqFault
 first_fault ship at number [] = None
 first_fault ship at number (op ∷ more) =
-    option_or (option_map (fault_at number) (fault_of ship at op)) (first_fault ship (after_step ship at op) (number + 1) more)
+    option_or (option_map (fault_at number) (fault_of ship at op))
+    (first_fault ship (after_step ship at op) (number + 1) more)
 
 -- a sequence has at most 120,000 steps
 abbrev pub sequence_fault : ProfileRecord → Aboard → List operation.Op → Option SeqFault
 sequence_fault ship at ops =
-    if nat_lt 120000 (length ops) then Some (fault_at 120001 TooManySteps) else first_fault ship at 1 ops
+    if nat_lt 120000 (length ops) then Some (fault_at 120001 TooManySteps)
+    else first_fault ship at 1 ops
 
 -- Each step does what it does to what is aboard after the steps before it.
 abbrev pub AreSteps : ProfileRecord → Aboard → List operation.Op → List Step → Type 0
 AreSteps ship at ops steps =
-    (k : ℕ) → slice_get steps k ≡ option_map (λ op. step_of ship (after_all ship at (take k ops)) op) (slice_get ops k)
+    (k : ℕ) → slice_get steps k
+    ≡ option_map (λ op. step_of ship (after_all ship at (take k ops)) op) (slice_get ops k)
 
--- Whatever value is added up over the bodies aboard: after the first k steps it is that on arrival, less what these steps took out, and what
--- they put in.
+-- Whatever value is added up over the bodies aboard: after the first k steps it is that on arrival,
+-- less what these steps took out, and what they put in.
 abbrev pub StepsAddUp : ProfileRecord → Aboard → List operation.Op → List Step → Type 0
 StepsAddUp ship at ops steps = (f : Mass → ℤ) (k : ℕ)
-    → total f (bodies ship (after_all ship at (take k ops))) ≡ total f (bodies ship at) +ℤ total (change f) (take k steps)
+    → total f (bodies ship (after_all ship at (take k ops)))
+    ≡ total f (bodies ship at) +ℤ total (change f) (take k steps)
 
 -- what a sequence is
 pub record SequenceRecord : Type 0 where

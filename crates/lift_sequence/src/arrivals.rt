@@ -1,7 +1,11 @@
-ghost use Rattle.std.specs.Prelude.{◌≡◌, ◌↔◌, IsTrue, ◌≤◌, ◌++◌, [], length, OnOk, IfOk, IfErr, Some, None};
+ghost use Rattle.std.specs.Prelude.{◌≡◌, ◌↔◌, IsTrue, ◌≤◌, ◌++◌, [], length, OnOk, IfOk, IfErr};
+ghost use Rattle.std.specs.Prelude.{Some, None};
 ghost use Rattle.ship_profile.specs.Record.{IsSound};
 ghost use Rattle.lift_sequence.specs.Aboard.{cargo_in, nothing, with_item, container_of};
-ghost use Rattle.lift_sequence.specs.Arrival.{AddUpTo, AreFilledOnce, TellsAt, arrival_bodies, arrival_fault, cargo_on, fill_bodies, fills_fault, item_bodies, items_fault, on_arrival, with_fills, with_items};
+ghost use Rattle.lift_sequence.specs.Arrival.{AddUpTo, AreFilledOnce, TellsAt, arrival_bodies};
+ghost use Rattle.lift_sequence.specs.Arrival.{arrival_fault, cargo_on, fill_bodies, fills_fault};
+ghost use Rattle.lift_sequence.specs.Arrival.{item_bodies, items_fault, on_arrival, with_fills};
+ghost use Rattle.lift_sequence.specs.Arrival.{with_items};
 ghost use Rattle.lift_sequence.specs.Bodies.{item_body};
 ghost use Rattle.lift_sequence.specs.Legal.{Tells, stand_fault};
 ghost use Rattle.lift_sequence.specs.Sequence.{IsOf};
@@ -16,12 +20,24 @@ use std::marker::Model;
 use stow_messages::Item;
 use units_core::{Body, same_items};
 
-/// The condition on arrival: the containers of the bay plan in their cells, and the fillings in their tanks.
-#[derive(Debug, Drop)]
+/// The condition on arrival: the containers of the bay plan in their cells, and the fillings in
+/// their tanks.
+#[derive(Debug)]
 pub struct Arrival {
     items: Vec<Item>,
     fills: Vec<TankFill>,
     bodies: Vec<Body>,
+}
+
+impl Drop for Arrival {
+    // Written out, since the crates above prove a derived one anew, field by field.
+    fn drop(self) {
+        let Arrival {
+            items: _items,
+            fills: _fills,
+            bodies: _bodies,
+        } = self;
+    }
 }
 
 impl Model for Arrival {
@@ -29,7 +45,11 @@ impl Model for Arrival {
 
     ghost Value = { ArrivalRecord };
 
-    ghost view = { λ a. record { items = a.items.items; fills = a.fills.items; bodies = a.bodies.items } };
+    ghost view = { λ a. record {
+      items = a.items.items;
+      fills = a.fills.items;
+      bodies = a.bodies.items;
+    } };
 }
 
 /// Puts an item aboard, if its cell can take it.
@@ -131,9 +151,10 @@ fn joined(
 }
 
 impl Arrival {
-    /// The condition of a ship on arrival with these items of her bay plan and these fills. The first fault is answered: item by item
-    /// [`SeqCode::UnknownCell`], `CellTaken` and `Overlap`, then fill by fill `TankOver`, with the number of the item or the fill, from 1.
-    /// Where no tank is filled twice, its bodies add up, in every value, to those of what is aboard.
+    /// The condition of a ship on arrival with these items of her bay plan and these fills. The
+    /// first fault is answered: item by item [`SeqCode::UnknownCell`], `CellTaken` and `Overlap`,
+    /// then fill by fill `TankOver`, with the number of the item or the fill, from 1. Where no tank
+    /// is filled twice, its bodies add up, in every value, to those of what is aboard.
     pub fn new(
         alloc: Global,
         profile: &Profile,
@@ -183,8 +204,9 @@ impl Arrival {
         self.bodies.as_slice()
     }
 
-    /// Whether two conditions are equal: the items and the fills are the same in the same order, and so are the bodies that they make
-    /// with the light ship. It takes no memory, and time in the number of bodies.
+    /// Whether two conditions are equal: the items and the fills are the same in the same order,
+    /// and so are the bodies that they make with the light ship. It takes no memory, and time in
+    /// the number of bodies.
     pub fn same(&self, other: &Arrival) -> bool
         ensures { IsTrue result ↔ (self.now ≡ other.now) }
     {

@@ -1,7 +1,8 @@
 ghost use Rattle.std.specs.Prelude.{◌≡◌, ◌≤◌, ◌<◌, length};
 ghost use Rattle.lift_sequence.specs.Independent.{moved};
 
-/// Takes an element out and puts it in again so that it is further on: it changes places with one neighbour after another.
+/// Takes an element out and puts it in again so that it is further on: it changes places with one
+/// neighbour after another.
 fn carry_on<T>(items: &mut Vec<T>, from: usize, to: usize)
     requires order { from ≤ to }
     requires within { to < length items.old.items }
@@ -27,9 +28,9 @@ fn carry_back<T>(items: &mut Vec<T>, from: usize, to: usize)
     }
 }
 
-/// Takes an element out and puts it in again so that it is at another place. It takes no memory, and time linear in the number of
-/// elements that it passes.
-pub(crate) fn carry<T>(items: &mut Vec<T>, from: usize, to: usize)
+/// Takes an element out and puts it in again so that it is at another place. It takes no memory,
+/// and time linear in the number of elements that it passes.
+pub fn carry<T>(items: &mut Vec<T>, from: usize, to: usize)
     requires first { from < length items.old.items }
     requires second { to < length items.old.items }
     ensures list { items.new.items ≡ moved items.old.items from to }

@@ -34,7 +34,9 @@ impl Default for CellHasher {
 impl Hasher for CellHasher {
     ghost use Rattle.std.specs.Prelude.{◌+◌, ◌*◌, ◌%◌, ◌^◌, fold};
 
-    ghost write = { λ h bytes. record { last_four = fold (λ n b. ((n * 256) % 2 ^ 32 + b) % 2 ^ 32) h.last_four bytes } };
+    ghost write = { λ h bytes. record {
+      last_four = fold (λ n b. ((n * 256) % 2 ^ 32 + b) % 2 ^ 32) h.last_four bytes;
+    } };
 
     ghost finish = { λ h. (h.last_four * 0xf1357aea2e62a9c5) % 2 ^ 64 };
 

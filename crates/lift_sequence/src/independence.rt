@@ -1,5 +1,6 @@
 ghost use Rattle.std.specs.Prelude.{◌≡◌, ◌↔◌, ◌<◌, length, IsTrue};
-ghost use Rattle.lift_sequence.specs.Independent.{AreExchangeable, CanPass, are_apart, are_independent, fills, independent_at, leaves};
+ghost use Rattle.lift_sequence.specs.Independent.{AreExchangeable, CanPass, are_apart};
+ghost use Rattle.lift_sequence.specs.Independent.{are_independent, fills, independent_at, leaves};
 
 use crate::operations::Op;
 use stow_messages::Lift;
@@ -35,8 +36,8 @@ impl Op {
         }
     }
 
-    /// Whether two steps are independent of each other: no cell of the one is or overlaps a cell of the other, and they don't fill
-    /// the same tank.
+    /// Whether two steps are independent of each other: no cell of the one is or overlaps a cell of
+    /// the other, and they don't fill the same tank.
     pub fn is_independent(&self, other: &Op) -> bool
         ensures { result ≡ are_independent self.now other.now }
     {

@@ -1,13 +1,16 @@
-//! What is aboard, step by step: the condition on arrival, and a sequence of lifts, fillings of tanks and restows, each of which
-//! must be possible after those before it.
+//! What is aboard, step by step: the condition on arrival, and a sequence of lifts, fillings of
+//! tanks and restows, each of which must be possible after those before it.
 //!
-//! [`Arrival::new`] puts the items of a bay plan into the ship's cells and the fills into her tanks. [`Sequence::new`] goes through the
-//! steps that [`ops`] makes of a movement instruction and a steps file, and gives for each step the body that it takes out and the one that
-//! it puts in. Both answer the first item, fill or step that is impossible, and why. What is aboard is known to this crate alone: the bodies
-//! on arrival and those of each step are all that a sum needs. The containers are kept by cell in a map of `indexmap`, so a look-up takes
-//! constant time, and so does the search for a cell that overlaps. [`Sequence::reweigh`] changes the weight of one load afterwards, and with
-//! it what the steps do that move its container; [`Sequence::swap`] swaps two steps that are independent of each other and of all steps
-//! between, and [`Sequence::shift`] takes a step past others that are independent of it.
+//! [`Arrival::new`] puts the items of a bay plan into the ship's cells and the fills into her
+//! tanks. [`Sequence::new`] goes through the steps that [`ops`] makes of a movement instruction and
+//! a steps file, and gives for each step the body that it takes out and the one that it puts in.
+//! Both answer the first item, fill or step that is impossible, and why. What is aboard is known to
+//! this crate alone: the bodies on arrival and those of each step are all that a sum needs. The
+//! containers are kept by cell in a map of `indexmap`, so a look-up takes constant time, and so
+//! does the search for a cell that overlaps. [`Sequence::reweigh`] changes the weight of one load
+//! afterwards, and with it what the steps do that move its container; [`Sequence::swap`] swaps two
+//! steps that are independent of each other and of all steps between, and [`Sequence::shift`] takes
+//! a step past others that are independent of it.
 #![tactic(auto)]
 
 mod arrivals;
@@ -23,6 +26,7 @@ mod sequences;
 mod stowage;
 
 pub use arrivals::Arrival;
+pub use carrying::carry;
 pub use faults::{SeqCode, SeqFault};
 pub use laws::{
     arrivals_have_one_answer, cargo_has_places, independent_steps_commute, nobody_is_lost,

@@ -19,7 +19,8 @@ pub enum Op {
         name: ArrayVec<u8, 16>,
         kg: u32,
     },
-    /// The container in the cell `from` is put into the cell `to`. An empty identification fits any container.
+    /// The container in the cell `from` is put into the cell `to`. An empty identification fits any
+    /// container.
     Restow {
         from: Cell,
         to: Cell,
@@ -63,7 +64,8 @@ impl Op {
         }
     }
 
-    /// The step with another weight of the container that it loads; an equal one where it is no load.
+    /// The step with another weight of the container that it loads; an equal one where it is no
+    /// load.
     pub fn reweighed(&self, kg: Kg) -> Op
         ensures { result ≡ reweighed kg self.now }
     {
@@ -77,7 +79,8 @@ impl Op {
         }
     }
 
-    /// Whether the step moves the container that is in a cell. No step moves one that is ashore (`None`).
+    /// Whether the step moves the container that is in a cell. No step moves one that is ashore
+    /// (`None`).
     pub fn moves(&self, cell: Option<Cell>) -> bool
         ensures { result ≡ moves cell self.now }
     {
@@ -168,9 +171,9 @@ fn ops_of_lifts(alloc: Global, lifts: Vec<Lift>) -> Result<Vec<Op>, AllocError>
     Ok(ops)
 }
 
-/// The steps of a sequence: those that the rows of a steps file order, where there is one, and else the lifts of the movement
-/// instruction in their order. The rows are those that [`stow_messages::steps`] gave for these lifts; a row of a lift that isn't there
-/// orders nothing.
+/// The steps of a sequence: those that the rows of a steps file order, where there is one, and else
+/// the lifts of the movement instruction in their order. The rows are those that
+/// [`stow_messages::steps`] gave for these lifts; a row of a lift that isn't there orders nothing.
 pub fn ops(
     alloc: Global,
     lifts: Vec<Lift>,

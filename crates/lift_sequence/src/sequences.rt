@@ -1,14 +1,18 @@
-ghost use Rattle.std.specs.Prelude.{◌≡◌, ◌↔◌, ◌≤◌, ◌<◌, ◌-◌, ◌++◌, ◌∷◌, [], length, take, drop, slice_get, option_map, swap, IsTrue, OnOk, IfOk, IfErr, Some, None, if◌then◌else◌};
+ghost use Rattle.std.specs.Prelude.{◌≡◌, ◌↔◌, ◌≤◌, ◌<◌, ◌-◌, ◌++◌, ◌∷◌, [], length, take, drop};
+ghost use Rattle.std.specs.Prelude.{slice_get, option_map, swap, IsTrue, OnOk, IfOk, IfErr, Some};
+ghost use Rattle.std.specs.Prelude.{None, if◌then◌else◌};
 ghost use Rattle.std.specs.Bool.{OnTrue, OnFalse};
 ghost use Rattle.ship_profile.specs.Record.{ProfileRecord};
 ghost use Rattle.lift_sequence.specs.Arrival.{TellsAt, cargo_on, fault_at};
 ghost use Rattle.lift_sequence.specs.Aboard.{Aboard, cargo_in, after_step};
 ghost use Rattle.lift_sequence.specs.Bodies.{step_of, steps_of};
 ghost use Rattle.units_core.specs.Steps.{step_weighed};
-ghost use Rattle.lift_sequence.specs.Follow.{AreReweighed, IsLoad, moves, steps_weighed, weighed_at};
+ghost use Rattle.lift_sequence.specs.Follow.{AreReweighed, IsLoad, moves, steps_weighed};
+ghost use Rattle.lift_sequence.specs.Follow.{weighed_at};
 ghost use Rattle.lift_sequence.specs.Independent.{AreExchangeable, CanPass, CanSwap, moved};
 ghost use Rattle.lift_sequence.specs.Legal.{fault_of};
-ghost use Rattle.lift_sequence.specs.Sequence.{AreSteps, IsOf, StepsAddUp, first_fault, sequence_fault};
+ghost use Rattle.lift_sequence.specs.Sequence.{AreSteps, IsOf, StepsAddUp, first_fault};
+ghost use Rattle.lift_sequence.specs.Sequence.{sequence_fault};
 
 use crate::arrivals::Arrival;
 use crate::carrying::carry;
@@ -24,7 +28,8 @@ use units_core::{Cell, Kg, Step};
 /// The greatest number of steps.
 const MAX_STEPS: usize = 120_000;
 
-/// A sequence of steps, each of which can be done where it comes, with what each does to the bodies aboard.
+/// A sequence of steps, each of which can be done where it comes, with what each does to the bodies
+/// aboard.
 #[derive(Debug, Drop)]
 pub struct Sequence {
     ops: Vec<Op>,
@@ -73,7 +78,8 @@ fn make_all(
     Ok(steps)
 }
 
-/// Gives another weight to the bodies of a step that moves the container which is in `cell` before it.
+/// Gives another weight to the bodies of a step that moves the container which is in `cell` before
+/// it.
 fn weigh_move(op: &Op, step: &mut Step, cell: Option<Cell>, kg: Kg)
     ensures { step.new ≡ (if moves cell op.now then step_weighed kg step.old else step.old) }
 {
@@ -82,8 +88,8 @@ fn weigh_move(op: &Op, step: &mut Step, cell: Option<Cell>, kg: Kg)
     }
 }
 
-/// Gives another weight to the bodies of those steps, from the place `first` on, that move the container which is in `cell` before
-/// them.
+/// Gives another weight to the bodies of those steps, from the place `first` on, that move the
+/// container which is in `cell` before them.
 fn weigh_moves(ops: &[Op], steps: &mut [Step], first: usize, cell: Option<Cell>, kg: Kg)
     requires { length steps.old ≡ length ops.now }
     ensures steps { steps.new ≡ take first steps.old
@@ -98,7 +104,8 @@ fn weigh_moves(ops: &[Op], steps: &mut [Step], first: usize, cell: Option<Cell>,
     }
 }
 
-/// Gives another weight to the bodies of the load at a place, and of those steps behind it that move its container.
+/// Gives another weight to the bodies of the load at a place, and of those steps behind it that
+/// move its container.
 fn weigh_steps(ops: &[Op], steps: &mut [Step], place: usize, kg: Kg)
     requires within { place < length ops.now }
     requires as_many { length steps.old ≡ length ops.now }
@@ -110,11 +117,13 @@ fn weigh_steps(ops: &[Op], steps: &mut [Step], place: usize, kg: Kg)
 }
 
 impl Sequence {
-    /// The sequence of these steps from the condition on arrival, which was made with the same profile. The first fault is answered:
-    /// [`SeqCode::TooManySteps`] at 120,001 where there are more than 120,000; then step by step, from 1, of a load `UnknownCell`,
-    /// `CellTaken`, `Overlap`; of a discharge `UnknownCell`, `CellEmpty`, `WrongContainer`; of a filling `UnknownTank`, `TankOver`; of a
-    /// restow those of a discharge, and then those of a load into the other cell. What the steps take out and put in is what changes each
-    /// sum over the bodies aboard.
+    /// The sequence of these steps from the condition on arrival, which was made with the same
+    /// profile. The first fault is answered: [`SeqCode::TooManySteps`] at 120,001 where there are
+    /// more than 120,000; then step by step, from 1, of a load `UnknownCell`, `CellTaken`,
+    /// `Overlap`; of a discharge `UnknownCell`, `CellEmpty`, `WrongContainer`; of a filling
+    /// `UnknownTank`, `TankOver`; of a restow those of a discharge, and then those of a load into
+    /// the other cell. What the steps take out and put in is what changes each sum over the bodies
+    /// aboard.
     pub fn new(
         alloc: Global,
         profile: &Profile,
@@ -178,9 +187,10 @@ impl Sequence {
         self.ops.as_slice()
     }
 
-    /// Gives the container that step `k` loads, the first step being 1, another weight. That changes the body that this step puts in, and
-    /// the bodies of the later steps that move this container; all else stays. Wherever the sequence could be carried out, it still can,
-    /// since no step is judged by a weight. It takes no memory, and time linear in the number of steps.
+    /// Gives the container that step `k` loads, the first step being 1, another weight. That
+    /// changes the body that this step puts in, and the bodies of the later steps that move this
+    /// container; all else stays. Wherever the sequence could be carried out, it still can, since
+    /// no step is judged by a weight. It takes no memory, and time linear in the number of steps.
     pub fn reweigh(&mut self, k: usize, kg: Kg)
         requires first { 1 ≤ k }
         requires load { IsLoad self.old.ops (k - 1) }
@@ -199,8 +209,8 @@ impl Sequence {
         self.ops[place] = self.ops[place].reweighed(kg);
     }
 
-    /// Exchanges the steps at two places, where they are independent of each other and of all steps between. Returns whether it
-    /// did.
+    /// Exchanges the steps at two places, where they are independent of each other and of all steps
+    /// between. Returns whether it did.
     fn exchange(&mut self, i: usize, j: usize) -> bool
         requires order { i < j }
         requires within { j < length self.old.ops }
@@ -224,9 +234,10 @@ impl Sequence {
         true
     }
 
-    /// Exchanges two steps, the first step being 1, where they are independent of each other and of all steps between, as
-    /// [`Op::is_independent`] says. It returns whether it did; if not, nothing changes. Wherever the sequence could be carried out, it
-    /// still can, and each step does what it did. It takes no memory, and time linear in the number of steps between.
+    /// Exchanges two steps, the first step being 1, where they are independent of each other and of
+    /// all steps between, as [`Op::is_independent`] says. It returns whether it did; if not,
+    /// nothing changes. Wherever the sequence could be carried out, it still can, and each step
+    /// does what it did. It takes no memory, and time linear in the number of steps between.
     pub fn swap(&mut self, a: usize, b: usize) -> bool
         requires first { (1 ≤ a) × (1 ≤ b) }
         requires last { (a ≤ length self.old.ops) × (b ≤ length self.old.ops) }
@@ -251,10 +262,21 @@ impl Sequence {
         }
     }
 
-    /// Takes a step out and puts it in again so that it is at the number `to`, the first step being 1, where it is independent of all
-    /// steps that it passes, as [`Op::is_independent`] says. It returns whether it did; if not, nothing changes. Wherever the sequence
-    /// could be carried out, it still can, and each step does what it did. It takes no memory, and time linear in the number of steps that
-    /// are passed.
+    /// Whether [`Sequence::shift`] takes a step past the others that are between it and the number
+    /// `to`: whether it is independent of each of them.
+    pub fn can_shift(&self, from: usize, to: usize) -> bool
+        requires first { (1 ≤ from) × (1 ≤ to) }
+        requires last { (from ≤ length self.now.ops) × (to ≤ length self.now.ops) }
+        ensures { IsTrue result ↔ CanPass self.now.ops (from - 1) (to - 1) }
+    {
+        can_pass(&self.ops, from - 1, to - 1)
+    }
+
+    /// Takes a step out and puts it in again so that it is at the number `to`, the first step being
+    /// 1, where it is independent of all steps that it passes, as [`Op::is_independent`] says. It
+    /// returns whether it did; if not, nothing changes. Wherever the sequence could be carried out,
+    /// it still can, and each step does what it did. It takes no memory, and time linear in the
+    /// number of steps that are passed.
     pub fn shift(&mut self, from: usize, to: usize) -> bool
         requires first { (1 ≤ from) × (1 ≤ to) }
         requires last { (from ≤ length self.old.ops) × (to ≤ length self.old.ops) }

@@ -1,10 +1,14 @@
-ghost use Rattle.std.specs.Prelude.{◌≡◌, ◌<◌, ◌≤◌, false, OnOk, OnErr, IfOk, IfErr, Some, None, pos};
+ghost use Rattle.std.specs.Prelude.{◌≡◌, ◌<◌, ◌≤◌, false, OnOk, OnErr, IfOk, IfErr, Some, None};
+ghost use Rattle.std.specs.Prelude.{pos};
 ghost use Rattle.std.specs.Option.{is_some};
 ghost use Rattle.indexmap.specs.IndexMap.{spare};
 ghost use Rattle.ship_profile.specs.Record.{place_of, tank_of};
-ghost use Rattle.lift_sequence.specs.Aboard.{after_step, cargo_in, nothing, with_cell, with_restow, with_tank};
-ghost use Rattle.lift_sequence.specs.Bodies.{body_of, body_in, cell_body, filling_step, restow_step, step_of};
-ghost use Rattle.lift_sequence.specs.Legal.{Tells, fault_of, fill_fault, in_bay, is_rival, overlap, restow_fault, stand_fault, take_fault};
+ghost use Rattle.lift_sequence.specs.Aboard.{after_step, cargo_in, nothing, with_cell, with_restow};
+ghost use Rattle.lift_sequence.specs.Aboard.{with_tank};
+ghost use Rattle.lift_sequence.specs.Bodies.{body_of, body_in, cell_body, filling_step};
+ghost use Rattle.lift_sequence.specs.Bodies.{restow_step, step_of};
+ghost use Rattle.lift_sequence.specs.Legal.{Tells, fault_of, fill_fault, in_bay, is_rival, overlap};
+ghost use Rattle.lift_sequence.specs.Legal.{restow_fault, stand_fault, take_fault};
 
 use crate::containers::{Container, container_of, differ};
 use crate::faults::SeqCode;
@@ -74,7 +78,8 @@ impl Stowage {
         conflicts(other, cell) && self.is_taken(other)
     }
 
-    /// The occupied cell that overlaps a free cell, the one of least bay; no bay more than two away can overlap.
+    /// The occupied cell that overlaps a free cell, the one of least bay; no bay more than two away
+    /// can overlap.
     fn overlap(&self, cell: Cell) -> Option<Cell>
         ensures { is_some ((cargo_in self.now).cells cell) ≡ false
             → result ≡ overlap (cargo_in self.now).cells cell }
@@ -155,8 +160,8 @@ impl Stowage {
         }
     }
 
-    /// Takes the container of this identification out of a cell, and gives it with its body. Where that is impossible,
-    /// nothing changes.
+    /// Takes the container of this identification out of a cell, and gives it with its body. Where
+    /// that is impossible, nothing changes.
     fn take(
         &mut self,
         profile: &Profile,
@@ -219,8 +224,8 @@ impl Stowage {
         })
     }
 
-    /// Moves a container from one cell to another. If the other cell can't take it, it is put back, and nothing
-    /// changes.
+    /// Moves a container from one cell to another. If the other cell can't take it, it is put back,
+    /// and nothing changes.
     fn restow(
         &mut self,
         profile: &Profile,
@@ -256,7 +261,8 @@ impl Stowage {
         }
     }
 
-    /// Does one step, and gives the bodies that it takes out and puts in; or why it can't be done, and then nothing changes.
+    /// Does one step, and gives the bodies that it takes out and puts in; or why it can't be done,
+    /// and then nothing changes.
     pub(crate) fn make(&mut self, profile: &Profile, op: &Op) -> Result<Step, SeqCode>
         ensures legal { OnOk result (fault_of profile.now (cargo_in self.old) op.now ≡ None) }
         ensures aboard { OnOk result

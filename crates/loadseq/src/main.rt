@@ -1,7 +1,8 @@
-//! The program: `loadseq check FOLDER BAPLIE MOVINS [--steps FILE] [--workers N] [--chunk N]` reads a ship's profile, a bay plan, a movement
-//! instruction and a planner's steps, and writes the report to standard output; `loadseq first` with the same words writes the first step that
-//! fails alone; `loadseq whatif FOLDER BAPLIE MOVINS EDITS` with the same options tries edits of the steps, and writes what became of each and
-//! the report on the list that is left.
+//! The program: `loadseq check FOLDER BAPLIE MOVINS [--steps FILE] [--workers N] [--chunk N]` reads
+//! a ship's profile, a bay plan, a movement instruction and a planner's steps, and writes the
+//! report to standard output; `loadseq first` with the same words writes the first step that fails
+//! alone; `loadseq whatif FOLDER BAPLIE MOVINS EDITS` with the same options tries edits of the
+//! steps, and writes what became of each and the report on the list that is left.
 #![tactic(auto)]
 
 use claim_run::Open;
@@ -22,8 +23,8 @@ fn borrowed(alloc: Global, words: &[String]) -> Result<Vec<&str>, AllocError> {
     Ok(list)
 }
 
-/// The program over the system's words, files and streams. The runtime has leave to start threads in `main` alone, so it is handed over once
-/// more for that.
+/// The program over the system's words, files and streams. The runtime has leave to start threads
+/// in `main` alone, so it is handed over once more for that.
 fn run(rt: &HostRuntime, threads: &(impl Threads + Wait + Sync)) -> Result<u8, Stop> {
     let words = words(rt, rt.alloc())?;
     let list = borrowed(rt.alloc(), &words)?;

@@ -46,7 +46,8 @@ fn start<'s, E, R: Threads + Wait + Sync>(
     Ok(started?)
 }
 
-/// Whether a thread of its own and the caller each publish the list of a session, beside one another.
+/// Whether a thread of its own and the caller each publish the list of a session, beside one
+/// another.
 fn publish_twice<R: Threads + Wait + Sync>(rt: &R, desk: &Desk, session: &Session) -> bool
     requires { session.now.base ≡ desk.now.base }
 {
@@ -65,7 +66,8 @@ fn publish_twice<R: Threads + Wait + Sync>(rt: &R, desk: &Desk, session: &Sessio
     )
 }
 
-/// A list that is published at a desk in each of two threads. Two others were published there before.
+/// A list that is published at a desk in each of two threads. Two others were published there
+/// before.
 #[derive(Drop)]
 pub struct Publishing<'a> {
     pub desk: &'a Desk,

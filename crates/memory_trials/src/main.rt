@@ -1,5 +1,7 @@
-//! Refuses each growth of memory in turn while the library is called, and sees what the calls say and leave. `tests/program.d/growths` runs it under
-//! an allocator that refuses (`tests/refusing_heap.c`); by itself it makes the same calls with ample memory, and none is refused.
+//! Refuses each growth of memory in turn while the library is called, and sees what the calls say
+//! and leave. `tests/program.d/growths` runs it under an allocator that refuses
+//! (`tests/refusing_heap.c`); by itself it makes the same calls with ample memory, and none is
+//! refused.
 #![tactic(auto)]
 
 mod desks;

@@ -89,7 +89,8 @@ impl<'a> Editing<'a> {
         self.has(self.after)
     }
 
-    /// Whether the edit was made, and nothing else was kept to be taken back. It is taken back then.
+    /// Whether the edit was made, and nothing else was kept to be taken back. It is taken back
+    /// then.
     pub fn is_edited(&mut self) -> bool {
         let edited = self.is_after();
         let back = self.session.undo() == Ok(true) && self.session.undo() == Ok(false);
@@ -121,7 +122,8 @@ pub fn reweigh(session: &mut Session, kg: u32) -> bool {
     }
 }
 
-/// 65 weights of the first load, one after another, and 64 of them taken back: neither asks for memory.
+/// 65 weights of the first load, one after another, and 64 of them taken back: neither asks for
+/// memory.
 pub fn sixty_four_undos(session: &mut Session) -> Told {
     let mut right = true;
     for kg in 1..66 {
@@ -134,8 +136,8 @@ pub fn sixty_four_undos(session: &mut Session) -> Told {
     if right { Told::Right } else { Told::Wrong }
 }
 
-/// The first of three steps that are independent of each other is exchanged with the last, and with the second, and each exchange is taken back: none of
-/// that asks for memory.
+/// The first of three steps that are independent of each other is exchanged with the last, and with
+/// the second, and each exchange is taken back: none of that asks for memory.
 pub fn swaps(session: &mut Session) -> Told {
     let mut right = session.lifts().len() == 3;
     for (a, b) in [(1, 3), (3, 1), (1, 2), (2, 1)] {

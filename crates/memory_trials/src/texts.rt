@@ -1,4 +1,5 @@
-//! The inputs that are tried, and the reports on them. The figures are those of the worked examples in `tests/program.d/worked`.
+//! The inputs that are tried, and the reports on them. The figures are those of the worked examples
+//! in `tests/program.d/worked`.
 
 use box_ship::SHIP;
 use seq_report::RunFault;

@@ -1,4 +1,5 @@
-//! Calls that are tried while growths are refused. They are the cases of an enum, since what a thread is sent isn't known in a method of a trait.
+//! Calls that are tried while growths are refused. They are the cases of an enum, since what a
+//! thread is sent isn't known in a method of a trait.
 use crate::desks::Publishing;
 use crate::free_calls::Readers;
 use crate::reports::{Report, stop_early};
@@ -71,7 +72,8 @@ impl<'a> Trial<'a> {
         }
     }
 
-    /// Whether all that can be seen is as it should be after the call. It then leads back to where the call can be made again.
+    /// Whether all that can be seen is as it should be after the call. It then leads back to where
+    /// the call can be made again.
     pub fn is_done(&mut self, alloc: Global) -> bool {
         let stands = self.is_as_before();
         match self {

@@ -20,7 +20,8 @@ pub fn swallow(alloc: Global) -> Told {
     Told::Right
 }
 
-/// One that leaves half of an edit: the first of two numbers is kept, where there is no memory for the second.
+/// One that leaves half of an edit: the first of two numbers is kept, where there is no memory for
+/// the second.
 #[derive(Drop)]
 pub struct LeavesHalf {
     numbers: Vec<u32>,

@@ -1,7 +1,9 @@
--- The sums that the bodies of a ship can have, value by value: no mass is negative, no centre is more than a kilometre away, aft of each frame
--- there is no more mass than there is, nor further than two kilometres, and the free surface moments are at most 2 * 10^14 kg mm.
+-- The sums that the bodies of a ship can have, value by value: no mass is negative, no centre is
+-- more than a kilometre away, aft of each frame there is no more mass than there is, nor further
+-- than two kilometres, and the free surface moments are at most 2 * 10^14 kg mm.
 use Rattle.std.specs.Prelude.{ℕ, ◌*◌, ◌^◌, ◌≤◌, pos, ◌≤ℤ◌, unsigned_abs}
-use Rattle.moment_sums.specs.Sum.{Sum, Weight, MomentX, MomentY, MomentZ, Surface, WeightAft, MomentAft}
+use Rattle.moment_sums.specs.Sum.{Sum, Weight, MomentX, MomentY, MomentZ, Surface, WeightAft}
+use Rattle.moment_sums.specs.Sum.{MomentAft}
 
 pub record IsBounded (s : Sum) : Type 0 where
   pub kg : pos 0 ≤ℤ s Weight

@@ -1,11 +1,15 @@
--- Bookkeeping: a sum as the code keeps it: plain numbers, with 16 places for frames, and how many bodies were added or taken.
-use Rattle.std.specs.Prelude.{◌≡◌, ℕ, ◌+◌, ◌*◌, ◌^◌, ◌≤◌, ℤ, pos, ◌+ℤ◌, ◌*ℤ◌, neg_ℤ, int_le, List, [], ◌∷◌, length, map, replicate, unsigned_abs, Bool, ◌&&◌, nat_eq, if◌then◌else◌}
+-- Bookkeeping: a sum as the code keeps it: plain numbers, with 16 places for frames, and how many
+-- bodies were added or taken.
+use Rattle.std.specs.Prelude.{◌≡◌, ℕ, ◌+◌, ◌*◌, ◌^◌, ◌≤◌, ℤ, pos, ◌+ℤ◌, ◌*ℤ◌, neg_ℤ, int_le, List}
+use Rattle.std.specs.Prelude.{[], ◌∷◌, length, map, replicate, unsigned_abs, Bool, ◌&&◌, nat_eq}
+use Rattle.std.specs.Prelude.{if◌then◌else◌}
 use Rattle.std.specs.List.{list_all, range_with_len}
 use Rattle.std.specs.Option.{option_to_list}
 use Rattle.units_core.specs.Interpolation.{at, IsWithin}
 use Rattle.units_core.specs.declared.steps.Step.{Step}
 use Rattle.prefix_scan.specs.Laws.{most_parts}
-use Rattle.moment_sums.specs.Sum.{Weight, MomentX, MomentY, MomentZ, Surface, WeightAft, MomentAft, Sum}
+use Rattle.moment_sums.specs.Sum.{Weight, MomentX, MomentY, MomentZ, Surface, WeightAft, MomentAft}
+use Rattle.moment_sums.specs.Sum.{Sum}
 
 pub record Kept : Type 0 where
   pub kg : ℤ
@@ -44,8 +48,8 @@ kept_of s parts = record {
 abbrev pub bodies_of : Step → ℕ
 bodies_of step = length (option_to_list step.out) + length (option_to_list step.put)
 
--- At most 2^19 parts, each of 10^9 kg, of 10^15 kg mm about each axis, of a free surface moment of 10^12 kg mm, and aft of each frame
--- of 10^9 kg and 2 * 10^15 kg mm at most.
+-- At most 2^19 parts, each of 10^9 kg, of 10^15 kg mm about each axis, of a free surface moment of
+-- 10^12 kg mm, and aft of each frame of 10^9 kg and 2 * 10^15 kg mm at most.
 pub record IsKept (kg x y z fsm : ℤ) (weights moments : List ℤ) (parts : ℕ) : Type 0 where
   pub few : parts ≤ most_parts
   pub kg_within : unsigned_abs kg ≤ parts * 10 ^ 9
@@ -89,15 +93,17 @@ both_kept a b = record {
   parts = a.parts + b.parts;
 }
 
--- Of how many parts a sum is. What hasn't 16 places for frames is no sum: it is of more parts than any can be.
+-- Of how many parts a sum is. What hasn't 16 places for frames is no sum: it is of more parts than
+-- any can be.
 abbrev pub has_places : Kept → Bool
 has_places t = nat_eq (length t.weights_aft) 16 && nat_eq (length t.moments_aft) 16
 
 abbrev pub size_of : Kept → ℕ
 size_of t = if has_places t then t.parts else most_parts + 1
 
--- The sums that the bodies of a ship can have: no mass is negative, no centre is more than a kilometre away, no more mass is aft of a frame
--- than there is nor further than two kilometres, and at most 200 tanks have a free surface.
+-- The sums that the bodies of a ship can have: no mass is negative, no centre is more than a
+-- kilometre away, no more mass is aft of a frame than there is nor further than two kilometres, and
+-- at most 200 tanks have a free surface.
 abbrev pub is_either_way : ℤ → ℤ → Bool
 is_either_way most n = int_le (neg_ℤ most) n && int_le n most
 
@@ -109,5 +115,7 @@ are_centres most x y z = is_either_way most x && (is_either_way most y && is_eit
 
 abbrev pub is_bounded : Kept → Bool
 is_bounded t =
-    (int_le (pos 0) t.kg && (are_centres (pos (10 ^ 6) *ℤ t.kg) t.x t.y t.z && is_share (pos (2 * 10 ^ 14)) t.fsm))
-    && (list_all (is_share t.kg) t.weights_aft && list_all (is_share (pos (2 * 10 ^ 6) *ℤ t.kg)) t.moments_aft)
+    (int_le (pos 0) t.kg
+    && (are_centres (pos (10 ^ 6) *ℤ t.kg) t.x t.y t.z && is_share (pos (2 * 10 ^ 14)) t.fsm))
+    && (list_all (is_share t.kg) t.weights_aft
+    && list_all (is_share (pos (2 * 10 ^ 6) *ℤ t.kg)) t.moments_aft)

@@ -1,5 +1,7 @@
--- Bookkeeping: sums are a monoid: nothing added changes nothing, and sums may be grouped in any way. A proof, which the impl of `Monoid` hands over.
-use Rattle.std.specs.Prelude.{◌≡◌, ℕ, zero, suc, ◌+◌, ◌≤◌, ℤ, pos, ◌+ℤ◌, List, [], ◌∷◌, length, replicate, Bool, true, false, ◌&&◌, nat_eq, if◌then◌else◌, refl}
+-- Bookkeeping: sums are a monoid: nothing added changes nothing, and sums may be grouped in any
+-- way. A proof, which the impl of `Monoid` hands over.
+use Rattle.std.specs.Prelude.{◌≡◌, ℕ, zero, suc, ◌+◌, ◌≤◌, ℤ, pos, ◌+ℤ◌, List, [], ◌∷◌, length}
+use Rattle.std.specs.Prelude.{replicate, Bool, true, false, ◌&&◌, nat_eq, if◌then◌else◌, refl}
 use Rattle.std.proofs.Common.{arith, ap, eqb-true}
 use Rattle.std.proofs.lemmas.Int.{ints}
 use Rattle.prefix_scan.specs.Laws.{MonoidLaws, most_parts}
@@ -11,11 +13,13 @@ plus_nothing x = omega (arith, ints)
 pub nothing_plus : (x : ℤ) → pos 0 +ℤ x ≡ x
 nothing_plus x = omega (arith, ints)
 
-pub length-added : (n : ℕ) (xs ys : List ℤ) → length xs ≡ n → length ys ≡ n → length (added xs ys) ≡ n
+pub length-added : (n : ℕ) (xs ys : List ℤ) → length xs ≡ n → length ys ≡ n
+    → length (added xs ys) ≡ n
 length-added n [] ys a b = b
 length-added n (x ∷ xs) [] a b = a
 length-added zero (x ∷ xs) (y ∷ ys) a b = absurd (omega arith)
-length-added (suc n) (x ∷ xs) (y ∷ ys) a b = ap suc (length-added n xs ys (omega arith) (omega arith))
+length-added (suc n) (x ∷ xs) (y ∷ ys) a b =
+    ap suc (length-added n xs ys (omega arith) (omega arith))
 
 pub added_zeros : (n : ℕ) (xs : List ℤ) → length xs ≡ n → added (replicate n (pos 0)) xs ≡ xs
 added_zeros zero xs h = refl
@@ -43,7 +47,8 @@ pub record Placed (t : Kept) : Type 0 where
   pub moments : length t.moments_aft ≡ 16
   pub size : size_of t ≡ t.parts
 
-by_tests : (t : Kept) (a b : Bool) → nat_eq (length t.weights_aft) 16 ≡ a → nat_eq (length t.moments_aft) 16 ≡ b
+by_tests : (t : Kept) (a b : Bool) → nat_eq (length t.weights_aft) 16 ≡ a
+    → nat_eq (length t.moments_aft) 16 ≡ b
     → (if a && b then t.parts else most_parts + 1) ≤ most_parts → Placed t
 by_tests t true true p q h = record {
   weights = eqb-true (length t.weights_aft) 16 p;
@@ -54,19 +59,26 @@ by_tests t true false p q h = absurd (omega arith)
 by_tests t false b p q h = absurd (omega arith)
 
 pub placed : (t : Kept) → size_of t ≤ most_parts → Placed t
-placed t h = by_tests t (nat_eq (length t.weights_aft) 16) (nat_eq (length t.moments_aft) 16) refl refl h
+placed t h =
+    by_tests t (nat_eq (length t.weights_aft) 16) (nat_eq (length t.moments_aft) 16) refl refl h
 
 sixteen : (n : ℕ) → n ≡ 16 → nat_eq n 16 ≡ true
 sixteen n e = ap (λ m. nat_eq m 16) e
 
-pub with_places : (t : Kept) → length t.weights_aft ≡ 16 → length t.moments_aft ≡ 16 → size_of t ≡ t.parts
-with_places t w m = λ i. if sixteen (length t.weights_aft) w i && sixteen (length t.moments_aft) m i then t.parts else most_parts + 1
+pub with_places : (t : Kept) → length t.weights_aft ≡ 16 → length t.moments_aft ≡ 16
+    → size_of t ≡ t.parts
+with_places t w m =
+    λ i. if sixteen (length t.weights_aft) w i
+    && sixteen (length t.moments_aft) m i then t.parts else most_parts + 1
 
-both_size : (x y : Kept) → size_of x + size_of y ≤ most_parts → size_of (both_kept x y) ≡ size_of x + size_of y
+both_size : (x y : Kept) → size_of x + size_of y ≤ most_parts
+    → size_of (both_kept x y) ≡ size_of x + size_of y
 both_size x y h =
     let a = placed x (omega arith) in
     let b = placed y (omega arith) in
-    let all = with_places (both_kept x y) (length-added 16 x.weights_aft y.weights_aft a.weights b.weights) (length-added 16 x.moments_aft y.moments_aft a.moments b.moments) in
+    let all = with_places (both_kept x y)
+    (length-added 16 x.weights_aft y.weights_aft a.weights b.weights)
+    (length-added 16 x.moments_aft y.moments_aft a.moments b.moments) in
     omega (arith, all, a.size, b.size)
 
 pub kept_laws : MonoidLaws most_parts none_kept both_kept size_of

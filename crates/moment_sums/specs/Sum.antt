@@ -2,14 +2,15 @@
 use Rattle.std.specs.Prelude.{ℕ, ℤ, pos, ◌+ℤ◌, ◌*ℤ◌, neg_ℤ, List, slice_get, Option, Some, None}
 use Rattle.std.specs.Option.{option_to_list}
 use Rattle.units_core.specs.Bodies.{Mass}
-use Rattle.ship_profile.specs.declared.frames.Frame.{Frame}
+use Rattle.units_core.specs.declared.frames.Frame.{Frame}
 use Rattle.units_core.specs.declared.steps.Step.{Step}
 use Rattle.units_core.specs.Steps.{change}
 use Rattle.units_core.specs.Totals.{total}
 use Rattle.moment_sums.specs.Shares.{weight_aft, moment_aft}
 
--- the mass; its moments about the after perpendicular, the middle line and the keel; the free surface moment; and at each frame, by its
--- number from 0, the mass aft of it and that mass's moment about it
+-- the mass; its moments about the after perpendicular, the middle line and the keel; the free
+-- surface moment; and at each frame, by its number from 0, the mass aft of it and that mass's
+-- moment about it
 pub data Column : Type 0 where
   Weight : Column
   MomentX : Column
@@ -55,7 +56,8 @@ negated a = λ c. neg_ℤ (a c)
 abbrev pub sum_of : List Frame → List Mass → Sum
 sum_of frames bodies = λ c. total (value frames c) bodies
 
--- a body's values, where there is one; what a step changes of each value: what it puts in, less what it takes out
+-- a body's values, where there is one; what a step changes of each value: what it puts in, less
+-- what it takes out
 abbrev pub in_option : List Frame → Option Mass → Sum
 in_option frames body = λ c. total (value frames c) (option_to_list body)
 

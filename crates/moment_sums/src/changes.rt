@@ -1,11 +1,11 @@
-ghost use Rattle.std.specs.Prelude.{◌≡◌, ◌^◌, ◌*◌, ◌≤◌, ◌+ℤ◌, ◌*ℤ◌, pos, true, length, unsigned_abs};
+ghost use Rattle.std.specs.Prelude.{◌≡◌, ◌^◌, ◌*◌, ◌≤◌, ◌+ℤ◌, ◌*ℤ◌, pos, true, length};
+ghost use Rattle.std.specs.Prelude.{unsigned_abs};
 ghost use Rattle.units_core.specs.Interpolation.{IsWithin};
 ghost use Rattle.moment_sums.specs.Changes.{AreShared, signed};
 ghost use Rattle.moment_sums.specs.Shares.{moment_aft, weight_aft};
 
 use crate::shares::{Share, share_at};
-use ship_profile::Frames;
-use units_core::{Body, Mm};
+use units_core::{Body, Frames, Mm};
 
 /// A number with what is put in or taken out.
 #[inline(always)]
@@ -47,7 +47,8 @@ fn is_nothing(share: &Share) -> bool
     share.weight == 0 && share.moment == 0
 }
 
-/// Changes the masses aft of the frames and the moments of these by a body that is put in or taken out, in one pass over the frames.
+/// Changes the masses aft of the frames and the moments of these by a body that is put in or taken
+/// out, in one pass over the frames.
 #[inline(always)]
 pub fn change_shares(
     weights: &mut [i128; 16],

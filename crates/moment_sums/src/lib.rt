@@ -1,5 +1,6 @@
-//! What is aboard, added up: mass, moments, free surface moments, and the shares aft of each frame. [`Totals`] are joined as a monoid: the sum
-//! after a step is the sum before it joined with what the step changes, [`Totals::of_step`]; [`Totals::add_step`] makes it in place.
+//! What is aboard, added up: mass, moments, free surface moments, and the shares aft of each frame.
+//! [`Totals`] are joined as a monoid: the sum after a step is the sum before it joined with what
+//! the step changes, [`Totals::of_step`]; [`Totals::add_step`] makes it in place.
 #![tactic(auto)]
 
 mod changes;

@@ -1,4 +1,5 @@
-ghost use Rattle.std.specs.Prelude.{◌≡◌, ◌*◌, ◌^◌, ◌≤◌, pos, ◌+ℤ◌, ◌-ℤ◌, ◌*ℤ◌, ◌≤ℤ◌, int_le, unsigned_abs};
+ghost use Rattle.std.specs.Prelude.{◌≡◌, ◌*◌, ◌^◌, ◌≤◌, pos, ◌+ℤ◌, ◌-ℤ◌, ◌*ℤ◌, ◌≤ℤ◌, int_le};
+ghost use Rattle.std.specs.Prelude.{unsigned_abs};
 ghost use Rattle.units_core.specs.Ratio.{◌over◌, floor_of};
 ghost use Rattle.moment_sums.specs.Shares.{moment_aft, weight_aft};
 
@@ -74,8 +75,8 @@ fn whole_moment(kg: i64, frame: i64, x: i64) -> i64
     kg * (frame - x)
 }
 
-/// The part of a mass that lies aft of a frame, where it is spread evenly over a length of twice `half` and reaches so far aft of the frame;
-/// rounded down.
+/// The part of a mass that lies aft of a frame, where it is spread evenly over a length of twice
+/// `half` and reaches so far aft of the frame; rounded down.
 fn part_aft(kg: i64, reach: i64, half: i64) -> i64
     requires kg_low { pos 0 ≤ℤ kg }
     requires kg_high { unsigned_abs kg ≤ 10 ^ 9 }
@@ -90,7 +91,8 @@ fn part_aft(kg: i64, reach: i64, half: i64) -> i64
     (kg * reach).div_euclid(2 * half)
 }
 
-/// A product of three numbers over a fourth, rounded down, where the product takes more than 64 bits.
+/// A product of three numbers over a fourth, rounded down, where the product takes more than 64
+/// bits.
 #[cold]
 #[inline(never)]
 fn long_quotient(top: i64, factor: i64, divisor: i64) -> i64
@@ -123,7 +125,8 @@ fn part_moment(kg: i64, reach: i64, half: i64) -> i64
     }
 }
 
-/// What lies aft of a frame of a mass that is spread evenly over a length of twice `half`, and reaches so far aft of the frame; rounded down.
+/// What lies aft of a frame of a mass that is spread evenly over a length of twice `half`, and
+/// reaches so far aft of the frame; rounded down.
 fn part_share(kg: i64, reach: i64, half: i64) -> Share
     requires kg_low { pos 0 ≤ℤ kg }
     requires kg_high { unsigned_abs kg ≤ 10 ^ 9 }
@@ -143,7 +146,8 @@ fn part_share(kg: i64, reach: i64, half: i64) -> Share
     }
 }
 
-/// What a body has aft of a frame, rounded down. Nearly all frames have all of a body before or aft of them, which takes no division.
+/// What a body has aft of a frame, rounded down. Nearly all frames have all of a body before or aft
+/// of them, which takes no division.
 #[inline(always)]
 pub fn share_at(body: &Body, frame: Mm) -> Share
     ensures weight { result.weight ≡ weight_aft frame body.now }

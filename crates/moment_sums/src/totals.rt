@@ -1,19 +1,20 @@
 ghost use Rattle.std.specs.Option.{option_to_list};
 ghost use Rattle.std.specs.Prelude.{◌≡◌, ◌+◌, ◌*◌, ◌^◌, ◌<◌, ◌≤◌, length, true, unsigned_abs};
 ghost use Rattle.prefix_scan.specs.Laws.{most_parts};
-ghost use Rattle.moment_sums.specs.Sum.{Weight, MomentX, MomentY, MomentZ, Surface, WeightAft, MomentAft, changed_by, joined, negated, of_body};
+ghost use Rattle.moment_sums.specs.Sum.{Weight, MomentX, MomentY, MomentZ, Surface, WeightAft};
+ghost use Rattle.moment_sums.specs.Sum.{MomentAft, changed_by, joined, negated, of_body};
 ghost use Rattle.moment_sums.specs.Bounded.{IsBounded};
 ghost use Rattle.moment_sums.specs.Changes.{change_in, change_of};
-ghost use Rattle.moment_sums.specs.Kept.{bodies_of, both_kept, is_bounded, kept_of, size_of, values};
+ghost use Rattle.moment_sums.specs.Kept.{bodies_of, both_kept, is_bounded, kept_of, size_of};
+ghost use Rattle.moment_sums.specs.Kept.{values};
 
 use crate::changes::{change_shares, changed, moment_of, surface_of};
 use crate::limits::{are_centres, are_shares, both, is_share, times};
 use crate::rows::{add, negate, negate_all, plus};
 use crate::shares::kg;
 use prefix_scan::Monoid;
-use ship_profile::Frames;
 use std::marker::Model;
-use units_core::{Body, Step};
+use units_core::{Body, Frames, Step};
 
 /// What is aboard, or what a step changes of it, added up.
 #[derive(Clone, Copy, Drop)]
@@ -33,11 +34,29 @@ impl Model for Totals {
 
     ghost Value = { Kept };
 
-    ghost view = { λ t. record { kg = t.kg; x = t.x; y = t.y; z = t.z; fsm = t.fsm; weights_aft = t.weights_aft; moments_aft = t.moments_aft; parts = t.parts } };
+    ghost view = { λ t. record {
+      kg = t.kg;
+      x = t.x;
+      y = t.y;
+      z = t.z;
+      fsm = t.fsm;
+      weights_aft = t.weights_aft;
+      moments_aft = t.moments_aft;
+      parts = t.parts;
+    } };
 
     ghost invariant = { λ t. IsKept t.kg t.x t.y t.z t.fsm t.weights_aft t.moments_aft t.parts };
 
-    ghost inverse = { λ v. record { kg = v.kg; x = v.x; y = v.y; z = v.z; fsm = v.fsm; weights_aft = v.weights_aft; moments_aft = v.moments_aft; parts = v.parts } };
+    ghost inverse = { λ v. record {
+      kg = v.kg;
+      x = v.x;
+      y = v.y;
+      z = v.z;
+      fsm = v.fsm;
+      weights_aft = v.weights_aft;
+      moments_aft = v.moments_aft;
+      parts = v.parts;
+    } };
 }
 
 impl Totals {
@@ -183,8 +202,8 @@ impl Totals {
         self.change_in(&step.put, frames, false);
     }
 
-    /// This sum with one body more: its mass in kg, its moments and its free surface moment in kg mm, and at each frame the mass aft of it and
-    /// that mass's moment.
+    /// This sum with one body more: its mass in kg, its moments and its free surface moment in kg
+    /// mm, and at each frame the mass aft of it and that mass's moment.
     pub fn add(&mut self, body: &Body, frames: &Frames)
         requires room { size_of self.old + 1 ≤ most_parts }
         ensures kept { self.new ≡ both_kept self.old (kept_of (of_body frames.now body.now) 1) }
@@ -194,8 +213,9 @@ impl Totals {
         self.change(body, frames, false);
     }
 
-    /// This sum after a step: without the body that the step takes out, with the one that it puts in. Masses are in kg, moments in kg mm. It
-    /// is what joining [`Totals::of_step`] to it gives, with no sum in between.
+    /// This sum after a step: without the body that the step takes out, with the one that it puts
+    /// in. Masses are in kg, moments in kg mm. It is what joining [`Totals::of_step`] to it gives,
+    /// with no sum in between.
     pub fn add_step(&mut self, step: &Step, frames: &Frames)
         requires room { size_of self.old + bodies_of step.now ≤ most_parts }
         ensures { self.new
@@ -206,8 +226,8 @@ impl Totals {
 }
 
 impl Totals {
-    /// What a step changes: the body that it takes out with the other sign, and the one that it puts in. The share of a body that is taken out
-    /// is its share when it was put in, negated.
+    /// What a step changes: the body that it takes out with the other sign, and the one that it
+    /// puts in. The share of a body that is taken out is its share when it was put in, negated.
     pub fn of_step(step: &Step, frames: &Frames) -> Totals
         ensures values { values result ≡ changed_by frames.now step.now }
         ensures parts { result.parts ≡ bodies_of step.now }
@@ -221,8 +241,9 @@ impl Totals {
 }
 
 impl Totals {
-    /// Whether the bodies of a ship can add up to this: no negative mass, no centre beyond a kilometre either way, aft of each frame no more
-    /// mass than there is, no mass more than two kilometres aft of it, and free surface moments of at most 2 * 10^14 kg mm.
+    /// Whether the bodies of a ship can add up to this: no negative mass, no centre beyond a
+    /// kilometre either way, aft of each frame no more mass than there is, no mass more than two
+    /// kilometres aft of it, and free surface moments of at most 2 * 10^14 kg mm.
     pub fn is_bounded(&self) -> bool
         ensures tests { result ≡ is_bounded self.now }
         ensures bounds { result ≡ true → IsBounded (values self.now) }

@@ -1,5 +1,6 @@
-//! How a program of one's own makes a report. It has the texts of the box ship at hand, has one container loaded to starboard, and writes
-//! the report to standard output; its exit status is 0 where all steps pass, 1 where one fails, 2 where something went wrong.
+//! How a program of one's own makes a report. It has the texts of the box ship at hand, has one
+//! container loaded to starboard, and writes the report to standard output; its exit status is 0
+//! where all steps pass, 1 where one fails, 2 where something went wrong.
 #![tactic(auto)]
 
 use box_ship::{EMPTY_PLAN, LOAD_TO_STARBOARD, files};
@@ -16,7 +17,8 @@ fn main(rt: HostRuntime) -> ExitCode {
         steps: None,
     };
     let mut out = rt.stdout();
-    // Four threads make the report in chunks of 256 lines; any other number, and any cuts that fit, give the same bytes.
+    // Four threads make the report in chunks of 256 lines; any other number, and any cuts that fit,
+    // give the same bytes.
     let Some(workers) = Workers::new(4) else {
         unreachable!()
     };

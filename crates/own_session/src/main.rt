@@ -1,6 +1,7 @@
-//! How a program of one's own tries changes. On the box ship a container is to be loaded to starboard. A session gives the
-//! load another mass, says how the ship is judged then, and takes the edit back; a desk keeps the list for others; and the
-//! ship without cargo is judged by itself. The report on the list that is left goes to standard output behind these lines:
+//! How a program of one's own tries changes. On the box ship a container is to be loaded to
+//! starboard. A session gives the load another mass, says how the ship is judged then, and takes
+//! the edit back; a desk keeps the list for others; and the ship without cargo is judged by itself.
+//! The report on the list that is left goes to standard output behind these lines:
 //!
 //!     step 1 with 30000 kg: PASS, GM 4305 mm
 //!     ticket 0: 1 step
@@ -20,8 +21,8 @@ use std::sync::{Arc, Wait};
 use units_core::{Body, Kg, Mm, Place, floor};
 use what_if::{Desk, Edit, EditFault, Session};
 
-/// The box ship, without cargo, and the one load. By itself, since a function that reads texts which are written out in it is
-/// long to prove.
+/// The box ship, without cargo, and the one load. By itself, since a function that reads texts
+/// which are written out in it is long to prove.
 fn inputs() -> Inputs<'static> {
     Inputs {
         profile: files(),
@@ -46,7 +47,8 @@ fn print<W: Write>(out: &mut W, what: &str, verdict: &Verdict) {
     };
 }
 
-/// Gives the load of step 1 another mass, and prints how the condition after it is judged. A refused edit changes nothing.
+/// Gives the load of step 1 another mass, and prints how the condition after it is judged. A
+/// refused edit changes nothing.
 fn try_mass<W: Write>(out: &mut W, session: &mut Session, kg: Kg) -> Result<(), EditFault> {
     session.apply(Edit::Reweigh { at: 1, kg })?;
     if let Some(verdict) = session.judge(1) {
@@ -55,7 +57,8 @@ fn try_mass<W: Write>(out: &mut W, session: &mut Session, kg: Kg) -> Result<(), 
     Ok(())
 }
 
-/// Publishes the list of a session at a desk of its base, and opens it again, as a colleague would by the ticket.
+/// Publishes the list of a session at a desk of its base, and opens it again, as a colleague would
+/// by the ticket.
 fn publish<W: Write, R: Wait>(
     rt: &R,
     alloc: Global,
@@ -82,7 +85,8 @@ fn block() -> Option<Body> {
     Body::new(8_200_000, place, 0)
 }
 
-/// Judges one condition without a session: what is aboard is added up, the sum is tested for its bounds, and judged.
+/// Judges one condition without a session: what is aboard is added up, the sum is tested for its
+/// bounds, and judged.
 fn judge_block<W: Write>(out: &mut W, profile: &Profile) {
     if let Some(body) = block() {
         let totals = Totals::of(&body, profile.frames());

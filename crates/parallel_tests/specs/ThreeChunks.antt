@@ -10,7 +10,8 @@ three_find zero = Some 3
 three_find (suc zero) = Some 9
 three_find (suc (suc k)) = None
 
-pub three_within : (k step : ℕ) → k < 3 → three_find k ≡ Some step → (three_begin k ≤ step) × (step < 2 ^ 32)
+pub three_within : (k step : ℕ) → k < 3 → three_find k ≡ Some step
+    → (three_begin k ≤ step) × (step < 2 ^ 32)
 three_within zero step h e = let is : 3 ≡ step = cc in (omega arith, omega arith)
 three_within (suc zero) step h e = let is : 9 ≡ step = cc in (omega arith, omega arith)
 three_within (suc (suc k)) step h e = absurd (cc)

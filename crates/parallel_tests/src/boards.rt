@@ -28,8 +28,9 @@ fn are(entries: &[Entry], rows: &[Row]) -> bool {
     true
 }
 
-// Two workers at chunks that begin at 0, 5 and 10. Worker 1 finds step 9 in chunk 1, so chunk 2 is skipped, since 9 comes before 10; chunk 0
-// isn't, since 9 doesn't come before 0, and it has step 3. The draws are 0 and 1, 2 by worker 1, then 3 by worker 0 and 4 by worker 1.
+// Two workers at chunks that begin at 0, 5 and 10. Worker 1 finds step 9 in chunk 1, so chunk 2 is
+// skipped, since 9 comes before 10; chunk 0 isn't, since 9 doesn't come before 0, and it has step
+// 3. The draws are 0 and 1, 2 by worker 1, then 3 by worker 0 and 4 by worker 1.
 static FIRST_WORKER: [Row; 2] = [(0, Some(9), Posted(3)), (3, None, Drawn)];
 
 static SECOND_WORKER: [Row; 3] = [

@@ -2,7 +2,8 @@ use claim_run::Scout;
 use std::sync::atomic::AtomicBool;
 use std::sync::atomic::Ordering::SeqCst;
 
-/// Three chunks of five steps each, which begin at 0, 5 and 10. Step 3 fails, and step 9. It notes the looks at the second and the third.
+/// Three chunks of five steps each, which begin at 0, 5 and 10. Step 3 fails, and step 9. It notes
+/// the looks at the second and the third.
 #[derive(Drop)]
 pub struct ThreeChunks {
     pub second: AtomicBool,

@@ -1,5 +1,5 @@
-//! Tests of `prefix_scan`, `claim_board` and `claim_run`, which go by their public calls alone. They stand apart since the tests of a crate are
-//! proved together with all of it once more.
+//! Tests of `prefix_scan`, `claim_board` and `claim_run`, which go by their public calls alone.
+//! They stand apart since the tests of a crate are proved together with all of it once more.
 #![tactic(auto)]
 
 #[cfg(test)]

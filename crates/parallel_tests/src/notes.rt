@@ -6,7 +6,8 @@ use std::sync::atomic::Ordering::SeqCst;
 use std::sync::atomic::{AtomicBool, AtomicU64};
 use std::thread;
 
-/// How often a worker looks at most whether the others have a chunk too; between two looks other threads may go on.
+/// How often a worker looks at most whether the others have a chunk too; between two looks other
+/// threads may go on.
 const TURNS: u32 = 2_000_000;
 
 /// One, counted in the digit of this place of a number of sixteen hexadecimal digits.
@@ -16,8 +17,8 @@ fn one_at(place: u32) -> u64
     1 << (4 * place)
 }
 
-/// A gate that notes how often each worker and each chunk passed, and holds a worker until as many have passed in its run as there are workers: in a run of
-/// as many chunks, each worker draws one.
+/// A gate that notes how often each worker and each chunk passed, and holds a worker until as many
+/// have passed in its run as there are workers: in a run of as many chunks, each worker draws one.
 #[derive(Drop)]
 pub struct Notes {
     count: u64,
@@ -46,7 +47,8 @@ impl Notes {
         chunk < 16 && (self.chunks.load(SeqCst) >> (4 * chunk)) % 16 > 0
     }
 
-    /// Whether each worker has passed so often, and each chunk, and nothing else has, and no worker was left alone.
+    /// Whether each worker has passed so often, and each chunk, and nothing else has, and no worker
+    /// was left alone.
     pub fn each_passed(&self, times: u64) -> bool {
         let mut each = 0u64;
         for _ in 0..self.count {

@@ -7,7 +7,8 @@ use std::test::Fail;
 
 mod trees;
 
-/// Three values of one part each. Joined in their order they are 3; joined in the reverse order they would be 1.
+/// Three values of one part each. Joined in their order they are 3; joined in the reverse order
+/// they would be 1.
 static VALUES: [Last; 3] = [
     Last {
         value: Some(1),

@@ -1,7 +1,9 @@
 -- Where the numbers from 0 to a length are cut into chunks: each chunk ends before the next begins.
-use Rattle.std.specs.Prelude.{◌≡◌, ◌≢◌, ◌⊎◌, ℕ, zero, suc, ◌+◌, ◌*◌, ◌<◌, List, length, slice_index, min}
+use Rattle.std.specs.Prelude.{◌≡◌, ◌≢◌, ◌⊎◌, ℕ, zero, suc, ◌+◌, ◌*◌, ◌<◌, List, length, slice_index}
+use Rattle.std.specs.Prelude.{min}
 use Rattle.prefix_scan.specs.declared.divisions.CutFault.{CutFault}
-use Rattle.prefix_scan.specs.declared.divisions.CutFault.TheVariants.{Empty, NotRising, WrongEnd, NoMemory}
+use Rattle.prefix_scan.specs.declared.divisions.CutFault.TheVariants.{Empty, NotRising, WrongEnd}
+use Rattle.prefix_scan.specs.declared.divisions.CutFault.TheVariants.{NoMemory}
 
 -- where a chunk begins: the first at 0, each other where the one before it ends
 abbrev pub start_of : List ℕ → ℕ → ℕ
@@ -18,11 +20,13 @@ pub record Divides (ends : List ℕ) (len : ℕ) : Type 0 where
   pub rising : IsRising ends
   pub whole : start_of ends (length ends) ≡ len
 
--- The first fault of ends that are given, in the order K1 to K3; out of memory (K4) only where they have none.
+-- The first fault of ends that are given, in the order K1 to K3; out of memory (K4) only where they
+-- have none.
 abbrev pub IsFault : List ℕ → ℕ → CutFault → Type 0
 IsFault ends len Empty = (length ends ≡ 0) ⊎ (len ≡ 0)
 IsFault ends len NotRising = (0 < length ends) × (0 < len) × (IsRising ends → ⊥)
-IsFault ends len WrongEnd = (0 < length ends) × (0 < len) × IsRising ends × (start_of ends (length ends) ≢ len)
+IsFault ends len WrongEnd = (0 < length ends) × (0 < len) × IsRising ends
+    × (start_of ends (length ends) ≢ len)
 IsFault ends len NoMemory = Divides ends len × (0 < len)
 
 -- the chunks where all but the last have one length

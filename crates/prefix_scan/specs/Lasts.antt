@@ -29,7 +29,8 @@ pub last_laws : MonoidLaws most_parts none_yet joined (λ x. x.parts)
 last_laws = record {
   left_identity = λ x h. same (joined none_yet x) x (later_none x.value) (omega arith);
   right_identity = λ x h. same (joined x none_yet) x refl (omega arith);
-  assoc = λ x y z h. same (joined (joined x y) z) (joined x (joined y z)) (later_assoc x.value y.value z.value) (omega arith);
+  assoc = λ x y z h. same (joined (joined x y) z) (joined x (joined y z))
+      (later_assoc x.value y.value z.value) (omega arith);
   empty_weight = refl;
   op_weight = λ x y h. refl;
 }

@@ -1,7 +1,8 @@
 -- The codes of the faults of cuts, as they are printed.
 use Rattle.std.specs.Prelude.{ℕ, List, codes}
 use Rattle.prefix_scan.specs.declared.divisions.CutFault.{CutFault}
-use Rattle.prefix_scan.specs.declared.divisions.CutFault.TheVariants.{Empty, NotRising, WrongEnd, NoMemory}
+use Rattle.prefix_scan.specs.declared.divisions.CutFault.TheVariants.{Empty, NotRising, WrongEnd}
+use Rattle.prefix_scan.specs.declared.divisions.CutFault.TheVariants.{NoMemory}
 
 abbrev pub cut_fault_text : CutFault → List ℕ
 cut_fault_text Empty = codes "K1"

@@ -1,5 +1,7 @@
--- Bookkeeping: the rows of a tree. Each row has the joins of each two neighbours of the row below it.
-use Rattle.std.specs.Prelude.{◌≡◌, ℕ, zero, suc, ◌+◌, ◌*◌, ◌^◌, ◌<◌, ◌≤◌, List, [], ◌∷◌, length, Vec}
+-- Bookkeeping: the rows of a tree. Each row has the joins of each two neighbours of the row below
+-- it.
+use Rattle.std.specs.Prelude.{◌≡◌, ℕ, zero, suc, ◌+◌, ◌*◌, ◌^◌, ◌<◌, ◌≤◌, List, [], ◌∷◌, length}
+use Rattle.std.specs.Prelude.{Vec}
 use Rattle.std.specs.declared.alloc.Global.{Global}
 
 -- each two neighbours joined; a last one that is alone is left out
@@ -23,8 +25,8 @@ row_at (r ∷ rs) (suc l) = row_at rs l
 abbrev pub first_row : {M : Type 0} → List (Vec M Global) → List M
 first_row rows = row_at rows 0
 
--- each row but the first is the one above the row before it, none is above the last, and they are few: two to the power of their number is at
--- most one more than twice the length of the list
+-- each row but the first is the one above the row before it, none is above the last, and they are
+-- few: two to the power of their number is at most one more than twice the length of the list
 pub record AreRows {M : Type 0} (op : M → M → M) (rows : List (Vec M Global)) : Type 0 where
   pub each : (l : ℕ) → l < length rows → row_at rows l ≡ lifted op l (first_row rows)
   pub done : lifted op (length rows) (first_row rows) ≡ []

@@ -8,9 +8,9 @@ use crate::monoids::Monoid;
 use crate::totals_tree::TotalsTree;
 use std::alloc::{AllocError, Global};
 
-/// For each chunk the values before it joined in their order: as many entries as chunks, the first the unit. The last chunk begins within the
-/// list or where it ends, as it does where the cuts end at the list's length or one past it. The joins aren't counted. The one error is out of
-/// memory.
+/// For each chunk the values before it joined in their order: as many entries as chunks, the first
+/// the unit. The last chunk begins within the list or where it ends, as it does where the cuts end
+/// at the list's length or one past it. The joins aren't counted. The one error is out of memory.
 pub fn offsets_tree<M: Monoid + Drop>(
     alloc: Global,
     tree: &TotalsTree<M>,

@@ -4,8 +4,8 @@ ghost use Rattle.prefix_scan.specs.Laws.{most_parts};
 
 use crate::monoids::Monoid;
 
-/// One join, which adds one to the count; a count at its greatest value stays. The sizes of the two values add up to at most
-/// [`crate::MAX_PARTS`].
+/// One join, which adds one to the count; a count at its greatest value stays. The sizes of the two
+/// values add up to at most [`crate::MAX_PARTS`].
 ///
 /// Every join of a tree's `set` and `prefix` is made here, so that all of them are counted.
 pub fn counted_join<M: Monoid>(count: &mut u64, left: &M, right: &M) -> M

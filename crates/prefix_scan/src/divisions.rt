@@ -1,5 +1,6 @@
 ghost use Rattle.std.specs.Prelude.{◌≡◌, ◌<◌, length, slice_index, IfOk, IfErr};
-ghost use Rattle.prefix_scan.specs.Cut.{Divides, IsEvery, IsFault, IsFaultOfEvery, IsRising, start_of};
+ghost use Rattle.prefix_scan.specs.Cut.{Divides, IsEvery, IsFault, IsFaultOfEvery, IsRising};
+ghost use Rattle.prefix_scan.specs.Cut.{start_of};
 
 use std::alloc::{AllocError, Global};
 use std::error::Error;
@@ -82,7 +83,8 @@ fn every_end(alloc: Global, n: u32, len: u32) -> Result<Vec<u32>, AllocError>
 }
 
 impl Cuts {
-    /// Chunks of `n` numbers, the last with what is left of `len`. [`CutFault::Empty`] where `n` or `len` is 0.
+    /// Chunks of `n` numbers, the last with what is left of `len`. [`CutFault::Empty`] where `n` or
+    /// `len` is 0.
     pub fn every(alloc: Global, n: u32, len: u32) -> Result<Cuts, CutFault>
         ensures ok { IfOk result (λ c. (0 < n) × (0 < len) × IsEvery n len c) }
         ensures err { IfErr result (λ fault. IsFaultOfEvery n len fault) }
@@ -94,8 +96,9 @@ impl Cuts {
         Ok(Cuts { ends })
     }
 
-    /// Chunks that end at these places. The first fault is answered: [`CutFault::Empty`] where there is no end or `len` is 0, `NotRising`
-    /// where an end isn't above the one before it or the first is 0, `WrongEnd` where the last isn't `len`.
+    /// Chunks that end at these places. The first fault is answered: [`CutFault::Empty`] where
+    /// there is no end or `len` is 0, `NotRising` where an end isn't above the one before it or the
+    /// first is 0, `WrongEnd` where the last isn't `len`.
     pub fn at(alloc: Global, ends: &[u32], len: u32) -> Result<Cuts, CutFault>
         ensures ok { IfOk result (λ c. (c ≡ ends.now) × (0 < len) × Divides ends.now len) }
         ensures err { IfErr result (λ fault. IsFault ends.now len fault) }

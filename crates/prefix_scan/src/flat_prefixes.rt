@@ -10,8 +10,8 @@ use crate::tree_rows::copied;
 use std::alloc::{AllocError, Global};
 use std::marker::Model;
 
-/// A list of values, kept with each of its prefixes: the plain form of [`crate::TotalsTree`], whose prefixes are read and whose values can't be
-/// changed.
+/// A list of values, kept with each of its prefixes: the plain form of [`crate::TotalsTree`], whose
+/// prefixes are read and whose values can't be changed.
 ///
 /// To its callers it is the list of the values.
 #[derive(Drop)]
@@ -32,7 +32,8 @@ impl<M: Monoid + Drop> Model for Flat<M> {
 }
 
 impl<M: Monoid + Drop> Flat<M> {
-    /// The values with all their prefixes. The sizes of the values add up to at most [`crate::MAX_PARTS`]. The one error is out of memory.
+    /// The values with all their prefixes. The sizes of the values add up to at most
+    /// [`crate::MAX_PARTS`]. The one error is out of memory.
     pub fn build(alloc: Global, values: &[M]) -> Result<Flat<M>, AllocError>
         requires { sum_by M.weight values.now ≤ most_parts }
         ensures { IfOk result (λ f. f ≡ values.now) }

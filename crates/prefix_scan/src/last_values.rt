@@ -1,7 +1,7 @@
 use crate::monoids::Monoid;
 
-/// The last value that is there, of a number of parts. The order in which two such values are joined
-/// counts.
+/// The last value that is there, of a number of parts. The order in which two such values are
+/// joined counts.
 #[derive(Clone, Copy, Debug, PartialEq, Eq)]
 pub struct Last {
     pub value: Option<u32>,

@@ -1,5 +1,6 @@
-//! A scan over the values of any monoid whose values have a size, in their order: the join of all values, the join of those before each, and
-//! where a list is cut into chunks. A tree gives these joins of a list whose values change, and counts the joins that it makes.
+//! A scan over the values of any monoid whose values have a size, in their order: the join of all
+//! values, the join of those before each, and where a list is cut into chunks. A tree gives these
+//! joins of a list whose values change, and counts the joins that it makes.
 //!
 //! The order of the values is kept, since `join` isn't commutative. The crate knows no ship.
 #![tactic(auto)]

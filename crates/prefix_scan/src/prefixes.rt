@@ -13,8 +13,8 @@ pub trait Prefixes<M: Monoid> {
     fn len(&self) -> usize
         ensures { result ≡ length (values self.now) };
 
-    /// The first `i` values joined in their order; the unit where `i` is 0. The values stay; a record of the call, such as the count of its
-    /// joins, may change.
+    /// The first `i` values joined in their order; the unit where `i` is 0. The values stay; a
+    /// record of the call, such as the count of its joins, may change.
     fn prefix(&mut self, i: usize) -> M
         requires { i ≤ length (values self.old) }
         ensures value { result ≡ prefix M.empty M.op (values self.old) i }

@@ -6,7 +6,8 @@ ghost use Rattle.prefix_scan.specs.Laws.{most_parts};
 
 use crate::monoids::Monoid;
 
-/// An iterator that yields for each value an offset joined with the fold of the values up to it, that value with them.
+/// An iterator that yields for each value an offset joined with the fold of the values up to it,
+/// that value with them.
 #[derive(Drop)]
 pub struct Running<'a, M: Monoid + Drop> {
     sum: M,
@@ -15,7 +16,8 @@ pub struct Running<'a, M: Monoid + Drop> {
 }
 
 impl<'a, M: Monoid + Drop> Running<'a, M> {
-    /// The joins from an offset on. The sizes of the offset and of all values add up to at most [`crate::MAX_PARTS`].
+    /// The joins from an offset on. The sizes of the offset and of all values add up to at most
+    /// [`crate::MAX_PARTS`].
     pub fn new(offset: M, values: &'a [M]) -> Running<'a, M>
         requires { M.weight offset + sum_by M.weight values.now ≤ most_parts }
         ensures count { length (sums_from M.op result.sum result.rest.now)

@@ -1,5 +1,6 @@
 //! Prefixes of a list whose values change.
-ghost use Rattle.std.specs.Prelude.{◌≡◌, ℕ, ◌+◌, ◌-◌, ◌^◌, ◌<◌, ◌≤◌, length, sum_by, slice_set, IfOk};
+ghost use Rattle.std.specs.Prelude.{◌≡◌, ℕ, ◌+◌, ◌-◌, ◌^◌, ◌<◌, ◌≤◌, length, sum_by, slice_set};
+ghost use Rattle.std.specs.Prelude.{IfOk};
 ghost use Rattle.prefix_scan.specs.Folds.{prefix};
 ghost use Rattle.prefix_scan.specs.Laws.{most_parts};
 
@@ -9,8 +10,8 @@ use crate::tree_rows::{join_first, replace, rows_over};
 use std::alloc::{AllocError, Global};
 use std::marker::Model;
 
-/// A list of values, kept with the joins of its parts, so that changing a value or reading a prefix takes about as many joins as the number
-/// of values has binary digits. It counts those joins.
+/// A list of values, kept with the joins of its parts, so that changing a value or reading a prefix
+/// takes about as many joins as the number of values has binary digits. It counts those joins.
 ///
 /// To its callers it is the list `values` and the number `joins`.
 #[derive(Drop)]
@@ -34,8 +35,8 @@ impl<M: Monoid + Drop> Model for TotalsTree<M> {
 }
 
 impl<M: Monoid + Drop> TotalsTree<M> {
-    /// A tree over the values, with a count of 0: the joins made here aren't counted. The sizes of the values add up to at most
-    /// [`crate::MAX_PARTS`]. The one error is out of memory.
+    /// A tree over the values, with a count of 0: the joins made here aren't counted. The sizes of
+    /// the values add up to at most [`crate::MAX_PARTS`]. The one error is out of memory.
     pub fn build(alloc: Global, values: &[M]) -> Result<TotalsTree<M>, AllocError>
         requires { sum_by M.weight values.now ≤ most_parts }
         ensures { IfOk result (λ t. (t.values ≡ values.now) × (t.joins ≡ 0)) }
@@ -44,8 +45,9 @@ impl<M: Monoid + Drop> TotalsTree<M> {
         Ok(TotalsTree { rows, count: 0 })
     }
 
-    /// A tree over other values, be they more or fewer, whose count goes on from that of this one. The sizes of the values add up to at most
-    /// [`crate::MAX_PARTS`], and the joins made here aren't counted. The one error is out of memory.
+    /// A tree over other values, be they more or fewer, whose count goes on from that of this one.
+    /// The sizes of the values add up to at most [`crate::MAX_PARTS`], and the joins made here
+    /// aren't counted. The one error is out of memory.
     pub fn rebuilt(&self, alloc: Global, values: &[M]) -> Result<TotalsTree<M>, AllocError>
         requires { sum_by M.weight values.now ≤ most_parts }
         ensures { IfOk result (λ t. (t.values ≡ values.now) × (t.joins ≡ self.now.joins)) }
@@ -67,17 +69,19 @@ impl<M: Monoid + Drop> TotalsTree<M> {
         }
     }
 
-    /// How many joins `set` and `prefix` have made since the tree was built, up to the greatest number of the type.
+    /// How many joins `set` and `prefix` have made since the tree was built, up to the greatest
+    /// number of the type.
     pub fn joins(&self) -> u64
         ensures { result ≡ self.now.joins }
     {
         self.count
     }
 
-    /// Puts a value in the place of the `i`-th. The sizes of the values that are then in the list add up to at most [`crate::MAX_PARTS`].
+    /// Puts a value in the place of the `i`-th. The sizes of the values that are then in the list
+    /// add up to at most [`crate::MAX_PARTS`].
     ///
-    /// The count never falls, and where there are at most 2^k values it rises by at most k + 1. Below the greatest number of its type it rises,
-    /// unless the value is the last one.
+    /// The count never falls, and where there are at most 2^k values it rises by at most k + 1.
+    /// Below the greatest number of its type it rises, unless the value is the last one.
     pub fn set(&mut self, i: usize, value: M)
         requires within { i < length self.old.values }
         requires sizes { sum_by M.weight (slice_set self.old.values i value) ≤ most_parts }
@@ -93,8 +97,9 @@ impl<M: Monoid + Drop> TotalsTree<M> {
 
     /// The first `i` values joined in their order; the unit where `i` is 0.
     ///
-    /// The count never falls, and where there are at most 2^k values it rises by at most k + 1. Below the greatest number of its type it rises,
-    /// unless `i` is 0. Where there is no value it stays.
+    /// The count never falls, and where there are at most 2^k values it rises by at most k + 1.
+    /// Below the greatest number of its type it rises, unless `i` is 0. Where there is no value it
+    /// stays.
     pub fn prefix(&mut self, i: usize) -> M
         requires { i ≤ length self.old.values }
         ensures value { result ≡ prefix M.empty M.op self.old.values i }

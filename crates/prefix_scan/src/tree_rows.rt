@@ -1,6 +1,8 @@
-//! The rows of a tree: the first is the list of values, and each other has the joins of each two neighbours of the row below it. A value that
-//! is alone at the end of a row is left out of the row above.
-ghost use Rattle.std.specs.Prelude.{◌≡◌, ℕ, ◌+◌, ◌-◌, ◌^◌, ◌<◌, ◌≤◌, length, sum_by, slice_set, IfOk};
+//! The rows of a tree: the first is the list of values, and each other has the joins of each two
+//! neighbours of the row below it. A value that is alone at the end of a row is left out of the row
+//! above.
+ghost use Rattle.std.specs.Prelude.{◌≡◌, ℕ, ◌+◌, ◌-◌, ◌^◌, ◌<◌, ◌≤◌, length, sum_by, slice_set};
+ghost use Rattle.std.specs.Prelude.{IfOk};
 ghost use Rattle.prefix_scan.specs.Folds.{prefix};
 ghost use Rattle.prefix_scan.specs.Laws.{most_parts};
 ghost use Rattle.prefix_scan.specs.Rows.{paired, first_row, AreRows};
@@ -46,8 +48,9 @@ pub fn rows_over<M: Monoid + Drop>(alloc: Global, values: &[M]) -> Result<Vec<Ve
     Ok(rows)
 }
 
-/// The first `i` values of the list joined in their order, with at most one join for each row: where the values of a row that are left to join are
-/// odd in number, the last of them is joined before all that was joined so far, and the others are joined two by two in the row above.
+/// The first `i` values of the list joined in their order, with at most one join for each row:
+/// where the values of a row that are left to join are odd in number, the last of them is joined
+/// before all that was joined so far, and the others are joined two by two in the row above.
 pub fn join_first<M: Monoid + Drop>(rows: &[Vec<M>], i: usize, count: &mut u64) -> M
     requires rows { AreRows M.op rows.now }
     requires sizes { sum_by M.weight (first_row rows.now) ≤ most_parts }
@@ -68,8 +71,8 @@ pub fn join_first<M: Monoid + Drop>(rows: &[Vec<M>], i: usize, count: &mut u64) 
     after
 }
 
-/// Puts a value in the place of the `i`-th, and renews the one value of each row above that it is part of, up to the row where that one is alone
-/// at the end.
+/// Puts a value in the place of the `i`-th, and renews the one value of each row above that it is
+/// part of, up to the row where that one is alone at the end.
 pub fn replace<M: Monoid + Drop>(rows: &mut [Vec<M>], i: usize, value: M, count: &mut u64)
     requires rows { AreRows M.op rows.old }
     requires within { i < length (first_row rows.old) }

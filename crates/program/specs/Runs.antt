@@ -15,7 +15,8 @@ use Rattle.command_line.specs.declared.lines.Line.{Line}
 use Rattle.command_line.specs.declared.lines.Task.{Task}
 use Rattle.command_line.specs.declared.lines.Task.TheVariants.{Check, First, WhatIf}
 use Rattle.run_files.specs.declared.stops.Stop.{Stop}
-use Rattle.run_files.specs.declared.stops.Stop.TheVariants.{Refused, Edits, Usage, NoMemory, Read, Write}
+use Rattle.run_files.specs.declared.stops.Stop.TheVariants.{Refused, Edits, Usage, NoMemory, Read}
+use Rattle.run_files.specs.declared.stops.Stop.TheVariants.{Write}
 use Rattle.run_files.specs.Files.{Known, AreTexts, edits_text, texts_in}
 use Rattle.command_line.specs.Lines.{IsLine, IsNotTaken}
 use Rattle.run_files.specs.Statuses.{status_of, status_on}
@@ -32,7 +33,8 @@ pub record AreTried (inputs : Inputs) (text : List ℕ) (outcome : Outcome) : Ty
   pub outcome_is : outcome ≡ outcome_after base ops lines
 
 -- the session in which the edits of a text were tried, and the answers to them
-pub record AreTriedIn (inputs : Inputs) (text : List ℕ) (session : SessionRecord) (answers : List ℕ) : Type 0 where
+pub record AreTriedIn (inputs : Inputs) (text : List ℕ) (session : SessionRecord)
+    (answers : List ℕ) : Type 0 where
   pub ops : List Op
   pub lines : List EditLine
   pub told : AreTold inputs session.base ops
@@ -61,29 +63,36 @@ printed_by Check outcome = outcome.text
 printed_by First outcome = last_line outcome.summary.first
 printed_by WhatIf outcome = outcome.text
 
--- the inputs, and the edits, have a report; this is the status of its first failing step, and this is what is printed
+-- the inputs, and the edits, have a report; this is the status of its first failing step, and this
+-- is what is printed
 abbrev pub IsRun : Task → Inputs → List ℕ → ℕ → List ℕ → Type 0
 IsRun task inputs edits status text =
-    (outcome : Outcome) × IsOutcome task inputs edits outcome × (status ≡ status_on outcome.summary.first) × (text ≡ printed_by task outcome)
+    (outcome : Outcome) × IsOutcome task inputs edits outcome
+    × (status ≡ status_on outcome.summary.first) × (text ≡ printed_by task outcome)
 
 -- they have a report, and this is the front of what is printed, and not the whole
 abbrev pub IsCutShort : Task → Inputs → List ℕ → List ℕ → Type 0
-IsCutShort task inputs edits text = (outcome : Outcome) × IsOutcome task inputs edits outcome × IsFrontOf (printed_by task outcome) text
+IsCutShort task inputs edits text = (outcome : Outcome) × IsOutcome task inputs edits outcome
+    × IsFrontOf (printed_by task outcome) text
 
--- What was written when a run was stopped: the front of what is printed where the sink failed; nothing where memory ran out, or the answers to edits; and
--- nothing otherwise.
+-- What was written when a run was stopped: the front of what is printed where the sink failed;
+-- nothing where memory ran out, or the answers to edits; and nothing otherwise.
 abbrev pub IsLeft : Task → Inputs → List ℕ → Stop → List ℕ → Type 0
 IsLeft task inputs edits Write text = IsCutShort task inputs edits text
-IsLeft task inputs edits NoMemory text = (text ≡ []) ⊎ ((task ≡ WhatIf) × AreAnswers inputs edits text)
+IsLeft task inputs edits NoMemory text = (text ≡ [])
+    ⊎ ((task ≡ WhatIf) × AreAnswers inputs edits text)
 IsLeft task inputs edits stop text = text ≡ []
 
--- the inputs have a report, and the line of this number is the first of the edits that is of no form
+-- the inputs have a report, and the line of this number is the first of the edits that is of no
+-- form
 abbrev pub HasBadEdits : Task → Inputs → List ℕ → ℕ → Type 0
 HasBadEdits task inputs edits number =
-    (task ≡ WhatIf) × ((outcome : Outcome) × (outcome_of inputs ≡ Ok outcome)) × (edits_of edits ≡ Err (LineFault number))
+    (task ≡ WhatIf) × ((outcome : Outcome) × (outcome_of inputs ≡ Ok outcome))
+    × (edits_of edits ≡ Err (LineFault number))
 
--- Why no report on the inputs was written, by whether the sink has failed: a refusal is one of the inputs or of the edits, a fault of the sink is reported only
--- where the sink has failed, and the words of the command line are without fault here.
+-- Why no report on the inputs was written, by whether the sink has failed: a refusal is one of the
+-- inputs or of the edits, a fault of the sink is reported only where the sink has failed, and the
+-- words of the command line are without fault here.
 abbrev pub IsStopOn : Task → Inputs → List ℕ → Bool → Stop → Type 0
 IsStopOn task inputs edits failed (Refused fault) = outcome_of inputs ≡ Err fault
 IsStopOn task inputs edits failed (Edits number) = HasBadEdits task inputs edits number
@@ -95,27 +104,33 @@ IsStopOn task inputs edits failed Write = failed ≡ true
 -- the files of a line are these inputs and these edits, of which this holds
 abbrev pub OnFiles : (List ℕ → Known) → Line → (Inputs → List ℕ → Type 0) → Type 0
 OnFiles known line holds =
-    (inputs : Inputs) × (edits : Option (List ℕ)) × AreTexts known line (texts_in inputs edits) × holds inputs (edits_text edits)
+    (inputs : Inputs) × (edits : Option (List ℕ)) × AreTexts known line (texts_in inputs edits)
+    × holds inputs (edits_text edits)
 
 -- the report on the files of a line has this status, and this is what is printed
 abbrev pub IsReported : (List ℕ → Known) → Line → ℕ → List ℕ → Type 0
-IsReported known line status text = OnFiles known line (λ inputs edits. IsRun line.task inputs edits status text)
+IsReported known line status text =
+    OnFiles known line (λ inputs edits. IsRun line.task inputs edits status text)
 
 -- nothing was written, since nothing was to be yet: so it isn't the sink that stopped the run
 abbrev pub IsUnwritten : Stop → List ℕ → Type 0
 IsUnwritten Write text = ⊥
 IsUnwritten stop text = text ≡ []
 
--- what was written when the run on the files of a line was stopped: nothing, unless the files were read
+-- what was written when the run on the files of a line was stopped: nothing, unless the files were
+-- read
 abbrev pub IsLeftOf : (List ℕ → Known) → Line → Stop → List ℕ → Type 0
-IsLeftOf known line stop text = IsUnwritten stop text ⊎ OnFiles known line (λ inputs edits. IsLeft line.task inputs edits stop text)
+IsLeftOf known line stop text =
+    IsUnwritten stop text
+    ⊎ OnFiles known line (λ inputs edits. IsLeft line.task inputs edits stop text)
 
 -- the files of a line are refused for this, or for the line of this number in the file of edits
 abbrev pub IsRefused : (List ℕ → Known) → Line → RunFault → Type 0
 IsRefused known line fault = OnFiles known line (λ inputs edits. outcome_of inputs ≡ Err fault)
 
 abbrev pub AreEditsRefused : (List ℕ → Known) → Line → ℕ → Type 0
-AreEditsRefused known line number = OnFiles known line (λ inputs edits. HasBadEdits line.task inputs edits number)
+AreEditsRefused known line number =
+    OnFiles known line (λ inputs edits. HasBadEdits line.task inputs edits number)
 
 -- why the files of a line have no report that was written
 abbrev pub IsStopOf : (List ℕ → Known) → Line → Stop → Type 0
@@ -126,15 +141,19 @@ IsStopOf known line stop = Unit {0}
 
 -- what a run on the words of a whole command line reports: its exit status and its text
 abbrev pub IsReportedBy : (List ℕ → Known) → List Text → ℕ → List ℕ → Type 0
-IsReportedBy known words status text = (line : Line) × IsLine words line × IsReported known line status text
+IsReportedBy known words status text = (line : Line) × IsLine words line
+    × IsReported known line status text
 
 -- what was written when the run on them was stopped: nothing, unless they are a line
 abbrev pub IsLeftBy : (List ℕ → Known) → List Text → Stop → List ℕ → Type 0
-IsLeftBy known words stop text = IsUnwritten stop text ⊎ ((line : Line) × IsLine words line × IsLeftOf known line stop text)
+IsLeftBy known words stop text =
+    IsUnwritten stop text ⊎ ((line : Line) × IsLine words line × IsLeftOf known line stop text)
 
 abbrev pub IsRefusedBy : (List ℕ → Known) → List Text → Type 0
 IsRefusedBy known words =
-    (line : Line) × IsLine words line × (((fault : RunFault) × IsRefused known line fault) ⊎ ((number : ℕ) × AreEditsRefused known line number))
+    (line : Line) × IsLine words line
+    × (((fault : RunFault) × IsRefused known line fault)
+    ⊎ ((number : ℕ) × AreEditsRefused known line number))
 
 abbrev pub IsStopBy : (List ℕ → Known) → List Text → Stop → Type 0
 IsStopBy known words (Usage text) = IsNotTaken words
@@ -144,7 +163,10 @@ IsStopBy known words (Edits number) =
     (line : Line) × IsLine words line × AreEditsRefused known line number
 IsStopBy known words stop = Unit {0}
 
--- something stopped the run on them: it has this status, and what is held grew by what the run had written
-abbrev pub IsStoppedBy : (List ℕ → Known) → List Text → ℕ → Option (List ℕ) → Option (List ℕ) → Type 0
+-- something stopped the run on them: it has this status, and what is held grew by what the run had
+-- written
+abbrev pub IsStoppedBy : (List ℕ → Known) → List Text → ℕ → Option (List ℕ) → Option (List ℕ)
+    → Type 0
 IsStoppedBy known words status old new =
-    (stop : Stop) × (status_of stop ≡ status) × IsStopBy known words stop × HasWritten old new (IsLeftBy known words stop)
+    (stop : Stop) × (status_of stop ≡ status) × IsStopBy known words stop
+    × HasWritten old new (IsLeftBy known words stop)

@@ -1,5 +1,5 @@
--- The results of the lines of an edits file, tried one after another on a list of steps, and what is printed of
--- each.
+-- The results of the lines of an edits file, tried one after another on a list of steps, and what
+-- is printed of each.
 use Rattle.std.specs.Prelude.{ℕ, ◌+◌, List, [], ◌∷◌, ◌++◌, take, codes, Option, None, Some}
 use Rattle.std.specs.Fmt.{decimal}
 use Rattle.lift_sequence.specs.declared.operations.Op.{Op}
@@ -27,9 +27,11 @@ lists_of session = record { ops = session.ops; past = session.past }
 abbrev pub untried : List Op → Lists
 untried ops = record { ops = ops; past = [] }
 
--- An edit of the list, by why it is refused: a refused one changes nothing. The last 64 lists are kept.
+-- An edit of the list, by why it is refused: a refused one changes nothing. The last 64 lists are
+-- kept.
 abbrev pub after_edit : Lists → edit.Edit → Option EditFault → Lists
-after_edit lists edit None = record { ops = edited lists.ops edit; past = take 64 (lists.ops ∷ lists.past) }
+after_edit lists edit None =
+    record { ops = edited lists.ops edit; past = take 64 (lists.ops ∷ lists.past) }
 after_edit lists edit (Some fault) = lists
 
 -- the newest of the earlier lists, where there is one
@@ -66,17 +68,21 @@ answer_text (Refused fault) = edit_code_text fault
 answer_text Nothing = codes "NONE"
 
 abbrev pub answer_line : ℕ → Answer → List ℕ
-answer_line number answer = codes "EDIT " ++ (decimal number ++ (codes " " ++ (answer_text answer ++ codes "\n")))
+answer_line number answer =
+    codes "EDIT " ++ (decimal number ++ (codes " " ++ (answer_text answer ++ codes "\n")))
 
 -- a line for each of these lines, of which the first has this number
 abbrev pub answer_lines : Base → Lists → ℕ → List EditLine → List ℕ
 answer_lines base lists number [] = []
 answer_lines base lists number (line ∷ lines) =
-    answer_line number (answer_of base lists line) ++ answer_lines base (after_line base lists line) (number + 1) lines
+    answer_line number (answer_of base lists line)
+    ++ answer_lines base (after_line base lists line) (number + 1) lines
 
--- What is printed where these lines are tried on a list: an answer to each, and the report on the list that is left.
+-- What is printed where these lines are tried on a list: an answer to each, and the report on the
+-- list that is left.
 abbrev pub outcome_after : Base → List Op → List EditLine → Outcome
 outcome_after base ops lines = record {
-  text = answer_lines base (untried ops) 1 lines ++ (report_on base (after_all base (untried ops) lines).ops).text;
+  text = answer_lines base (untried ops) 1 lines
+      ++ (report_on base (after_all base (untried ops) lines).ops).text;
   summary = (report_on base (after_all base (untried ops) lines).ops).summary;
 }

@@ -2,7 +2,9 @@ ghost use Rattle.std.specs.Prelude.{◌≡◌, ◌≤◌, ◌++◌, IfOk, IfErr,
 ghost use Rattle.std.specs.Io.KnownBytes.{Appends};
 ghost use Rattle.command_line.specs.Lines.{IsNotTaken};
 ghost use Rattle.run_files.specs.Statuses.{status_of, stop_text};
-ghost use Rattle.program.specs.Runs.{IsLeft, IsLeftBy, IsLeftOf, IsRefusedBy, IsReported, IsReportedBy, IsRun, IsStopBy, IsStopOf, IsStopOn, IsStoppedBy};
+ghost use Rattle.program.specs.Runs.{IsLeft, IsLeftBy, IsLeftOf, IsRefusedBy, IsReported};
+ghost use Rattle.program.specs.Runs.{IsReportedBy, IsRun, IsStopBy, IsStopOf, IsStopOn};
+ghost use Rattle.program.specs.Runs.{IsStoppedBy};
 ghost use Rattle.program.specs.Written.{HasWritten};
 
 use crate::trials::try_edits;
@@ -33,7 +35,8 @@ fn options_of(line: Line<'_>) -> Options<'static>
     }
 }
 
-/// Writes the report on the inputs to a sink, and gives the exit status: 0, or 1 where a step fails.
+/// Writes the report on the inputs to a sink, and gives the exit status: 0, or 1 where a step
+/// fails.
 fn report_to<G: Gate, T: Threads + Wait + Sync, S: Sink>(
     rt: &T,
     alloc: Global,
@@ -100,8 +103,8 @@ fn first_to<G: Gate, T: Threads + Wait + Sync, S: Sink>(
     }
 }
 
-/// Tries edits of the steps that the inputs order, writes to a sink what became of each and then the report on the list that is left, and gives the
-/// status of that report.
+/// Tries edits of the steps that the inputs order, writes to a sink what became of each and then
+/// the report on the list that is left, and gives the status of that report.
 fn trial_to<G: Gate, T: Threads + Wait + Sync, S: Sink>(
     rt: &T,
     alloc: Global,
@@ -136,7 +139,8 @@ fn trial_to<G: Gate, T: Threads + Wait + Sync, S: Sink>(
     Ok(status_on(summary.first))
 }
 
-/// Writes to a sink what a line asks for on these inputs and edits, and gives the exit status: 0, or 1 where a step fails.
+/// Writes to a sink what a line asks for on these inputs and edits, and gives the exit status: 0,
+/// or 1 where a step fails.
 fn task_to<G: Gate, T: Threads + Wait + Sync, S: Sink>(
     rt: &T,
     alloc: Global,
@@ -191,7 +195,8 @@ fn line_to<R: Readers, G: Gate, T: Threads + Wait + Sync, S: Sink>(
     task_to(rt, alloc, gate, &texts.inputs(), texts.edits(), line, sink)
 }
 
-/// The exit status of a run that writes what its line asks for on its files: 0, or 1 where a step fails.
+/// The exit status of a run that writes what its line asks for on its files: 0, or 1 where a step
+/// fails.
 fn run_line<R: Readers, G: Gate, T: Threads + Wait + Sync, O: Write>(
     rt: &T,
     alloc: Global,
@@ -227,16 +232,19 @@ fn tell<E: Write>(stop: &Stop, err: &mut E) -> bool
     writeln!(err, "{stop}").is_ok()
 }
 
-/// Writes the one line on what stopped a run to `err`, and gives the exit status. A fault of `err` changes nothing.
+/// Writes the one line on what stopped a run to `err`, and gives the exit status. A fault of `err`
+/// changes nothing.
 pub fn stopped<E: Write>(stop: &Stop, err: &mut E) -> u8
     ensures { result ≡ status_of stop.now }
 {
-    // `std` says nothing of what a failed write leaves, so more than `tell` promises of `err` can't be promised here, nor by `serve`.
+    // `std` says nothing of what a failed write leaves, so more than `tell` promises of `err` can't
+    // be promised here, nor by `serve`.
     let _ = tell(stop, err);
     stop.status()
 }
 
-/// The exit status of a run on the words of a command line that writes what they ask for, or what stopped it.
+/// The exit status of a run on the words of a command line that writes what they ask for, or what
+/// stopped it.
 fn run_words<R: Readers, G: Gate, T: Threads + Wait + Sync, O: Write>(
     rt: &T,
     alloc: Global,
@@ -260,13 +268,15 @@ fn run_words<R: Readers, G: Gate, T: Threads + Wait + Sync, O: Write>(
     }
 }
 
-/// The whole program over readers and writers: what it writes goes to `out`, and one line on what stopped it to
-/// `err`. The gate is called by the workers, once for each chunk that one takes. It answers the exit status: 0 all steps pass, 1 some step
-/// fails, 2 an input is refused, 3 usage error or help, 4 out of memory, 5 a file can't be read or `out` can't be written. A fault of `err`
-/// changes nothing.
+/// The whole program over readers and writers: what it writes goes to `out`, and one line on what
+/// stopped it to `err`. The gate is called by the workers, once for each chunk that one takes. It
+/// answers the exit status: 0 all steps pass, 1 some step fails, 2 an input is refused, 3 usage
+/// error or help, 4 out of memory, 5 a file can't be read or `out` can't be written. A fault of
+/// `err` changes nothing.
 ///
-/// With 0 or 1 all that the words ask for is written to `out`, and nothing to `err`. With any other status nothing is written to `out`, but for the front of
-/// that where `out` can't be written, and the answers to edits where memory runs out for the report behind them.
+/// With 0 or 1 all that the words ask for is written to `out`, and nothing to `err`. With any other
+/// status nothing is written to `out`, but for the front of that where `out` can't be written, and
+/// the answers to edits where memory runs out for the report behind them.
 pub fn serve<R: Readers, G: Gate, T: Threads + Wait + Sync, O: Write, E: Write>(
     rt: &T,
     alloc: Global,

@@ -1,7 +1,9 @@
 ghost use Rattle.std.specs.Prelude.{◌≡◌, ◌≢◌, ◌++◌, false, IfOk, IfErr, OnOk, string_bytes};
-ghost use Rattle.edits_file.specs.declared.forms.EditLine.TheVariants.{Edit as EditOf, Undo as UndoOf};
+ghost use Rattle.edits_file.specs.declared.forms.EditLine.TheVariants.{Edit as EditOf};
+ghost use Rattle.edits_file.specs.declared.forms.EditLine.TheVariants.{Undo as UndoOf};
 ghost use Rattle.program.specs.Runs.{AreTriedIn, IsStopOn};
-ghost use Rattle.program.specs.Trials.{after_all, after_line, answer_line, answer_lines, answer_of, lists_of};
+ghost use Rattle.program.specs.Trials.{after_all, after_line, answer_line, answer_lines, answer_of};
+ghost use Rattle.program.specs.Trials.{lists_of};
 
 use command_line::Task;
 use edits_file::{EditLine, edits};
@@ -106,8 +108,9 @@ fn add_answer(text: &mut String, number: usize, answer: Answer) -> Result<(), Al
     }
 }
 
-/// Tries the lines of an edits file in a session, one after another, and says what became of each: a line `EDIT`, its number, and `OK`, `NONE`
-/// where there was nothing to take back, or why it is refused.
+/// Tries the lines of an edits file in a session, one after another, and says what became of each:
+/// a line `EDIT`, its number, and `OK`, `NONE` where there was nothing to take back, or why it is
+/// refused.
 fn try_all(alloc: Global, session: &mut Session, lines: Vec<EditLine>) -> Result<String, Stop>
     ensures base { session.new.base ≡ session.old.base }
     ensures answers { IfOk result (λ text. string_bytes text
@@ -135,7 +138,8 @@ pub struct Trial {
     pub answers: String,
 }
 
-/// Tries the edits of a file on the steps that inputs order. The inputs are checked first, then all lines of the file, and only then is the first edit made.
+/// Tries the edits of a file on the steps that inputs order. The inputs are checked first, then all
+/// lines of the file, and only then is the first edit made.
 pub fn try_edits(alloc: Global, inputs: &Inputs<'_>, file: &[u8]) -> Result<Trial, Stop>
     ensures tried { IfOk result
         (λ t. AreTriedIn inputs.now file.now t.session (string_bytes t.answers)) }

@@ -5,8 +5,10 @@ use std::io::Write;
 
 /// A caller's writer, as it is lent to a sink for one run.
 ///
-/// Functions over any sink say what was added to its contents, and not whether it is still the same sink. So the contents of this one begin with a mark, the
-/// name that the proof has for the loan: where something was only added, the mark is unchanged, and the caller's writer has what was written.
+/// Functions over any sink say what was added to its contents, and not whether it is still the same
+/// sink. So the contents of this one begin with a mark, the name that the proof has for the loan:
+/// where something was only added, the mark is unchanged, and the caller's writer has what was
+/// written.
 #[derive(Drop)]
 pub struct Lent<'a, O> {
     /// The caller's.

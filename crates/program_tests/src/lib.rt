@@ -1,5 +1,5 @@
-//! Tests of `run_files` and `program`, which go by their public calls alone. They stand apart since the tests of a crate are proved together with all of
-//! it once more.
+//! Tests of `run_files` and `program`, which go by their public calls alone. They stand apart since
+//! the tests of a crate are proved together with all of it once more.
 #![tactic(auto)]
 
 #[cfg(test)]

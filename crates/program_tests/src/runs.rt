@@ -212,7 +212,8 @@ fn statuses(rt: HostRuntime) {
     );
 }
 
-// With the other command the same files give the last line of the report alone, and the same status.
+// With the other command the same files give the last line of the report alone, and the same
+// status.
 #[test]
 fn first(rt: HostRuntime) {
     let words = ["first", "box", "plan.edi", "moves.edi"];
@@ -303,7 +304,8 @@ static FILES: [(&str, &str); 9] = [
     ("moves.edi", "read fault moves.edi\n"),
 ];
 
-/// Files that fail: when they are opened, at their first byte, behind some bytes, and behind more than one read takes.
+/// Files that fail: when they are opened, at their first byte, behind some bytes, and behind more
+/// than one read takes.
 const FAILING: [Content; 4] = [
     Content::Closed(Unopened::Failed),
     Content::Broken,
@@ -311,7 +313,8 @@ const FAILING: [Content; 4] = [
     Content::Torn(100_000),
 ];
 
-// The files are read in their order before anything is checked; the first that isn't read ends the run.
+// The files are read in their order before anything is checked; the first that isn't read ends the
+// run.
 #[test]
 fn unread_files(rt: HostRuntime) {
     for (name, line) in &FILES {
@@ -401,7 +404,8 @@ fn unread_edits(rt: HostRuntime) {
     }
 }
 
-/// A tank is filled and emptied again, and no other edit can be made: there is no step, a filling has no weight, and the cell is empty.
+/// A tank is filled and emptied again, and no other edit can be made: there is no step, a filling
+/// has no weight, and the cell is empty.
 const EDITS: &[u8] =
     b"insert 1 T DB1 500\nreweigh 1 7\nundo\nundo\nremove 1\ninsert 1 D 0010082 -\n";
 
@@ -429,7 +433,8 @@ fn edits_tried(rt: HostRuntime) {
     );
 }
 
-// All files are read first, then the inputs are checked, then the lines of the edits, and only then the first edit is made.
+// All files are read first, then the inputs are checked, then the lines of the edits, and only then
+// the first edit is made.
 #[test]
 fn edits_refused(rt: HostRuntime) {
     let unread = with("box/ship.toml", Content::Bytes(b""));
@@ -515,8 +520,8 @@ impl Write for Failing {
     }
 }
 
-/// A run whose output takes a limited number of bytes, in all and per call, writes the front of this text, and says that it failed where that
-/// isn't all of it.
+/// A run whose output takes a limited number of bytes, in all and per call, writes the front of
+/// this text, and says that it failed where that isn't all of it.
 fn check_front(
     rt: &(impl Abort + AllocGlobal + Threads + Wait + Sync),
     words: &[&str],
@@ -550,7 +555,8 @@ static WRITTEN: [(&[&str], &str); 3] = [
     (&WITH_EDITS, TRIED),
 ];
 
-// An output that fails behind any number of bytes, whether it takes one a call or all that it is given: what it took is the front of the text.
+// An output that fails behind any number of bytes, whether it takes one a call or all that it is
+// given: what it took is the front of the text.
 #[test]
 fn outputs_that_fail_later(rt: HostRuntime) {
     for (words, text) in &WRITTEN {
@@ -601,8 +607,9 @@ fn check_passes(
     same_row(rt, text, gate.passed.load(SeqCst), passes);
 }
 
-// Here there is one line, and so one chunk. A report has two runs, one for the sums and one for the lines, and so has the search for the first step that
-// fails; a session has the sums. In each run the gate is called for the chunk.
+// Here there is one line, and so one chunk. A report has two runs, one for the sums and one for the
+// lines, and so has the search for the first step that fails; a session has the sums. In each run
+// the gate is called for the chunk.
 #[test]
 fn calls_of_the_gate(rt: HostRuntime) {
     let [(check, report), (first, last), (whatif, tried)] = &WRITTEN;

@@ -1,6 +1,7 @@
-//! What a test asks of two values, or of one claim. Each `assert_eq!` written out costs the proof of its test about two seconds, and a call
-//! of these a fraction of one. An `assert!` whose claim the proof of a later call needs has to stay where it is: these promise nothing.
-//! Each crate of tests has its own, since what may abort can't stand in a library.
+//! What a test asks of two values, or of one claim. Each `assert_eq!` written out costs the proof
+//! of its test about two seconds, and a call of these a fraction of one. An `assert!` whose claim
+//! the proof of a later call needs has to stay where it is: these promise nothing. Each crate of
+//! tests has its own, since what may abort can't stand in a library.
 use std::fmt::Debug;
 use std::process::Abort;
 

@@ -1,4 +1,5 @@
-//! The report as a caller of the library asks for it. What its lines and refusals say is tested by runs of the program, in `tests/program.d`.
+//! The report as a caller of the library asks for it. What its lines and refusals say is tested by
+//! runs of the program, in `tests/program.d`.
 ghost use Rattle.std.specs.Prelude.{◌≤◌};
 
 use crate::checks::{holds, same};
@@ -38,7 +39,8 @@ fn options(workers: u8, cuts: CutPlan<'_>) -> Options<'_>
     Options { workers, cuts }
 }
 
-/// The report on an instruction, as text, and what it came to, made so. The first step that fails is asked for by itself, too, and is the same.
+/// The report on an instruction, as text, and what it came to, made so. The first step that fails
+/// is asked for by itself, too, and is the same.
 fn written_by(
     rt: &(impl Abort + AllocGlobal + Threads + Wait + Sync),
     movins: &[u8],
@@ -81,12 +83,14 @@ fn check_refusal(
     Ok(())
 }
 
-/// The report of the box ship alone: GM = 10,333 - 6,000 mm, and a draught of 4 m, on which buoyancy and weight agree everywhere.
+/// The report of the box ship alone: GM = 10,333 - 6,000 mm, and a draught of 4 m, on which
+/// buoyancy and weight agree everywhere.
 static EMPTY_REPORT: &[u8] =
     b"STEP LIFT KG GM MEAN AFT FWD TRIM LIST A30 A40 A3040 GZ ANGLE CLOSE FRAMES VERDICT\n0 - 8200000 4333 4000 4000 4000 0 0 31509 50888 19379 1958 35 0 0/0;0/0;0/0;0/0;0/0 PASS\nALL PASS\n";
 
-// With ample memory and a sound sink the answer is Ok: bodies that are always out of memory, or whose sink always fails, meet every contract,
-// and are caught here (always_no_memory, always_write_fault).
+// With ample memory and a sound sink the answer is Ok: bodies that are always out of memory, or
+// whose sink always fails, meet every contract, and are caught here (always_no_memory,
+// always_write_fault).
 #[test]
 fn empty_plan(rt: HostRuntime) {
     let (outcome, text) = written_by(&rt, NO_MOVES, &options(2, PLAN));

@@ -1,5 +1,6 @@
 -- The righting levers of what is aboard.
-use Rattle.std.specs.Prelude.{◌≡◌, ℕ, ◌<◌, ℤ, pos, ◌+ℤ◌, Option, Some, None, option_map, MatchOption, Result, MatchResult, unsigned_abs}
+use Rattle.std.specs.Prelude.{◌≡◌, ℕ, ◌<◌, ℤ, pos, ◌+ℤ◌, Option, Some, None, option_map}
+use Rattle.std.specs.Prelude.{MatchOption, Result, MatchResult, unsigned_abs}
 use Rattle.units_core.specs.Interpolation.{at, interval}
 use Rattle.units_core.specs.Ratio.{Ratio, ◌over◌}
 use Rattle.ship_tables.specs.Record.{CurveTable}
@@ -13,7 +14,9 @@ use Rattle.ship_tables.specs.Curves.{curve_at}
 
 -- GZ at the k-th angle, by the cross curves in the i-th interval of their displacements
 abbrev pub lever_in : CurveTable → Sum → ℕ → ℕ → Ratio
-lever_in t s i k = gz (curve_at t (s Weight) k i) ((s MomentZ +ℤ s Surface) over s Weight) (pos (unsigned_abs (s MomentY)) over s Weight) k
+lever_in t s i k =
+    gz (curve_at t (s Weight) k i) ((s MomentZ +ℤ s Surface) over s Weight)
+    (pos (unsigned_abs (s MomentY)) over s Weight) k
 
 -- none where the displacement lies outside of the table
 abbrev pub levers_of : CurveTable → Sum → Option (ℕ → Ratio)
@@ -24,9 +27,11 @@ pub record IsCrossing (r : Crossing) (t : CurveTable) (w : ℤ) (i : ℕ) : Type
   pub kg : r.kg ≡ w
   pub levers : (k : ℕ) → k < 13 → (at r.lever k over r.gap) ≡ curve_at t w k i
 
--- the levers of a ship by these numbers, and by her moments about the keel (with the free surfaces) and about the middle line
+-- the levers of a ship by these numbers, and by her moments about the keel (with the free surfaces)
+-- and about the middle line
 abbrev pub lever_by : Crossing → ℤ → ℤ → ℕ → Ratio
-lever_by r upright side k = gz (at r.lever k over r.gap) (upright over r.kg) (pos (unsigned_abs side) over r.kg) k
+lever_by r upright side k =
+    gz (at r.lever k over r.gap) (upright over r.kg) (pos (unsigned_abs side) over r.kg) k
 
 -- the levers are these ordinates
 abbrev pub AreLevers : Levers → Option (ℕ → Ratio) → Type 0
@@ -38,4 +43,5 @@ AreLeversIfAny result o = MatchOption result (o ≡ None) (λ l. AreLevers l o)
 
 -- the levers, or the table that the displacement lies outside of
 abbrev pub AreLeversOf : Result Levers Outside → Option (ℕ → Ratio) → Type 0
-AreLeversOf result o = MatchResult result (λ l. AreLevers l o) (λ outside. (outside ≡ OutsideLevers) × (o ≡ None))
+AreLeversOf result o =
+    MatchResult result (λ l. AreLevers l o) (λ outside. (outside ≡ OutsideLevers) × (o ≡ None))

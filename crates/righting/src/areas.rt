@@ -32,9 +32,10 @@ pub fn area_over_pairs(levers: &Levers, from: usize, pairs: usize) -> Frac
     }
 }
 
-/// The area under the curve of righting levers between two angles, as Simpson's sum of the levers in mm without its factor. By Simpson's
-/// first rule on intervals of 5 degrees the area is 5/3 of this sum, in mm degrees. The angles are an even number of intervals apart.
-/// (2008 IS Code, part A, 2.2.)
+/// The area under the curve of righting levers between two angles, as Simpson's sum of the levers
+/// in mm without its factor. By Simpson's first rule on intervals of 5 degrees the area is 5/3 of
+/// this sum, in mm degrees. The angles are an even number of intervals apart. (2008 IS Code, part
+/// A, 2.2.)
 pub fn area_sum(levers: &Levers, from: Angle, to: Angle) -> Frac
     requires below { from < to }
     requires even { (to - from) % 2 ≡ 0 }
@@ -47,8 +48,9 @@ pub fn area_sum(levers: &Levers, from: Angle, to: Angle) -> Frac
     area_over_pairs(levers, first, (to.step() - first) / 2)
 }
 
-/// Whether the area of a Simpson's sum, as [`area_sum`] gives it, is at least `limit` millionths of a metre-degree. Decided on whole numbers,
-/// without rounding. (2008 IS Code, part A, 2.2, which has its limits in metre-radians.)
+/// Whether the area of a Simpson's sum, as [`area_sum`] gives it, is at least `limit` millionths of
+/// a metre-degree. Decided on whole numbers, without rounding. (2008 IS Code, part A, 2.2, which
+/// has its limits in metre-radians.)
 pub fn area_holds(sum: Frac, limit: i128) -> bool
     requires sum { unsigned_abs sum.num ≤ 10 ^ 32 }
     requires den { unsigned_abs sum.den ≤ 10 ^ 23 }
@@ -58,7 +60,8 @@ pub fn area_holds(sum: Frac, limit: i128) -> bool
     5000 * sum.num >= 3 * limit * sum.den
 }
 
-/// The angle, of those from the `from`-th up to below the `end`-th, that carries the greatest lever, the least such.
+/// The angle, of those from the `from`-th up to below the `end`-th, that carries the greatest
+/// lever, the least such.
 fn greatest_in(levers: &Levers, from: usize, end: usize) -> usize
     requires some { from < end }
     requires inside { end ≤ 13 }
@@ -81,7 +84,8 @@ pub fn greatest_number(levers: &Levers) -> usize
     greatest_in(levers, 0, 13)
 }
 
-/// The angle of the greatest righting lever, of 0, 5, .., 60 degrees; where several carry it, the least of them. (2008 IS Code, part A, 2.2.)
+/// The angle of the greatest righting lever, of 0, 5, .., 60 degrees; where several carry it, the
+/// least of them. (2008 IS Code, part A, 2.2.)
 pub fn greatest(levers: &Levers) -> Angle
     ensures { IsGreatestOf result levers.now.num levers.now.den 0 13 }
 {

@@ -5,7 +5,8 @@ ghost use Rattle.moment_sums.specs.Sum.{Weight};
 ghost use Rattle.hydrostat.specs.Floating.{load_of};
 ghost use Rattle.units_core.specs.Interpolation.{Encloses};
 ghost use Rattle.ship_tables.specs.Record.{IsLeverTable};
-ghost use Rattle.righting.specs.Aboard.{AreLeversIfAny, AreLeversOf, IsCrossing, lever_in, levers_of};
+ghost use Rattle.righting.specs.Aboard.{AreLeversIfAny, AreLeversOf, IsCrossing, lever_in};
+ghost use Rattle.righting.specs.Aboard.{levers_of};
 ghost use Rattle.righting.specs.Levers.{AreOrdinates};
 
 use crate::heeled::levers;
@@ -33,7 +34,8 @@ fn crossing_at(curves: &Curves, kg: i128, i: usize) -> Crossing
     }
 }
 
-/// The righting levers of what is aboard, whose displacement lies in the interval `i` of the cross curves.
+/// The righting levers of what is aboard, whose displacement lies in the interval `i` of the cross
+/// curves.
 fn levers_at(curves: &Curves, totals: &Totals, i: usize) -> Levers
     requires table { IsLeverTable curves.now }
     requires bounded { IsBounded (values totals.now) }
@@ -44,8 +46,9 @@ fn levers_at(curves: &Curves, totals: &Totals, i: usize) -> Levers
     levers(&crossing, upright(totals), totals.y())
 }
 
-/// The righting levers of what is aboard, as [`levers_of`] gives them; `None` where the displacement lies outside of the table of cross
-/// curves. The displacement is looked for first in the interval `near` of the table, which is then the one where it was found.
+/// The righting levers of what is aboard, as [`levers_of`] gives them; `None` where the
+/// displacement lies outside of the table of cross curves. The displacement is looked for first in
+/// the interval `near` of the table, which is then the one where it was found.
 pub fn levers_aboard(profile: &Profile, totals: &Totals, near: &mut usize) -> Option<Levers>
     requires bounded { IsBounded (values totals.now) }
     ensures { AreLeversIfAny result (levers_of profile.now.tables.levers (values totals.now)) }
@@ -55,9 +58,10 @@ pub fn levers_aboard(profile: &Profile, totals: &Totals, near: &mut usize) -> Op
     Some(levers_at(curves, totals, i))
 }
 
-/// The righting levers of what is aboard, in mm, at 0, 5, .., 60 degrees of heel: KN of the ship's cross curves at the displacement, less
-/// what the centre of gravity's height above the keel, with the free surfaces, and its distance from the middle line take away.
-/// [`Outside::Levers`] where the displacement lies outside of the table of cross curves. (2008 IS Code, part A, 2.2.)
+/// The righting levers of what is aboard, in mm, at 0, 5, .., 60 degrees of heel: KN of the ship's
+/// cross curves at the displacement, less what the centre of gravity's height above the keel, with
+/// the free surfaces, and its distance from the middle line take away. [`Outside::Levers`] where
+/// the displacement lies outside of the table of cross curves. (2008 IS Code, part A, 2.2.)
 pub fn levers_of(profile: &Profile, totals: &Totals) -> Result<Levers, Outside>
     requires bounded { IsBounded (values totals.now) }
     ensures { AreLeversOf result (levers_of profile.now.tables.levers (values totals.now)) }

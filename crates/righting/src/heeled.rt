@@ -30,7 +30,8 @@ fn lever(
     kn * weight * 1_000_000 - upright * gap * sine - aside * gap * cosine
 }
 
-/// A moment about the middle line without its side: the ship heels to the side where her centre of gravity is.
+/// A moment about the middle line without its side: the ship heels to the side where her centre of
+/// gravity is.
 fn to_either_side(side: i128) -> i128
     requires { unsigned_abs side ≤ 10 ^ 15 }
     ensures value { result ≡ pos (unsigned_abs side) }
@@ -39,7 +40,8 @@ fn to_either_side(side: i128) -> i128
     side.abs()
 }
 
-/// The righting levers of a ship, by the moments of what is aboard about the keel (with the free surfaces) and about the middle line.
+/// The righting levers of a ship, by the moments of what is aboard about the keel (with the free
+/// surfaces) and about the middle line.
 pub fn levers(crossing: &Crossing, upright: i128, side: i128) -> Levers
     requires upright { unsigned_abs upright ≤ 2 * 10 ^ 15 }
     requires side { unsigned_abs side ≤ 10 ^ 15 }

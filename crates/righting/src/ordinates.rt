@@ -1,7 +1,8 @@
 ghost use Rattle.std.specs.Prelude.{◌*◌, ◌^◌, ◌≤◌, pos, ◌≤ℤ◌, unsigned_abs};
 ghost use Rattle.units_core.specs.Interpolation.{IsWithin};
 
-/// The righting levers of a ship at 0, 5, .., 60 degrees of heel, in mm, as fractions of one denominator.
+/// The righting levers of a ship at 0, 5, .., 60 degrees of heel, in mm, as fractions of one
+/// denominator.
 #[derive(Clone, Copy)]
 pub struct Levers {
     /// Their numerators.

@@ -37,8 +37,10 @@ IsTextIfNamed known (Some name) (Some text) = IsTextOf (known name) text
 abbrev pub path_in : List ℕ → List ℕ → List ℕ
 path_in folder name = folder ++ (codes "/" ++ name)
 
--- The texts of a profile are those of the files of its folder; only the table of least metacentric heights may be missing.
-pub record AreShipTexts (known : List ℕ → Known) (folder : List ℕ) (texts : profile.Texts) : Type 0 where
+-- The texts of a profile are those of the files of its folder; only the table of least metacentric
+-- heights may be missing.
+pub record AreShipTexts (known : List ℕ → Known) (folder : List ℕ)
+    (texts : profile.Texts) : Type 0 where
   pub ship_toml : IsTextOf (known (path_in folder (codes "ship.toml"))) texts.ship
   pub cells_csv : IsTextOf (known (path_in folder (codes "cells.csv"))) texts.tables.cells
   pub hydro_csv : IsTextOf (known (path_in folder (codes "hydro.csv"))) texts.tables.hydro

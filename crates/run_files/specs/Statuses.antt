@@ -10,15 +10,16 @@ use Rattle.run_inputs.specs.declared.faults.RunFault.TheVariants as run
 use Rattle.command_line.specs.declared.lines.LineFault.{LineFault}
 use Rattle.command_line.specs.declared.lines.LineFault.TheVariants as line
 use Rattle.run_files.specs.declared.stops.Stop.{Stop}
-use Rattle.run_files.specs.declared.stops.Stop.TheVariants.{Refused, Edits, Usage, NoMemory, Read, Write}
+use Rattle.run_files.specs.declared.stops.Stop.TheVariants.{Refused, Edits, Usage, NoMemory, Read}
+use Rattle.run_files.specs.declared.stops.Stop.TheVariants.{Write}
 
 -- of a run that writes its whole report: by the first step that fails, if there is one
 abbrev pub status_on : {A : Type 0} → Option A → ℕ
 status_on None = 0
 status_on (Some first) = 1
 
--- what stopped a run before its report was whole: an input or a line of the edits file is refused, the words are wrong, out of memory, a file can't be read,
--- standard output can't be written
+-- what stopped a run before its report was whole: an input or a line of the edits file is refused,
+-- the words are wrong, out of memory, a file can't be read, standard output can't be written
 abbrev pub status_of : Stop → ℕ
 status_of (Refused fault) = 2
 status_of (Edits number) = 2
@@ -47,7 +48,8 @@ abbrev pub name_shown : List ℕ → List ℕ
 name_shown [] = codes "(empty name)"
 name_shown (byte ∷ more) = map shown (byte ∷ more)
 
--- a usage error, a file of edits that isn't read, and a run without a report, as what stopped the program
+-- a usage error, a file of edits that isn't read, and a run without a report, as what stopped the
+-- program
 abbrev pub stop_of_line : LineFault → Stop
 stop_of_line (line.Usage text) = Usage text
 stop_of_line line.NoMemory = NoMemory

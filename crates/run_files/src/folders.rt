@@ -1,6 +1,7 @@
 ghost use Rattle.std.specs.Prelude.{◌≡◌, ◌≢◌, IfOk, IfErr, option_map, string_bytes};
 ghost use Rattle.ship_profile.specs.Record.{texts_of};
-ghost use Rattle.run_files.specs.Files.{AreShipTexts, AreTexts, IsTextIfNamed, IsTextIfThere, IsTextOf, edits_text, path_in, texts_in};
+ghost use Rattle.run_files.specs.Files.{AreShipTexts, AreTexts, IsTextIfNamed, IsTextIfThere};
+ghost use Rattle.run_files.specs.Files.{IsTextOf, edits_text, path_in, texts_in};
 ghost use Rattle.run_files.specs.Files.Known.{Nothing};
 ghost use Rattle.run_files.specs.Statuses.{IsUnread, name_shown};
 
@@ -147,7 +148,8 @@ impl Folder {
     }
 }
 
-/// Reads the files of a ship's profile in their order. The first that can't be read ends the run; only `gm.csv` may be missing.
+/// Reads the files of a ship's profile in their order. The first that can't be read ends the run;
+/// only `gm.csv` may be missing.
 fn read_folder<R: Readers>(alloc: Global, files: &mut R, folder: &str) -> Result<Folder, Stop>
     ensures texts { IfOk result (AreShipTexts (R.known files.old) folder.now) }
     ensures unread { IfErr result IsUnread }
@@ -237,8 +239,9 @@ impl Texts {
     }
 }
 
-/// Reads the files of a command line: the ship's profile, the bay plan, the movement instruction, the edits file and the steps file, where they
-/// are given. The first that can't be read ends the run.
+/// Reads the files of a command line: the ship's profile, the bay plan, the movement instruction,
+/// the edits file and the steps file, where they are given. The first that can't be read ends the
+/// run.
 pub fn read_texts<R: Readers>(alloc: Global, files: &mut R, line: Line<'_>) -> Result<Texts, Stop>
     ensures texts { IfOk result (AreTexts (R.known files.old) line.entry) }
     ensures unread { IfErr result IsUnread }

@@ -1,5 +1,6 @@
-//! The files that a command line names, read whole ([`read_texts`]) from wherever a caller has them ([`Readers`]), and what ends a run without its whole
-//! report ([`Stop`]), with the exit status and the one line on standard error.
+//! The files that a command line names, read whole ([`read_texts`]) from wherever a caller has them
+//! ([`Readers`]), and what ends a run without its whole report ([`Stop`]), with the exit status and
+//! the one line on standard error.
 #![tactic(auto)]
 
 mod files;

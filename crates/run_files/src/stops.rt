@@ -58,8 +58,8 @@ impl fmt::Display for Stop {
 impl Error for Stop {}
 
 impl Stop {
-    /// The exit status: 2 for a refused input or line of edits, 3 for a usage error or help, 4 out of memory, 5 where a file can't be
-    /// read or standard output can't be written.
+    /// The exit status: 2 for a refused input or line of edits, 3 for a usage error or help, 4 out
+    /// of memory, 5 where a file can't be read or standard output can't be written.
     pub fn status(&self) -> u8
         ensures { result ≡ status_of self.now }
     {

@@ -13,7 +13,8 @@ use Rattle.lift_sequence.specs.Aboard.{Aboard}
 use Rattle.lift_sequence.specs.Arrival.{arrival_fault, on_arrival}
 use Rattle.lift_sequence.specs.Sequence.{ops_of, sequence_fault}
 use Rattle.run_inputs.specs.declared.faults.RunFault.{RunFault}
-use Rattle.run_inputs.specs.declared.faults.RunFault.TheVariants.{Profile, Baplie, Arrival, Movins, Steps, Sequence}
+use Rattle.run_inputs.specs.declared.faults.RunFault.TheVariants.{Profile, Baplie, Arrival, Movins}
+use Rattle.run_inputs.specs.declared.faults.RunFault.TheVariants.{Steps, Sequence}
 use Rattle.run_inputs.specs.declared.inputs.Inputs.{Inputs}
 use Rattle.run_inputs.specs.Refusals.{refused_as}
 
@@ -28,7 +29,8 @@ abbrev pub items_in : Inputs → Result (List Item) RunFault
 items_in inputs = items_of inputs.baplie.now
 
 abbrev pub arrival_in : ProfileRecord → List Item → Result Aboard RunFault
-arrival_in ship items = refused_as Arrival (unless (arrival_fault ship items ship.fills) (on_arrival items ship.fills))
+arrival_in ship items =
+    refused_as Arrival (unless (arrival_fault ship items ship.fills) (on_arrival items ship.fills))
 
 -- the lifts of the movement instruction, and the rows of the steps file, where there is one
 abbrev pub lifts_of : List ℕ → Result (List lift.Lift) RunFault

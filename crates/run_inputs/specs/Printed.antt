@@ -1,5 +1,5 @@
--- What is printed behind `refused` in the line on a run without a report: the code of the input, that of its fault, and the
--- place.
+-- What is printed behind `refused` in the line on a run without a report: the code of the input,
+-- that of its fault, and the place.
 use Rattle.std.specs.Prelude.{ℕ, List, [], ◌++◌, codes}
 use Rattle.std.specs.Fmt.{decimal}
 use Rattle.ship_profile.specs.Printed.{profile_fault_text}
@@ -10,7 +10,9 @@ use Rattle.lift_sequence.specs.declared.faults.SeqFault.{SeqFault}
 use Rattle.lift_sequence.specs.Printed.{seq_code_text}
 use Rattle.prefix_scan.specs.Printed.{cut_fault_text}
 use Rattle.run_inputs.specs.declared.faults.RunFault.{RunFault}
-use Rattle.run_inputs.specs.declared.faults.RunFault.TheVariants.{Profile, Baplie, Arrival, Movins, Steps, Sequence, Cuts, NoMemory, Write}
+use Rattle.run_inputs.specs.declared.faults.RunFault.TheVariants.{Profile, Baplie, Arrival, Movins}
+use Rattle.run_inputs.specs.declared.faults.RunFault.TheVariants.{Steps, Sequence, Cuts, NoMemory}
+use Rattle.run_inputs.specs.declared.faults.RunFault.TheVariants.{Write}
 use Rattle.run_inputs.specs.Shown.{cell_text}
 
 -- the other cell of two that overlap
@@ -21,7 +23,8 @@ rival_text code = []
 -- a code, the thing at which the fault was found, and its number
 abbrev pub placed_text : List ℕ → SeqFault → List ℕ
 placed_text thing fault =
-    seq_code_text fault.code ++ (codes " " ++ (thing ++ (codes " " ++ (decimal fault.at ++ rival_text fault.code))))
+    seq_code_text fault.code
+    ++ (codes " " ++ (thing ++ (codes " " ++ (decimal fault.at ++ rival_text fault.code))))
 
 -- a fault of the arrival is that of a fill or of an item
 abbrev pub thing_of : SeqCode → List ℕ

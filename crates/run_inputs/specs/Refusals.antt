@@ -14,14 +14,17 @@ use Rattle.lift_sequence.specs.declared.faults.SeqFault.{SeqFault}
 use Rattle.prefix_scan.specs.declared.divisions.CutFault.{CutFault}
 use Rattle.prefix_scan.specs.declared.divisions.CutFault.TheVariants as cut
 use Rattle.run_inputs.specs.declared.faults.RunFault.{RunFault}
-use Rattle.run_inputs.specs.declared.faults.RunFault.TheVariants.{Profile, Baplie, Arrival, Movins, Steps, Sequence, Cuts, NoMemory, Write}
+use Rattle.run_inputs.specs.declared.faults.RunFault.TheVariants.{Profile, Baplie, Arrival, Movins}
+use Rattle.run_inputs.specs.declared.faults.RunFault.TheVariants.{Steps, Sequence, Cuts, NoMemory}
+use Rattle.run_inputs.specs.declared.faults.RunFault.TheVariants.{Write}
 
 -- a refusal of an input, as one of the run
 abbrev pub refused_as : {A E : Type 0} → (E → RunFault) → Result A E → Result A RunFault
 refused_as fault (Ok a) = Ok a
 refused_as fault (Err e) = Err (fault e)
 
--- A refusal of each input as one of the run: out of memory stands for itself, and never inside another refusal.
+-- A refusal of each input as one of the run: out of memory stands for itself, and never inside
+-- another refusal.
 abbrev pub profile_refusal : ProfileFault → RunFault
 profile_refusal profile.NoMemory = NoMemory
 profile_refusal fault = Profile fault

@@ -12,6 +12,7 @@ in_digits count n = replicate (count - length (decimal n)) 48 ++ decimal n
 abbrev pub cell_text : Cell → List ℕ
 cell_text cell = in_digits 3 cell.bay ++ (in_digits 2 cell.row ++ in_digits 2 cell.tier)
 
--- a byte as it can be printed: a question mark (code 63) for a blank, and for what is no visible character
+-- a byte as it can be printed: a question mark (code 63) for a blank, and for what is no visible
+-- character
 abbrev pub shown : ℕ → ℕ
 shown byte = if is_ascii_graphic byte then byte else 63

@@ -9,8 +9,8 @@ use std::error::Error;
 use std::fmt;
 use stow_messages::{StepsFault, StowFault};
 
-/// Why a run gives no report. The inputs are checked in the order of the first six, and then the plan of the cuts. It prints as the code of the input, that of its
-/// fault, and the place.
+/// Why a run gives no report. The inputs are checked in the order of the first six, and then the
+/// plan of the cuts. It prints as the code of the input, that of its fault, and the place.
 #[derive(Clone, Copy, Debug, PartialEq, Eq)]
 pub enum RunFault {
     /// F1: the ship's profile is refused.
@@ -33,7 +33,8 @@ pub enum RunFault {
     Write(usize),
 }
 
-/// The code of a fault, the thing at which it was found, and its number; of two cells that overlap also the other cell.
+/// The code of a fault, the thing at which it was found, and its number; of two cells that overlap
+/// also the other cell.
 #[derive(Clone, Copy)]
 struct Placed<'a> {
     thing: &'a str,
@@ -59,7 +60,8 @@ impl<'a> fmt::Display for Placed<'a> {
     }
 }
 
-/// What a fault of the arrival was found at: a fill of the ship's tanks, or an item of the bay plan.
+/// What a fault of the arrival was found at: a fill of the ship's tanks, or an item of the bay
+/// plan.
 fn thing_of(code: SeqCode) -> &'static str
     ensures { result.now ≡ thing_of code }
 {

@@ -2,7 +2,8 @@ ghost use Rattle.std.specs.Prelude.{◌≡◌, ◌≢◌, ◌≤◌, length, opt
 ghost use Rattle.lift_sequence.specs.Sequence.{IsOf};
 ghost use Rattle.lift_sequence.specs.Arrival.{cargo_on};
 ghost use Rattle.run_inputs.specs.Readings.{AreMovesRead, HasArrived, IsMade};
-ghost use Rattle.run_inputs.specs.Inputs.{arrival_in, items_of, lifts_of, orders_in, orders_on, rows_of, sequence_in, ship_in};
+ghost use Rattle.run_inputs.specs.Inputs.{arrival_in, items_of, lifts_of, orders_in, orders_on};
+ghost use Rattle.run_inputs.specs.Inputs.{rows_of, sequence_in, ship_in};
 ghost use Rattle.run_inputs.specs.Refusals.{TellsMemory, is_cut, is_write};
 
 use crate::faults::RunFault;
@@ -15,7 +16,8 @@ use ship_profile::{Profile, ProfileBytes};
 use std::alloc::{AllocError, Global};
 use stow_messages::{Item, Lift, StepRow, baplie, movins, steps};
 
-/// The texts that a run reads. Without a steps file the steps are the lifts of the movement instruction, in their order.
+/// The texts that a run reads. Without a steps file the steps are the lifts of the movement
+/// instruction, in their order.
 #[derive(Clone, Copy)]
 pub struct Inputs<'a> {
     /// The files of the ship's profile.

@@ -1,6 +1,7 @@
-//! What a run reads, each input by itself: the ship's profile, what is aboard on arrival, the steps that the movement instruction and the
-//! planner's steps file order, and whether they can be done; and every refusal of these inputs with its printed code. The order of the
-//! refusals is defined in `seq_report`.
+//! What a run reads, each input by itself: the ship's profile, what is aboard on arrival, the steps
+//! that the movement instruction and the planner's steps file order, and whether they can be done;
+//! and every refusal of these inputs with its printed code. The order of the refusals is defined in
+//! `seq_report`.
 #![tactic(auto)]
 
 mod faults;

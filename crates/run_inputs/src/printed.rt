@@ -20,7 +20,8 @@ impl fmt::Display for CellText {
     }
 }
 
-/// A byte of a name as it can be printed: a question mark stands for a blank, and for what is no visible character.
+/// A byte of a name as it can be printed: a question mark stands for a blank, and for what is no
+/// visible character.
 pub fn shown(byte: u8) -> u8
     ensures { result ≡ shown byte }
 {

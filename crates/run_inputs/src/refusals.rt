@@ -1,5 +1,8 @@
 ghost use Rattle.std.specs.Prelude.{◌≡◌, ◌≢◌, false};
-ghost use Rattle.run_inputs.specs.Refusals.{TellsMemory, arrival_refusal, baplie_refusal, cuts_refusal, is_cut_fault, is_refusal, is_write_fault, movins_refusal, profile_refusal, sequence_refusal, steps_refusal};
+ghost use Rattle.run_inputs.specs.Refusals.{TellsMemory, arrival_refusal, baplie_refusal};
+ghost use Rattle.run_inputs.specs.Refusals.{cuts_refusal, is_cut_fault, is_refusal, is_write_fault};
+ghost use Rattle.run_inputs.specs.Refusals.{movins_refusal, profile_refusal, sequence_refusal};
+ghost use Rattle.run_inputs.specs.Refusals.{steps_refusal};
 
 use crate::faults::RunFault;
 use lift_sequence::{SeqCode, SeqFault};

@@ -5,8 +5,8 @@ ghost use Rattle.bounded_sums.specs.Laws.{IsLight};
 use lift_sequence::Op;
 use stow_messages::{Item, Lift};
 
-/// Each item of a bay plan is light enough for every sum: a [`units_core::Kg`] has six digits. The masses are looked at, so that this is
-/// known of the whole list.
+/// Each item of a bay plan is light enough for every sum: a [`units_core::Kg`] has six digits. The
+/// masses are looked at, so that this is known of the whole list.
 pub fn items_are_light(items: &[Item])
     ensures { AllByRecursion (λ item. item.kg ≤ 10 ^ 9) items.now }
 {

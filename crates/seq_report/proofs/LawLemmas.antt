@@ -7,7 +7,7 @@ use Rattle.units_core.specs.Bodies.{Mass}
 use Rattle.units_core.specs.Steps.{change}
 use Rattle.units_core.specs.Totals.{total}
 use Rattle.units_core.specs.declared.steps.Step.{Step}
-use Rattle.ship_profile.specs.declared.frames.Frame.{Frame}
+use Rattle.units_core.specs.declared.frames.Frame.{Frame}
 use Rattle.moment_sums.specs.Shares.{moment_aft, weight_aft}
 use Rattle.moment_sums.specs.Sum.{Column, Sum, changed_by, joined, nothing, of_body, sum_of, value}
 use Rattle.moment_sums.specs.Kept.{Kept, both_kept, none_kept, values}

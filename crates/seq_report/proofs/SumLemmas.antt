@@ -7,7 +7,7 @@ use Rattle.std.proofs.lemmas.List.FromFn.{map-range_with_len_more}
 use Rattle.std.proofs.lemmas.List.Sums.{fold-append, sum_by-cons}
 use Rattle.std.proofs.lemmas.Option.{slice_get_past}
 use Rattle.units_core.specs.Bodies.{Mass}
-use Rattle.ship_profile.specs.declared.frames.Frame.{Frame}
+use Rattle.units_core.specs.declared.frames.Frame.{Frame}
 use Rattle.units_core.specs.declared.steps.Step.{Step}
 use Rattle.units_core.specs.Steps.{change}
 use Rattle.units_core.specs.Totals.{total}
@@ -21,7 +21,7 @@ use Rattle.seq_report.specs.declared.cases.Case.{Case}
 use Rattle.seq_report.specs.Cases.{IsReady, aboard_first, line_in, sum_in}
 use Rattle.seq_report.specs.Chunks.{bodies_in, change_behind, changed_in, changes_behind, parts_behind, parts_to, sum_to}
 use Rattle.criteria.specs.declared.criterion.Criterion.{Criterion}
-use Rattle.seq_report.specs.Report.{Said, failure_of, lift_to, step_line, sum_at}
+use Rattle.seq_report.specs.Report.{Statement, failure_of, lift_to, step_line, sum_at}
 use Rattle.seq_report.proofs.Totals.{total_next}
 
 -- sums in any grouping
@@ -65,9 +65,9 @@ line_here case ready k s is =
     ap (λ (t : Sum). record { lift = lift_to case.sequence.ops k; step = step_line case.profile k t }) (is ∙ sum_here case ready k)
 
 -- whether the line fails, by what is said of it
-pub line_told : (case : Case) → IsReady case → (k : ℕ) (s : Sum) (said : Said) (f : Option (ℕ × Criterion)) → s ≡ sum_in case k → said ≡ step_line case.profile k s
-    → f ≡ failure_of said → f ≡ failure_of (line_in case k).step
-line_told case ready k s said f here is told = told ∙ ap failure_of (is ∙ ap (step_line case.profile k) (here ∙ sum_here case ready k))
+pub line_told : (case : Case) → IsReady case → (k : ℕ) (s : Sum) (statement : Statement) (f : Option (ℕ × Criterion)) → s ≡ sum_in case k → statement ≡ step_line case.profile k s
+    → f ≡ failure_of statement → f ≡ failure_of (line_in case k).step
+line_told case ready k s statement f here is told = told ∙ ap failure_of (is ∙ ap (step_line case.profile k) (here ∙ sum_here case ready k))
 
 -- sizes
 pub few_bodies : (o : Option Step) → bodies_in o ≤ 2

@@ -4,7 +4,7 @@ use Rattle.std.specs.Option.{option_to_list}
 use Rattle.std.proofs.lemmas.Int.{ints}
 use Rattle.std.proofs.lemmas.List.{take_more}
 use Rattle.units_core.specs.Bodies.{Mass}
-use Rattle.ship_profile.specs.declared.frames.Frame.{Frame}
+use Rattle.units_core.specs.declared.frames.Frame.{Frame}
 use Rattle.units_core.specs.Totals.{total}
 use Rattle.lift_sequence.proofs.Totals.{total-append}
 use Rattle.moment_sums.specs.KeptLaws.{plus_nothing}

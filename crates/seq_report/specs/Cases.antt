@@ -1,5 +1,7 @@
--- Bookkeeping: a ship, what is aboard of her on arrival, and the steps from there, all of which can be done.
-use Rattle.std.specs.Prelude.{◌≡◌, ℕ, ◌+◌, ◌-◌, ◌<◌, ◌≤◌, ◌^◌, ℤ, ◌+ℤ◌, List, length, map, take, slice_get, Option, None, Some, Ok}
+-- Bookkeeping: a ship, what is aboard of her on arrival, and the steps from there, all of which can
+-- be done.
+use Rattle.std.specs.Prelude.{◌≡◌, ℕ, ◌+◌, ◌-◌, ◌<◌, ◌≤◌, ◌^◌, ℤ, ◌+ℤ◌, List, length, map, take}
+use Rattle.std.specs.Prelude.{slice_get, Option, None, Some, Ok}
 use Rattle.std.specs.List.{AllByRecursion, range_with_len}
 use Rattle.stow_messages.specs.declared.items.Item.{Item}
 use Rattle.units_core.specs.Bodies.{Mass}
@@ -26,11 +28,12 @@ use Rattle.seq_report.specs.Refusal.{Outcome, outcome_from, outcome_of, outcome_
 use Rattle.seq_report.specs.Report.{Line, line_at, lines_of, sum_at}
 
 abbrev pub case_on : ProfileRecord → ArrivalRecord → SequenceRecord → Case
-case_on profile arrival sequence = record { profile = profile; arrival = arrival; sequence = sequence }
+case_on profile arrival sequence =
+    record { profile = profile; arrival = arrival; sequence = sequence }
 
 -- the case that is seen
-abbrev pub seen : CaseView → Case
-seen view = case_on view.profile.now view.arrival.now view.sequence.now
+abbrev pub case_in_view : CaseView → Case
+case_in_view view = case_on view.profile.now view.arrival.now view.sequence.now
 
 abbrev pub aboard_first : Case → Aboard
 aboard_first case = cargo_on case.arrival
@@ -53,16 +56,18 @@ IsFirstStep case ends least = IsLeastFound (Some least) (first_step_in case ends
 abbrev pub sum_in : Case → ℕ → Sum
 sum_in case k = sum_to case.profile.ship.frames case.arrival.bodies case.sequence.steps k
 
--- Inputs define this case: its ship, the items and the fills that are aboard on arrival, and its list of steps.
+-- Inputs define this case: its ship, the items and the fills that are aboard on arrival, and its
+-- list of steps.
 pub record IsToldBy (inputs : Inputs) (case : Case) : Type 0 where
   pub ship : ship_in inputs ≡ Ok case.profile
   pub items : items_in inputs ≡ Ok case.arrival.items
   pub fills : case.arrival.fills ≡ case.profile.fills
   pub orders : orders_in inputs ≡ Ok case.sequence.ops
 
--- The ship of the inputs with what is aboard of her on arrival, where none of the three is refused: what remains of the outcome, and what is known of
--- them.
-pub record AreArrived (inputs : Inputs) (profile : ProfileRecord) (arrival : ArrivalRecord) : Type 0 where
+-- The ship of the inputs with what is aboard of her on arrival, where none of the three is refused:
+-- what remains of the outcome, and what is known of them.
+pub record AreArrived (inputs : Inputs) (profile : ProfileRecord)
+    (arrival : ArrivalRecord) : Type 0 where
   pub outcome : outcome_of inputs ≡ outcome_from profile (cargo_on arrival) inputs
   pub ship : ship_in inputs ≡ Ok profile
   pub items : items_in inputs ≡ Ok arrival.items
@@ -71,12 +76,13 @@ pub record AreArrived (inputs : Inputs) (profile : ProfileRecord) (arrival : Arr
   pub light : AllByRecursion (λ (item : Item). item.kg ≤ 10 ^ 9) arrival.items
 
 -- everything aboard on arrival, added up
-pub record IsArrivalTotal (ship : ProfileRecord) (arrival : ArrivalRecord) (total : Kept) : Type 0 where
+pub record IsArrivalTotal (ship : ProfileRecord) (arrival : ArrivalRecord)
+    (total : Kept) : Type 0 where
   pub sum : values total ≡ sum_of ship.ship.frames arrival.bodies
   pub size : size_of total ≤ 30400
 
--- Few enough frames, bodies and steps for every sum; and whatever value is added up, what is aboard after k steps is what is aboard on arrival with
--- what these steps change.
+-- Few enough frames, bodies and steps for every sum; and whatever value is added up, what is aboard
+-- after k steps is what is aboard on arrival with what these steps change.
 pub record IsReady (case : Case) : Type 0 where
   pub frames : length case.profile.ship.frames ≤ 16
   pub few : length case.sequence.ops ≤ 120000
@@ -84,7 +90,8 @@ pub record IsReady (case : Case) : Type 0 where
   pub last : slice_get case.sequence.steps (length case.sequence.ops) ≡ None
   pub arrived : length case.arrival.bodies ≤ 30400
   pub adds_up : (f : Mass → ℤ) (k : ℕ)
-      → total f (bodies case.profile (after_all case.profile (aboard_first case) (take k case.sequence.ops)))
+      → total f
+      (bodies case.profile (after_all case.profile (aboard_first case) (take k case.sequence.ops)))
       ≡ total f case.arrival.bodies +ℤ total (change f) (take k case.sequence.steps)
   pub bounded : (k : ℕ) → IsBounded (sum_at case.profile (aboard_first case) case.sequence.ops k)
 

@@ -1,5 +1,6 @@
 -- The columns of figures of a report, and the texts of its figures.
-use Rattle.std.specs.Prelude.{ℕ, zero, suc, ◌-◌, ℤ, pos, List, [], ◌∷◌, ◌++◌, map, flat_map, codes, Option, Some, None, option_map}
+use Rattle.std.specs.Prelude.{ℕ, zero, suc, ◌-◌, ℤ, pos, List, [], ◌∷◌, ◌++◌, map, flat_map, codes}
+use Rattle.std.specs.Prelude.{Option, Some, None, option_map}
 use Rattle.std.specs.Fmt.{signed_decimal}
 use Rattle.criteria.specs.Judgement.{Printed}
 use Rattle.seq_report.specs.declared.columns.Column.{Column}
@@ -8,7 +9,8 @@ use Rattle.seq_report.specs.declared.columns.Column.TheVariants as column
 -- in their order, with their headings, and the figure of each, which the list alone may lack
 abbrev pub columns : List Column
 columns =
-    column.Gm ∷ column.Mean ∷ column.Aft ∷ column.Fwd ∷ column.Trim ∷ column.List ∷ column.AreaTo30 ∷ column.AreaTo40 ∷ column.Area30To40
+    column.Gm ∷ column.Mean ∷ column.Aft ∷ column.Fwd ∷ column.Trim ∷ column.List ∷ column.AreaTo30
+    ∷ column.AreaTo40 ∷ column.Area30To40
     ∷ column.Lever ∷ column.Angle ∷ column.Closing ∷ []
 
 abbrev pub heading_of : Column → List ℕ
@@ -54,8 +56,8 @@ headings_text = spaced (map heading_of columns)
 abbrev pub numbers_text : Printed → List ℕ
 numbers_text f = spaced (map (λ c. number_text (figure_of f c)) columns)
 
--- the shear force and the bending moment at the i-th frame; at the frames up to the n-th; and at the first n
--- frames
+-- the shear force and the bending moment at the i-th frame; at the frames up to the n-th; and at
+-- the first n frames
 abbrev pub frame_text : Printed → ℕ → List ℕ
 frame_text f i = signed_decimal (f.shear i) ++ (codes "/" ++ signed_decimal (f.bending i))
 

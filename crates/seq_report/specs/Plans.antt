@@ -10,7 +10,8 @@ abbrev pub Fits : CutPlan → ℕ → Type 0
 Fits (Every n) lines = 0 < n
 Fits (At ends) lines = Divides ends.now lines
 
--- the first fault of the plan, in the order K1 to K3; chunks of a number of lines have none but that they are empty
+-- the first fault of the plan, in the order K1 to K3; chunks of a number of lines have none but
+-- that they are empty
 abbrev pub IsPlanFault : CutPlan → ℕ → CutFault → Type 0
 IsPlanFault (Every n) lines fault = (n ≡ 0) × (fault ≡ Empty)
 IsPlanFault (At ends) lines fault = IsFault ends.now lines fault

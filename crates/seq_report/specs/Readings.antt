@@ -1,5 +1,6 @@
 -- Bookkeeping: what was read of the inputs in a thread of its own.
-use Rattle.std.specs.Prelude.{◌≡◌, ℕ, Bool, true, false, List, Option, None, Some, Vec, Result, Ok, Err}
+use Rattle.std.specs.Prelude.{◌≡◌, ℕ, Bool, true, false, List, Option, None, Some, Vec, Result, Ok}
+use Rattle.std.specs.Prelude.{Err}
 use Rattle.std.specs.declared.alloc.Global.{Global}
 use Rattle.stow_messages.specs.declared.items.Item.{Item}
 use Rattle.stow_messages.specs.declared.lifts.Lift.{Lift}
@@ -18,13 +19,25 @@ text_if false text = None
 abbrev pub texts_by : (ship cells hydro levers bonjean tanks gm : List ℕ) → Bool → Texts
 texts_by ship cells hydro levers bonjean tanks gm has_gm = record {
   ship = ship;
-  tables = record { cells = cells; hydro = hydro; levers = levers; bonjean = bonjean; tanks = tanks; least_gm = text_if has_gm gm };
+  tables = record {
+    cells = cells;
+    hydro = hydro;
+    levers = levers;
+    bonjean = bonjean;
+    tanks = tanks;
+    least_gm = text_if has_gm gm;
+  };
 }
 
 -- a profile that was read of these texts
 abbrev pub IsShipRead : Result ProfileRecord RunFault → Texts → Type 0
-IsShipRead profile texts = IsRead profile (λ p. refused_as Profile (record_of texts) ≡ Ok p) (λ e. refused_as Profile (record_of texts) ≡ Err e)
+IsShipRead profile texts =
+    IsRead profile (λ p. refused_as Profile (record_of texts) ≡ Ok p)
+    (λ e. refused_as Profile (record_of texts) ≡ Err e)
 
 -- a profile, a bay plan and a movement instruction that were read of these texts
-abbrev pub AreAllRead : (Result ProfileRecord RunFault × Result (Vec Item Global) RunFault × Result (Vec Lift Global) RunFault) → Texts → (plan moves : List ℕ) → Type 0
-AreAllRead read texts plan moves = IsShipRead read.0 texts × IsPlanRead read.1 plan × AreMovesRead read.2 moves
+abbrev pub AreAllRead :
+    (Result ProfileRecord RunFault × Result (Vec Item Global) RunFault
+    × Result (Vec Lift Global) RunFault) → Texts → (plan moves : List ℕ) → Type 0
+AreAllRead read texts plan moves =
+    IsShipRead read.0 texts × IsPlanRead read.1 plan × AreMovesRead read.2 moves

@@ -1,8 +1,9 @@
 ghost use Rattle.std.specs.List.{AllByRecursion};
-ghost use Rattle.std.specs.Prelude.{◌≡◌, ◌≢◌, ◌+◌, ◌^◌, ◌≤◌, length, option_map, false, IfOk, IfErr, Ok, Err};
+ghost use Rattle.std.specs.Prelude.{◌≡◌, ◌≢◌, ◌+◌, ◌^◌, ◌≤◌, length, option_map, false, IfOk};
+ghost use Rattle.std.specs.Prelude.{IfErr, Ok, Err};
 ghost use Rattle.lift_sequence.specs.Arrival.{cargo_on};
 ghost use Rattle.run_inputs.specs.Readings.{AreMovesRead, HasArrived, IsMade, IsPlanRead, IsRead};
-ghost use Rattle.seq_report.specs.Cases.{AreArrived, IsReady, IsToldBy, outcome_in, seen};
+ghost use Rattle.seq_report.specs.Cases.{AreArrived, IsReady, IsToldBy, outcome_in, case_in_view};
 ghost use Rattle.run_inputs.specs.Inputs.{arrival_in, orders_in, ship_in};
 ghost use Rattle.ship_profile.specs.Record.{texts_of};
 ghost use Rattle.seq_report.specs.Readings.{IsShipRead};
@@ -34,7 +35,7 @@ pub struct Case {
 impl Case {
     /// The case, to be looked at.
     pub fn view(&self) -> CaseView<'_>
-        ensures { seen result ≡ self.now }
+        ensures { case_in_view result ≡ self.now }
     {
         CaseView {
             profile: &self.profile,
@@ -124,8 +125,9 @@ fn arrive(alloc: Global, profile: Profile, items: Vec<Item>) -> Result<(Profile,
     Ok((profile, arrival))
 }
 
-/// The ship of the inputs with what is aboard of her on arrival, or the first refusal of her profile, the bay plan and the arrival: by what was read
-/// of the first two, each by itself. The contract alone speaks of `inputs`.
+/// The ship of the inputs with what is aboard of her on arrival, or the first refusal of her
+/// profile, the bay plan and the arrival: by what was read of the first two, each by itself. The
+/// contract alone speaks of `inputs`.
 fn arrived_by(
     alloc: Global,
     inputs: &Inputs<'_>,
@@ -151,8 +153,8 @@ fn arrived_by(
     }
 }
 
-/// The case that the inputs define, or the first refusal: by the results of the first three inputs, and by what was read of the others. Only the
-/// contract uses `inputs`.
+/// The case that the inputs define, or the first refusal: by the results of the first three inputs,
+/// and by what was read of the others. Only the contract uses `inputs`.
 fn case_by(
     alloc: Global,
     inputs: &Inputs<'_>,
@@ -188,7 +190,8 @@ fn ran_out<T>(reading: &Result<T, RunFault>) -> bool {
     matches!(reading, Err(RunFault::NoMemory))
 }
 
-/// The case that the inputs define, or the first refusal, the profile and both messages as they were read.
+/// The case that the inputs define, or the first refusal, the profile and both messages as they
+/// were read.
 fn case_read(
     alloc: Global,
     inputs: &Inputs<'_>,
@@ -220,7 +223,8 @@ fn case_read(
     }
 }
 
-/// The case that the inputs define, or the first refusal, in the order of [`crate::report`]. Out of memory may stand for any refusal.
+/// The case that the inputs define, or the first refusal, in the order of [`crate::report`]. Out of
+/// memory may stand for any refusal.
 pub fn case_of(alloc: Global, inputs: &Inputs<'_>) -> Result<Case, RunFault>
     ensures ok { IfOk result (λ case. outcome_of inputs.now ≡ Ok (outcome_in case)) }
     ensures told { IfOk result (IsToldBy inputs.now) }
@@ -238,8 +242,9 @@ pub fn case_of(alloc: Global, inputs: &Inputs<'_>) -> Result<Case, RunFault>
     case_read(alloc, inputs, profile, plan, moves)
 }
 
-/// The case that the inputs define, or the first refusal. The inputs are read in as many threads as there are workers, three at most; the first refusal in
-/// the order of the inputs is reported, whichever thread ends first. A thread that can't be started is reported as out of memory.
+/// The case that the inputs define, or the first refusal. The inputs are read in as many threads as
+/// there are workers, three at most; the first refusal in the order of the inputs is reported,
+/// whichever thread ends first. A thread that can't be started is reported as out of memory.
 pub fn case_in<R: Threads + Wait + Sync>(
     rt: &R,
     alloc: Global,

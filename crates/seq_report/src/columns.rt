@@ -1,6 +1,8 @@
-ghost use Rattle.std.specs.Prelude.{◌≡◌, ◌++◌, ◌∷◌, ◌-◌, ◌+◌, ◌*◌, ◌<◌, ◌≤◌, OnOk, Some, length, string_bytes};
+ghost use Rattle.std.specs.Prelude.{◌≡◌, ◌++◌, ◌∷◌, ◌-◌, ◌+◌, ◌*◌, ◌<◌, ◌≤◌, OnOk, Some, length};
+ghost use Rattle.std.specs.Prelude.{string_bytes};
 ghost use Rattle.criteria.specs.Judgement.{read};
-ghost use Rattle.seq_report.specs.Columns.{figures_text, frames_text, heading_of, headings_text, number_text, numbers_text};
+ghost use Rattle.seq_report.specs.Columns.{figures_text, frames_text, heading_of, headings_text};
+ghost use Rattle.seq_report.specs.Columns.{number_text, numbers_text};
 
 use criteria::RoundedFigures;
 use decimal_text::BackwardText;
@@ -99,8 +101,8 @@ fn put_list(line: &mut BackwardText<'_>, list: Option<i128>)
     }
 }
 
-/// Writes the figures of the columns, each behind a space, before the line: those behind the list, the list, if there is one, and those before
-/// it.
+/// Writes the figures of the columns, each behind a space, before the line: those behind the list,
+/// the list, if there is one, and those before it.
 fn put_numbers(line: &mut BackwardText<'_>, figures: &RoundedFigures)
     requires room { length line.old + 492 ≤ 2048 }
     ensures text { line.new ≡ numbers_text (read figures.now) ++ line.old }

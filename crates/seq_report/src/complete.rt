@@ -1,4 +1,5 @@
-ghost use Rattle.std.specs.Prelude.{◌≡◌, ℕ, ◌+◌, ◌++◌, ◌<◌, ◌≤◌, true, false, IfOk, IfErr, IfSome, OnOk, is_err, length, take};
+ghost use Rattle.std.specs.Prelude.{◌≡◌, ℕ, ◌+◌, ◌++◌, ◌<◌, ◌≤◌, true, false, IfOk, IfErr, IfSome};
+ghost use Rattle.std.specs.Prelude.{OnOk, is_err, length, take};
 ghost use Rattle.std.specs.Io.KnownBytes.{Appends};
 ghost use Rattle.seq_report.specs.Chunks.{first_in, text_in};
 ghost use Rattle.seq_report.specs.Report.{header_of, last_line};
@@ -10,16 +11,19 @@ use criteria::Criterion;
 use std::alloc::{AllocError, Global};
 use std::marker::Model;
 
-/// What a report came to: how many steps it has lines of, and the first step that fails, with its first criterion.
+/// What a report came to: how many steps it has lines of, and the first step that fails, with its
+/// first criterion.
 #[derive(Clone, Copy, Debug, PartialEq, Eq)]
 pub struct Summary {
     /// The condition on arrival, and each step behind it.
     pub lines: u32,
-    /// The number of the first step that fails, 0 for the condition on arrival, and its first criterion; `None` where all steps pass.
+    /// The number of the first step that fails, 0 for the condition on arrival, and its first
+    /// criterion; `None` where all steps pass.
     pub first: Option<(u32, Criterion)>,
 }
 
-/// A report that is made and not yet written. Its text stays in its parts, since a text of all lines would take as much memory again.
+/// A report that is made and not yet written. Its text stays in its parts, since a text of all
+/// lines would take as much memory again.
 #[derive(Debug, Drop)]
 pub struct CompleteReport {
     heading: String,
@@ -35,9 +39,14 @@ impl Model for CompleteReport {
 
     ghost Value = { Outcome };
 
-    ghost view = { λ f. record { text = string_bytes f.heading ++ (text_in f.sections.items ++ string_bytes f.last); summary = f.summary } };
+    ghost view = { λ f. record {
+      text = string_bytes f.heading ++ (text_in f.sections.items ++ string_bytes f.last);
+      summary = f.summary;
+    } };
 
-    ghost invariant = { λ f. length (string_bytes f.heading ++ (text_in f.sections.items ++ string_bytes f.last)) ≤ 18446744073709551615 };
+    ghost invariant = { λ f.
+        length (string_bytes f.heading ++ (text_in f.sections.items ++ string_bytes f.last))
+        ≤ 18446744073709551615 };
 }
 
 /// The first step that fails in these sections, with its first criterion.
@@ -64,7 +73,8 @@ fn bytes_in(sections: &[Section]) -> Option<usize>
 
 /// Whether the bytes of a whole text can be counted.
 fn is_countable(heading: usize, sections: &[Section], last: usize) -> bool
-    ensures { result ≡ true → heading + (length (text_in sections.now) + last) ≤ 18446744073709551615 }
+    ensures { result ≡ true
+        → heading + (length (text_in sections.now) + last) ≤ 18446744073709551615 }
 {
     let Some(bytes) = bytes_in(sections) else {
         return false;
@@ -75,8 +85,8 @@ fn is_countable(heading: usize, sections: &[Section], last: usize) -> bool
     heading.checked_add(rest).is_some()
 }
 
-/// Writes a heading, the texts of sections in their order and a last line, or says how many bytes of all these the sink took before it
-/// failed.
+/// Writes a heading, the texts of sections in their order and a last line, or says how many bytes
+/// of all these the sink took before it failed.
 fn put_parts<S: Sink>(
     sink: &mut S,
     heading: &str,
@@ -108,7 +118,8 @@ fn put_parts<S: Sink>(
 }
 
 impl CompleteReport {
-    /// The report of these sections in their order, which have `lines` lines, between the heading and the last line.
+    /// The report of these sections in their order, which have `lines` lines, between the heading
+    /// and the last line.
     pub fn join(
         alloc: Global,
         sections: Vec<Section>,
@@ -138,7 +149,8 @@ impl CompleteReport {
     /// Writes the whole text, or says how many bytes of it the sink took before it failed.
     pub fn put_into<S: Sink>(&self, sink: &mut S) -> Result<(), usize>
         requires { S.has_failed sink.old ≡ false }
-        ensures ok { OnOk result (Appends (S.contents sink.old) (S.contents sink.new) self.now.text) }
+        ensures ok { OnOk result
+            (Appends (S.contents sink.old) (S.contents sink.new) self.now.text) }
         ensures err { IfErr result
             (λ n. Appends (S.contents sink.old) (S.contents sink.new) (take n self.now.text)) }
         ensures err_short { IfErr result (λ n. n < length self.now.text) }

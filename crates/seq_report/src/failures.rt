@@ -1,7 +1,8 @@
 ghost use Rattle.std.specs.Prelude.{◌≡◌, ℕ, ◌≤◌, length, false, true, IfOk, IfErr, Ok, Err};
 ghost use Rattle.prefix_scan.specs.declared.divisions.CutFault.{CutFault as CutFaultValue};
 ghost use Rattle.run_inputs.specs.Readings.{HasArrived, IsMade};
-ghost use Rattle.seq_report.specs.Cases.{IsArrivalTotal, IsFirstStep, IsReady, case_on, outcome_in, seen};
+ghost use Rattle.seq_report.specs.Cases.{IsArrivalTotal, IsFirstStep, IsReady, case_on, outcome_in};
+ghost use Rattle.seq_report.specs.Cases.{case_in_view};
 ghost use Rattle.seq_report.specs.Plans.{Fits, IsPlanFault};
 ghost use Rattle.run_inputs.specs.Refusals.{TellsMemory, is_refusal, is_write};
 ghost use Rattle.seq_report.specs.Refusal.{Outcome, outcome_of};
@@ -22,10 +23,11 @@ use std::sync::Wait;
 use std::thread::Threads;
 use strength::Hull;
 
-/// The first step that fails, with its criterion, where the least step that fails in any chunk is known.
+/// The first step that fails, with its criterion, where the least step that fails in any chunk is
+/// known.
 fn first_with(lines: &Lines<'_>, least: u32) -> Option<(u32, Criterion)>
-    requires { IsFirstStep (seen lines.now.case) lines.now.cuts.now least }
-    ensures { result ≡ (outcome_in (seen lines.now.case)).summary.first }
+    requires { IsFirstStep (case_in_view lines.now.case) lines.now.cuts.now least }
+    ensures { result ≡ (outcome_in (case_in_view lines.now.case)).summary.first }
 {
     for chunk in 0..lines.chunks() {
         if least < lines.cuts.range(chunk as usize).end {
@@ -35,8 +37,8 @@ fn first_with(lines: &Lines<'_>, least: u32) -> Option<(u32, Criterion)>
     None
 }
 
-/// The first step that fails, with its criterion. Workers look at the chunks, and leave out those that begin behind a step that is known
-/// to fail.
+/// The first step that fails, with its criterion. Workers look at the chunks, and leave out those
+/// that begin behind a step that is known to fail.
 fn first_in_chunks<G: Gate, R: Threads + Wait + Sync>(
     rt: &R,
     alloc: Global,
@@ -44,7 +46,8 @@ fn first_in_chunks<G: Gate, R: Threads + Wait + Sync>(
     workers: Workers,
     lines: &Lines<'_>,
 ) -> Result<Option<(u32, Criterion)>, AllocError>
-    ensures { IfOk result (λ first. first ≡ (outcome_in (seen lines.now.case)).summary.first) }
+    ensures { IfOk result
+        (λ first. first ≡ (outcome_in (case_in_view lines.now.case)).summary.first) }
 {
     match run_least(rt, alloc, gate, workers, lines.chunks(), lines)? {
         Some(least) => Ok(first_with(lines, least)),
@@ -52,11 +55,14 @@ fn first_in_chunks<G: Gate, R: Threads + Wait + Sync>(
     }
 }
 
-/// The first step that fails, 0 being the condition on arrival, with its first criterion, as the report on the inputs names it; `None` where all
-/// steps pass. It is the same for every number of workers, every gate and every cut, and lines behind a step that is known to fail may be left out.
+/// The first step that fails, 0 being the condition on arrival, with its first criterion, as the
+/// report on the inputs names it; `None` where all steps pass. It is the same for every number of
+/// workers, every gate and every cut, and lines behind a step that is known to fail may be left
+/// out.
 ///
-/// The inputs are refused in the order profile (F1), bay plan (F2), arrival (F3), movement instruction (F4), steps file
-/// (F9), sequence (F5), and then cuts that don't fit the lines (F6). Out of memory (F7) may stand for any refusal.
+/// The inputs are refused in the order profile (F1), bay plan (F2), arrival (F3), movement
+/// instruction (F4), steps file (F9), sequence (F5), and then cuts that don't fit the lines (F6).
+/// Out of memory (F7) may stand for any refusal.
 pub fn first_fail<G: Gate, R: Threads + Wait + Sync>(
     rt: &R,
     alloc: Global,
@@ -90,8 +96,9 @@ pub fn first_fail<G: Gate, R: Threads + Wait + Sync>(
     }
 }
 
-/// The first step that fails of a sequence that was made with this profile and arrival, 0 being the condition on arrival, with its first criterion,
-/// as a report on it names it; `None` where all steps pass. `total` is everything that is aboard on arrival, added up.
+/// The first step that fails of a sequence that was made with this profile and arrival, 0 being the
+/// condition on arrival, with its first criterion, as a report on it names it; `None` where all
+/// steps pass. `total` is everything that is aboard on arrival, added up.
 pub fn first_fail_from(
     profile: &Profile,
     arrival: &Arrival,
@@ -115,9 +122,9 @@ pub fn first_fail_from(
 
 /// The first step that fails of a case that is ready for a report, with its first criterion.
 fn first_of_case(case: CaseView<'_>, total: &Totals) -> Option<(u32, Criterion)>
-    requires ready { IsReady (seen case) }
+    requires ready { IsReady (case_in_view case) }
     requires total { IsArrivalTotal case.profile.now case.arrival.now total.now }
-    ensures { result ≡ (outcome_in (seen case.entry)).summary.first }
+    ensures { result ≡ (outcome_in (case_in_view case.entry)).summary.first }
 {
     let whole = Chunk {
         start: 0,

@@ -3,7 +3,7 @@ ghost use Rattle.std.proofs.Props.{props};
 ghost use Rattle.std.specs.List.{range_with_len};
 ghost use Rattle.prefix_scan.specs.Cut.{Divides, start_of};
 ghost use Rattle.strength.specs.Hull.{IsHullOf};
-ghost use Rattle.seq_report.specs.Cases.{IsChunk, IsReady, line_in, lines_in, seen};
+ghost use Rattle.seq_report.specs.Cases.{IsChunk, IsReady, line_in, lines_in, case_in_view};
 ghost use Rattle.seq_report.specs.Chunks.{AreFirstSums, chunk_of};
 ghost use Rattle.seq_report.specs.Report.{first_of};
 
@@ -24,7 +24,7 @@ use strength::Hull;
 pub struct Changes<'a> {
     pub case: CaseView<'a>,
     pub cuts: &'a Cuts,
-    pub ghost ready: { IsReady (seen case) },
+    pub ghost ready: { IsReady (case_in_view case) },
     pub ghost cut: { Divides cuts.now (length case.sequence.now.ops + 1) },
 }
 
@@ -34,7 +34,8 @@ impl<'a> Job for Changes<'a> {
 
     type Out = Totals;
 
-    ghost value = { λ s k. changes_behind s.case.profile.now.ship.frames s.case.sequence.now.steps (chunk_of s.cuts.now k) };
+    ghost value = { λ s k. changes_behind s.case.profile.now.ship.frames
+        s.case.sequence.now.steps (chunk_of s.cuts.now k) };
 
     ghost pieces = { λ s. length s.cuts.now };
 
@@ -52,10 +53,11 @@ pub struct Lines<'a> {
     pub cuts: &'a Cuts,
     /// The sum at the first line of each chunk.
     pub sums: &'a [Totals],
-    pub ghost ready: { IsReady (seen case) },
+    pub ghost ready: { IsReady (case_in_view case) },
     pub ghost of: { IsHullOf hull case.profile.now.ship } by { Prim.hlevel props },
     pub ghost cut: { Divides cuts.now (length case.sequence.now.ops + 1) },
-    pub ghost sum: { AreFirstSums case.profile.now.ship.frames case.arrival.now.bodies case.sequence.now.steps cuts.now sums.now },
+    pub ghost sum: { AreFirstSums case.profile.now.ship.frames case.arrival.now.bodies
+        case.sequence.now.steps cuts.now sums.now },
 }
 
 /// The text of the lines of each chunk, as a job for workers.
@@ -68,12 +70,13 @@ pub struct Texts<'a> {
 
 impl<'a> Job for Texts<'a> {
     ghost use Rattle.std.specs.Prelude.{length, map};
-    ghost use Rattle.seq_report.specs.Cases.{line_in, seen};
+    ghost use Rattle.seq_report.specs.Cases.{line_in, case_in_view};
     ghost use Rattle.seq_report.specs.Chunks.{chunk_of, part_of};
 
     type Out = Section;
 
-    ghost value = { λ s k. part_of (map (line_in (seen s.lines.now.case)) (chunk_of s.lines.now.cuts.now k)) };
+    ghost value = { λ s k. part_of (map (line_in (case_in_view s.lines.now.case))
+        (chunk_of s.lines.now.cuts.now k)) };
 
     ghost pieces = { λ s. length s.lines.now.cuts.now };
 
@@ -92,16 +95,17 @@ impl<'a> Job for Texts<'a> {
 impl<'a> Scout for Lines<'a> {
     ghost use Rattle.std.specs.Prelude.{length};
     ghost use Rattle.prefix_scan.specs.Cut.{start_of};
-    ghost use Rattle.seq_report.specs.Cases.{first_step_in, seen};
+    ghost use Rattle.seq_report.specs.Cases.{first_step_in, case_in_view};
     ghost use Rattle.seq_report.specs.Firsts.{steps_within};
 
     ghost begins = { λ s k. start_of s.cuts.now k };
 
-    ghost finds = { λ s k. first_step_in (seen s.case) s.cuts.now k };
+    ghost finds = { λ s k. first_step_in (case_in_view s.case) s.cuts.now k };
 
     ghost pieces = { λ s. length s.cuts.now };
 
-    ghost within = { λ s k step. steps_within (seen s.case) s.cuts.now s.ready.few s.cut k step };
+    ghost within = { λ s k step. steps_within (case_in_view s.case) s.cuts.now s.ready.few s.cut k
+        step };
 
     fn begin(&self, k: u32) -> u32 {
         lines_of(self.case, self.cuts, k).start
@@ -118,7 +122,7 @@ impl<'a> Lines<'a> {
     fn chunk(&self, k: u32) -> Chunk
         requires { k < length self.now.cuts.now }
         ensures lines { lines_in result ≡ chunk_of self.now.cuts.now k }
-        ensures chunk { IsChunk (seen self.now.case) result }
+        ensures chunk { IsChunk (case_in_view self.now.case) result }
     {
         let lines = lines_of(self.case, self.cuts, k);
         Chunk {
@@ -132,7 +136,7 @@ impl<'a> Lines<'a> {
     pub fn first_in(&self, k: u32) -> Option<(u32, Criterion)>
         requires { k < length self.now.cuts.now }
         ensures { result ≡ first_of
-            (map (line_in (seen self.now.case)) (chunk_of self.now.cuts.now k)) }
+            (map (line_in (case_in_view self.now.case)) (chunk_of self.now.cuts.now k)) }
     {
         first_failing(self.case, &self.hull, &self.chunk(k))
     }

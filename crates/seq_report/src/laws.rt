@@ -5,9 +5,11 @@ use lift_sequence::{Arrival, Sequence};
 use run_inputs::{items_are_light, ops_are_light};
 use ship_profile::Profile;
 
-/// What is aboard after the first k steps of a list that can be done, added up from scratch, is in every value the fold of what is aboard on arrival
-/// joined with the prefix of what these steps change, and bounded; and for every cut of the lines it is the arrival joined with a chunk's offset
-/// and the running prefix inside that chunk. A law over the definitions: the calls only show that no container is heavier than its type allows.
+/// What is aboard after the first k steps of a list that can be done, added up from scratch, is in
+/// every value the fold of what is aboard on arrival joined with the prefix of what these steps
+/// change, and bounded; and for every cut of the lines it is the arrival joined with a chunk's
+/// offset and the running prefix inside that chunk. A law over the definitions: the calls only show
+/// that no container is heavier than its type allows.
 pub fn sums_are_folds(profile: &Profile, arrival: &Arrival, sequence: &Sequence)
     requires arrived { HasArrived profile.now arrival.now }
     requires made { IsMade profile.now arrival.now sequence.now }

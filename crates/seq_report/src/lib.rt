@@ -1,5 +1,6 @@
-//! The report: what the ship's files, the bay plan, the movement instruction and the planner's steps say of every step, written line by
-//! line to a sink, with the first step that fails and every refusal in a fixed order.
+//! The report: what the ship's files, the bay plan, the movement instruction and the planner's
+//! steps say of every step, written line by line to a sink, with the first step that fails and
+//! every refusal in a fixed order.
 #![tactic(auto)]
 
 mod cases;

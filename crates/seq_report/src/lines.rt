@@ -1,10 +1,13 @@
-ghost use Rattle.std.specs.Prelude.{◌≡◌, ◌+◌, ◌++◌, ◌≤◌, OnOk, codes, length, string_bytes, option_map};
+ghost use Rattle.std.specs.Prelude.{◌≡◌, ◌+◌, ◌++◌, ◌≤◌, OnOk, codes, length, string_bytes};
+ghost use Rattle.std.specs.Prelude.{option_map};
 ghost use Rattle.moment_sums.specs.Bounded.{IsBounded};
 ghost use Rattle.moment_sums.specs.Kept.{values};
 ghost use Rattle.strength.specs.Hull.{IsHullOf};
 ghost use Rattle.criteria.specs.Criteria.{code_of};
-ghost use Rattle.criteria.specs.Judgement.{told_with};
-ghost use Rattle.seq_report.specs.Report.{cause_of, failure_of, first_failed, header_of, judged_headings, judged_text, last_line, line_of, said, step_line, verdict_text};
+ghost use Rattle.criteria.specs.Judgement.{judgement_by};
+ghost use Rattle.seq_report.specs.Report.{cause_of, failure_of, first_failed, header_of};
+ghost use Rattle.seq_report.specs.Report.{judged_headings, judged_text, last_line, line_of};
+ghost use Rattle.seq_report.specs.Report.{statement_of, step_line, verdict_text};
 
 use crate::causes::cause;
 use crate::columns::{put_figures, write_headings};
@@ -32,8 +35,8 @@ impl StepLine {
         }
     }
 
-    /// Makes it the line of a step at which everything aboard adds up to this. Figures are written where they are, since a move of them is a copy of
-    /// 700 bytes.
+    /// Makes it the line of a step at which everything aboard adds up to this. Figures are written
+    /// where they are, since a move of them is a copy of 700 bytes.
     pub fn judge(
         &mut self,
         profile: &Profile,
@@ -44,7 +47,7 @@ impl StepLine {
     )
         requires of { IsHullOf hull.now profile.now.ship }
         requires bounded { IsBounded (values sum.now) }
-        ensures { said self.new ≡ step_line profile.now step (values sum.now) }
+        ensures { statement_of self.new ≡ step_line profile.now step (values sum.now) }
     {
         self.step = step;
         self.kg = sum.kg();
@@ -54,7 +57,7 @@ impl StepLine {
 
     /// The step, where it fails, with its first criterion.
     pub fn failure(&self) -> Option<(u32, Criterion)>
-        ensures { result ≡ failure_of (said self.now) }
+        ensures { result ≡ failure_of (statement_of self.now) }
     {
         let criterion = first_failed(self)?;
         Some((self.step, criterion))
@@ -63,7 +66,7 @@ impl StepLine {
 
 /// The first criterion that a step fails, which is C0 outside of the tables.
 fn first_failed(line: &StepLine) -> Option<Criterion>
-    ensures { result ≡ first_failed (told_with line.now.judged line.now.figures) }
+    ensures { result ≡ first_failed (judgement_by line.now.judged line.now.figures) }
 {
     match line.judged {
         Err(_) => Some(Criterion::C0),
@@ -109,11 +112,12 @@ fn put_outside(end: &mut BackwardText<'_>, outside: Outside)
     end.put_words(" OUTSIDE ");
 }
 
-/// Writes how a step is judged before the end of its line: its figures and the verdict, or what lies outside of the
-/// tables.
+/// Writes how a step is judged before the end of its line: its figures and the verdict, or what
+/// lies outside of the tables.
 fn put_verdict(end: &mut BackwardText<'_>, line: &StepLine)
     requires room { length end.old + 1813 ≤ 2048 }
-    ensures text { end.new ≡ verdict_text line.now.frames (told_with line.now.judged line.now.figures) ++ end.old }
+    ensures text { end.new ≡ verdict_text line.now.frames
+        (judgement_by line.now.judged line.now.figures) ++ end.old }
     ensures short { length end.new ≤ length end.old + 1813 }
 {
     match line.judged {
@@ -133,7 +137,7 @@ fn put_verdict(end: &mut BackwardText<'_>, line: &StepLine)
 /// text.
 fn put_judged(end: &mut BackwardText<'_>, line: &StepLine)
     requires room { length end.old + 1855 ≤ 2048 }
-    ensures text { end.new ≡ judged_text (said line.now) ++ end.old }
+    ensures text { end.new ≡ judged_text (statement_of line.now) ++ end.old }
     ensures short { length end.new ≤ length end.old + 1855 }
 {
     end.put_byte(b'\n');
@@ -144,7 +148,7 @@ fn put_judged(end: &mut BackwardText<'_>, line: &StepLine)
 /// Writes the line of a step, with the lift that leads to it, to `end`, in place of what `end` held
 /// before.
 fn put_line(end: &mut BackwardText<'_>, lift: Option<&Op>, line: &StepLine)
-    ensures { end.new ≡ line_of (option_map (λ op. op.now) lift.entry) (said line.now) }
+    ensures { end.new ≡ line_of (option_map (λ op. op.now) lift.entry) (statement_of line.now) }
 {
     end.clear();
     put_judged(end, line);
@@ -153,7 +157,8 @@ fn put_line(end: &mut BackwardText<'_>, lift: Option<&Op>, line: &StepLine)
     end.put_natural(u64::from(line.step));
 }
 
-/// Writes the line of a step, with the lift that leads to it. The line is built in `end`, whatever that held before.
+/// Writes the line of a step, with the lift that leads to it. The line is built in `end`, whatever
+/// that held before.
 pub fn write_line(
     text: &mut String,
     end: &mut BackwardText<'_>,
@@ -161,7 +166,8 @@ pub fn write_line(
     line: &StepLine,
 ) -> Result<(), AllocError>
     ensures { OnOk result (string_bytes text.new
-        ≡ string_bytes text.old ++ line_of (option_map (λ op. op.now) lift.entry) (said line.now)) }
+        ≡ string_bytes text.old
+        ++ line_of (option_map (λ op. op.now) lift.entry) (statement_of line.now)) }
 {
     put_line(end, lift, line);
     end.append_to(text)

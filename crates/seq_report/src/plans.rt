@@ -14,7 +14,8 @@ use std::alloc::Global;
 pub enum CutPlan<'a> {
     /// Chunks of this number of lines, the last with what is left.
     Every(u32),
-    /// Chunks that end before these lines, the first line being 0; the last end is the number of lines.
+    /// Chunks that end before these lines, the first line being 0; the last end is the number of
+    /// lines.
     At(&'a [u32]),
 }
 

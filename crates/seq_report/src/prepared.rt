@@ -1,7 +1,7 @@
 ghost use Rattle.std.specs.Prelude.{◌≡◌, ℕ, ◌+◌, length, false, true, IfOk, IfErr, Ok, Err};
 ghost use Rattle.prefix_scan.specs.Cut.{Divides};
 ghost use Rattle.prefix_scan.specs.declared.divisions.CutFault.{CutFault as CutFaultValue};
-ghost use Rattle.seq_report.specs.Cases.{IsReady, outcome_in, seen};
+ghost use Rattle.seq_report.specs.Cases.{IsReady, outcome_in, case_in_view};
 ghost use Rattle.seq_report.specs.Chunks.{AreFirstSums};
 ghost use Rattle.seq_report.specs.Plans.{Fits, IsPlanFault};
 ghost use Rattle.run_inputs.specs.Refusals.{TellsMemory, is_refusal, is_write};
@@ -19,7 +19,8 @@ use std::alloc::{AllocError, Global};
 use std::sync::Wait;
 use std::thread::Threads;
 
-/// A case whose lines are cut into chunks, with everything that is aboard at the first line of each chunk, added up.
+/// A case whose lines are cut into chunks, with everything that is aboard at the first line of each
+/// chunk, added up.
 #[derive(Drop)]
 pub struct Prepared {
     pub case: Case,
@@ -27,7 +28,8 @@ pub struct Prepared {
     pub sums: Vec<Totals>,
     pub ghost ready: { IsReady case },
     pub ghost cut: { Divides cuts (length case.sequence.ops + 1) },
-    pub ghost sum: { AreFirstSums case.profile.ship.frames case.arrival.bodies case.sequence.steps cuts sums.items },
+    pub ghost sum: { AreFirstSums case.profile.ship.frames case.arrival.bodies case.sequence.steps
+        cuts sums.items },
 }
 
 /// The sum at the first line of each chunk. Workers add up what changes in each chunk.
@@ -69,7 +71,8 @@ fn sums_of<G: Gate, R: Threads + Wait + Sync>(
     first_sums(rt, alloc, gate, workers, &changes)
 }
 
-/// The cuts that a plan makes of a case's lines, and the sum at the first line of each chunk; or the fault of the plan.
+/// The cuts that a plan makes of a case's lines, and the sum at the first line of each chunk; or
+/// the fault of the plan.
 fn chunked<G: Gate, R: Threads + Wait + Sync>(
     rt: &R,
     alloc: Global,

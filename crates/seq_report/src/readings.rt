@@ -77,7 +77,8 @@ fn start_moves<'s, E>(
     Ok(started?)
 }
 
-/// The profile that the texts of these files write, in the order of [`ProfileBytes`]; the last counts where there is such a file.
+/// The profile that the texts of these files write, in the order of [`ProfileBytes`]; the last
+/// counts where there is such a file.
 fn ship_by(
     alloc: Global,
     ship_text: &[u8],
@@ -110,8 +111,9 @@ fn ship_by(
     ship(alloc, &inputs)
 }
 
-/// The texts of a profile's files, of a bay plan and of a movement instruction, read beside one another. The closure takes plain slices, which this
-/// function has by themselves: of what a closure answers that takes a value with a lifetime in its type nothing is known.
+/// The texts of a profile's files, of a bay plan and of a movement instruction, read beside one
+/// another. The closure takes plain slices, which this function has by themselves: of what a
+/// closure answers that takes a value with a lifetime in its type nothing is known.
 fn read_texts<R: Threads + Wait + Sync>(
     rt: &R,
     alloc: Global,
@@ -134,7 +136,8 @@ fn read_texts<R: Threads + Wait + Sync>(
         thread::scope_env(),
         rt,
         |scope| -> Result<Readings, AllocError>
-            ensures { IfOk result (λ read. AreAllRead read (texts_by ship_text.entry.now cells.entry.now
+            ensures { IfOk result (λ read. AreAllRead read
+                (texts_by ship_text.entry.now cells.entry.now
                 hydro.entry.now kn.entry.now bonjean.entry.now tanks.entry.now gm.entry.now has_gm)
                 plan.entry.now moves.entry.now) }
         {
@@ -159,9 +162,10 @@ fn read_texts<R: Threads + Wait + Sync>(
     )
 }
 
-/// The inputs, read in two threads: the movement instruction, which takes about as long as the others together, beside the profile and then the bay
-/// plan, which are read in this thread; with `apart` in three, the bay plan in a thread of its own too. None of them depends on another. An error where
-/// a thread isn't started.
+/// The inputs, read in two threads: the movement instruction, which takes about as long as the
+/// others together, beside the profile and then the bay plan, which are read in this thread; with
+/// `apart` in three, the bay plan in a thread of its own too. None of them depends on another. An
+/// error where a thread isn't started.
 pub fn read_beside<R: Threads + Wait + Sync>(
     rt: &R,
     alloc: Global,

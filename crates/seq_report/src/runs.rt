@@ -1,12 +1,14 @@
-ghost use Rattle.std.specs.Prelude.{◌≡◌, ◌≢◌, ℕ, ◌+◌, ◌<◌, ◌≤◌, length, take, false, true, IfOk, IfErr, Ok, Err};
+ghost use Rattle.std.specs.Prelude.{◌≡◌, ◌≢◌, ℕ, ◌+◌, ◌<◌, ◌≤◌, length, take, false, true, IfOk};
+ghost use Rattle.std.specs.Prelude.{IfErr, Ok, Err};
 ghost use Rattle.std.specs.Io.KnownBytes.{Appends};
 ghost use Rattle.prefix_scan.specs.Cut.{Divides};
 ghost use Rattle.prefix_scan.specs.declared.divisions.CutFault.{CutFault as CutFaultValue};
 ghost use Rattle.run_inputs.specs.Readings.{HasArrived, IsMade};
-ghost use Rattle.seq_report.specs.Cases.{IsReady, case_on, outcome_in, seen};
+ghost use Rattle.seq_report.specs.Cases.{IsReady, case_on, outcome_in, case_in_view};
 ghost use Rattle.seq_report.specs.Chunks.{AreFirstSums};
 ghost use Rattle.seq_report.specs.Plans.{Fits, IsPlanFault};
-ghost use Rattle.run_inputs.specs.Refusals.{IsOfRun, TellsMemory, is_refusal, is_write, is_write_fault};
+ghost use Rattle.run_inputs.specs.Refusals.{IsOfRun, TellsMemory, is_refusal, is_write};
+ghost use Rattle.run_inputs.specs.Refusals.{is_write_fault};
 ghost use Rattle.seq_report.specs.Refusal.{Outcome, outcome_of};
 
 use crate::cases::CaseView;
@@ -35,7 +37,7 @@ fn report_in_chunks<G: Gate, R: Threads + Wait + Sync>(
     workers: Workers,
     lines: &Lines<'_>,
 ) -> Result<CompleteReport, AllocError>
-    ensures { IfOk result (λ made. made ≡ outcome_in (seen lines.now.case)) }
+    ensures { IfOk result (λ made. made ≡ outcome_in (case_in_view lines.now.case)) }
 {
     let digits = FourDigits::new(alloc)?;
     let texts = Texts { lines, digits };
@@ -59,7 +61,8 @@ fn put_report<S: Sink>(made: &CompleteReport, sink: &mut S) -> Result<Summary, R
     }
 }
 
-/// Writes the report on a case that is ready for it, from the sums at the first lines of its chunks.
+/// Writes the report on a case that is ready for it, from the sums at the first lines of its
+/// chunks.
 fn report_ready<'a, G: Gate, R: Threads + Wait + Sync, S: Sink>(
     rt: &R,
     alloc: Global,
@@ -90,7 +93,8 @@ fn report_ready<'a, G: Gate, R: Threads + Wait + Sync, S: Sink>(
         → (m < length
         (outcome_in (case_on profile.entry.now arrival.entry.now sequence.entry.now)).text)
         × Appends (S.contents sink.old) (S.contents sink.new)
-        (take m (outcome_in (case_on profile.entry.now arrival.entry.now sequence.entry.now)).text)) }
+        (take m
+        (outcome_in (case_on profile.entry.now arrival.entry.now sequence.entry.now)).text)) }
 {
     let lines = Lines {
         case: CaseView {
@@ -108,11 +112,13 @@ fn report_ready<'a, G: Gate, R: Threads + Wait + Sync, S: Sink>(
     }
 }
 
-/// Writes the report on a ship, what is aboard of her on arrival and the steps from there to a sink that has not failed. The sequence is
-/// one that was made with this profile and arrival, the cuts divide its lines (the condition on arrival and one line for each step), and
-/// `sums` has, for each chunk, everything that is aboard at its first line added up.
+/// Writes the report on a ship, what is aboard of her on arrival and the steps from there to a sink
+/// that has not failed. The sequence is one that was made with this profile and arrival, the cuts
+/// divide its lines (the condition on arrival and one line for each step), and `sums` has, for each
+/// chunk, everything that is aboard at its first line added up.
 ///
-/// Nothing is written out of memory (F7). Where the sink fails, it holds a prefix of the report, of the length that F8 says.
+/// Nothing is written out of memory (F7). Where the sink fails, it holds a prefix of the report, of
+/// the length that F8 says.
 pub fn report_from<'a, G: Gate, R: Threads + Wait + Sync, S: Sink>(
     rt: &R,
     alloc: Global,
@@ -144,7 +150,8 @@ pub fn report_from<'a, G: Gate, R: Threads + Wait + Sync, S: Sink>(
         → (m < length
         (outcome_in (case_on profile.entry.now arrival.entry.now sequence.entry.now)).text)
         × Appends (S.contents sink.old) (S.contents sink.new)
-        (take m (outcome_in (case_on profile.entry.now arrival.entry.now sequence.entry.now)).text)) }
+        (take m
+        (outcome_in (case_on profile.entry.now arrival.entry.now sequence.entry.now)).text)) }
 {
     items_are_light(arrival.items());
     ops_are_light(sequence.ops());
@@ -188,13 +195,16 @@ fn report_prepared<G: Gate, R: Threads + Wait + Sync, S: Sink>(
     )
 }
 
-/// Writes the report on the inputs to a sink that has not failed. What is written follows from the input bytes
-/// alone, whatever the number of workers, the gate and the cuts: the heading; the line of the condition on arrival and of each step behind it, whose
-/// figures come from adding up everything that is aboard at that step; and the first step that fails, with its first criterion.
+/// Writes the report on the inputs to a sink that has not failed. What is written follows from the
+/// input bytes alone, whatever the number of workers, the gate and the cuts: the heading; the line
+/// of the condition on arrival and of each step behind it, whose figures come from adding up
+/// everything that is aboard at that step; and the first step that fails, with its first criterion.
 ///
-/// The inputs are refused in the order profile (F1), bay plan (F2), arrival (F3), movement instruction (F4), steps file
-/// (F9), sequence (F5), and then cuts that don't fit the lines (F6). Nothing is written then, nor out of memory (F7), which may stand for any refusal; a
-/// worker that can't be started is reported as F7 too. Where the sink fails, it holds a prefix of the report, of the length that F8 says.
+/// The inputs are refused in the order profile (F1), bay plan (F2), arrival (F3), movement
+/// instruction (F4), steps file (F9), sequence (F5), and then cuts that don't fit the lines (F6).
+/// Nothing is written then, nor out of memory (F7), which may stand for any refusal; a worker that
+/// can't be started is reported as F7 too. Where the sink fails, it holds a prefix of the report,
+/// of the length that F8 says.
 pub fn report<G: Gate, R: Threads + Wait + Sync, S: Sink>(
     rt: &R,
     alloc: Global,

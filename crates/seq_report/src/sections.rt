@@ -1,9 +1,9 @@
 ghost use Rattle.std.specs.Prelude.{◌≡◌, ◌++◌, [], map, IfOk, OnOk, None, option_map};
 ghost use Rattle.std.specs.Option.{option_or};
 ghost use Rattle.strength.specs.Hull.{IsHullOf};
-ghost use Rattle.seq_report.specs.Cases.{IsChunk, IsReady, line_in, lines_in, seen};
+ghost use Rattle.seq_report.specs.Cases.{IsChunk, IsReady, line_in, lines_in, case_in_view};
 ghost use Rattle.seq_report.specs.Chunks.{part_of};
-ghost use Rattle.seq_report.specs.Report.{failure_of, first_of, line_of, said};
+ghost use Rattle.seq_report.specs.Report.{failure_of, first_of, line_of, statement_of};
 
 use crate::cases::CaseView;
 use crate::chunks::pass_line;
@@ -53,8 +53,9 @@ impl Section {
         line: &StepLine,
     ) -> Result<(), AllocError>
         ensures { OnOk result (self.new ≡ record {
-          text = self.old.text ++ line_of (option_map (λ op. op.now) lift.entry) (said line.now);
-          first = option_or self.old.first (failure_of (said line.now));
+          text = self.old.text
+              ++ line_of (option_map (λ op. op.now) lift.entry) (statement_of line.now);
+          first = option_or self.old.first (failure_of (statement_of line.now));
         }) }
     {
         write_line(&mut self.text, end, lift, line)?;
@@ -88,7 +89,8 @@ pub struct Chunk {
     pub first: Totals,
 }
 
-/// About how many bytes a line of this ship's report has: reserving them saves copies, and a longer text grows.
+/// About how many bytes a line of this ship's report has: reserving them saves copies, and a longer
+/// text grows.
 fn line_room(profile: &Profile) -> usize {
     100 + 24 * profile.frames().as_slice().len()
 }
@@ -101,11 +103,11 @@ pub fn make_section(
     digits: &FourDigits,
     chunk: &Chunk,
 ) -> Result<Section, AllocError>
-    requires ready { IsReady (seen case) }
+    requires ready { IsReady (case_in_view case) }
     requires of { IsHullOf hull.now case.profile.now.ship }
-    requires chunk { IsChunk (seen case) chunk.now }
+    requires chunk { IsChunk (case_in_view case) chunk.now }
     ensures { IfOk result
-        (λ s. s ≡ part_of (map (line_in (seen case.entry)) (lines_in chunk.now))) }
+        (λ s. s ≡ part_of (map (line_in (case_in_view case.entry)) (lines_in chunk.now))) }
 {
     let lines = chunk.end.saturating_sub(chunk.start) as usize;
     let mut section = Section::new(alloc, lines.saturating_mul(line_room(case.profile)))?;
@@ -123,10 +125,10 @@ pub fn make_section(
 
 /// The first line of a chunk that fails, with its first criterion.
 pub fn first_failing(case: CaseView<'_>, hull: &Hull, chunk: &Chunk) -> Option<(u32, Criterion)>
-    requires ready { IsReady (seen case) }
+    requires ready { IsReady (case_in_view case) }
     requires of { IsHullOf hull.now case.profile.now.ship }
-    requires chunk { IsChunk (seen case) chunk.now }
-    ensures { result ≡ first_of (map (line_in (seen case.entry)) (lines_in chunk.now)) }
+    requires chunk { IsChunk (case_in_view case) chunk.now }
+    ensures { result ≡ first_of (map (line_in (case_in_view case.entry)) (lines_in chunk.now)) }
 {
     let mut sum = chunk.first;
     let mut near = Nearby::default();

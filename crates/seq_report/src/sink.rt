@@ -1,4 +1,5 @@
-ghost use Rattle.std.specs.Prelude.{◌≡◌, ℕ, ◌+◌, ◌<◌, ◌≤◌, length, take, List, Bool, Option, true, false, IfOk, IfErr, OnOk, is_err};
+ghost use Rattle.std.specs.Prelude.{◌≡◌, ℕ, ◌+◌, ◌<◌, ◌≤◌, length, take, List, Bool, Option, true};
+ghost use Rattle.std.specs.Prelude.{false, IfOk, IfErr, OnOk, is_err};
 ghost use Rattle.std.specs.Io.KnownBytes.{Appends, WriteAppends};
 
 use std::io::Write;
@@ -15,7 +16,8 @@ pub trait Sink {
     // It has failed, and takes no more.
     ghost has_failed: { Self → Bool };
 
-    /// Takes the first bytes of `bytes`, at least one, and says how many; or it fails for good, and takes none.
+    /// Takes the first bytes of `bytes`, at least one, and says how many; or it fails for good, and
+    /// takes none.
     fn put(&mut self, bytes: &[u8]) -> Result<usize, SinkFailed>
         requires some { 0 < length bytes.now }
         requires sound { has_failed self.old ≡ false }
@@ -29,7 +31,8 @@ pub trait Sink {
         ensures { result ≡ has_failed self.now };
 }
 
-/// The sink over a writer. It calls `write` alone, and has failed once a write failed or took no byte.
+/// The sink over a writer. It calls `write` alone, and has failed once a write failed or took no
+/// byte.
 #[derive(Drop)]
 pub struct Through<W: Write + Drop> {
     writer: W,
@@ -99,13 +102,14 @@ pub fn put_all<S: Sink>(sink: &mut S, bytes: &[u8]) -> Result<(), usize>
     Ok(())
 }
 
-/// Writes a part of a text behind its first `before` bytes, which are written already, and returns how many are written then; or, where the
-/// sink fails, how many it took.
+/// Writes a part of a text behind its first `before` bytes, which are written already, and returns
+/// how many are written then; or, where the sink fails, how many it took.
 pub fn put_part<S: Sink>(sink: &mut S, before: usize, part: &[u8]) -> Result<usize, usize>
     requires sound { S.has_failed sink.old ≡ false }
     requires room { before + length part.now ≤ 18446744073709551615 }
     ensures ok { IfOk result (λ put. put ≡ before + length part.now) }
-    ensures all { IfOk result (λ put. Appends (S.contents sink.old) (S.contents sink.new) part.now) }
+    ensures all { IfOk result
+        (λ _. Appends (S.contents sink.old) (S.contents sink.new) part.now) }
     ensures err { IfErr result (λ put. (m : ℕ) × (put ≡ before + m) × (m < length part.now)
         × Appends (S.contents sink.old) (S.contents sink.new) (take m part.now)) }
     ensures failed { S.has_failed sink.new ≡ is_err result }

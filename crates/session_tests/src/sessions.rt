@@ -20,11 +20,13 @@ mod reports;
 const HEADER: &str =
     "STEP LIFT KG GM MEAN AFT FWD TRIM LIST A30 A40 A3040 GZ ANGLE CLOSE FRAMES VERDICT";
 
-// Of the box ship alone: GM = 10,333 - 6,000 mm; a draught of 4 m, on which buoyancy and weight agree everywhere.
+// Of the box ship alone: GM = 10,333 - 6,000 mm; a draught of 4 m, on which buoyancy and weight
+// agree everywhere.
 const EMPTY_LINE: &str =
     "0 - 8200000 4333 4000 4000 4000 0 0 31509 50888 19379 1958 35 0 0/0;0/0;0/0;0/0;0/0 PASS";
 
-/// Behind the number of the step: a container of 20,500 kg to starboard; one aft; and both, the one aft or the one to starboard being the last.
+/// Behind the number of the step: a container of 20,500 kg to starboard; one aft; and both, the one
+/// aft or the one to starboard being the last.
 const STARBOARD: &str =
     "L0030782 8220500 4314 4010 4010 4010 0 46 30861 50020 19158 1936 35 0 0/0;-5125/-64062500;0/-240726375;5125/-64062500;0/0 PASS";
 
@@ -38,8 +40,8 @@ const BOTH: &str =
 const TWO_LOADS: &[u8] =
     b"UNB+UNOA:2+PLAN+SHIP+250101:1200+8'UNH+1+MOVINS:D:95B:UN'HAN+LOA'LOC+147+0030782::5'MEA+WT++KGM:20500'EQD+CN+ABCU1234560'HAN+LOA'LOC+147+0050082::5'MEA+WT++KGM:20500'EQD+CN+ABCU7654321'UNT+10+1'UNZ+1+8'";
 
-/// The box ship with a bay plan and a movement instruction. By itself, since a session that is read of texts which are written out costs its proof
-/// two minutes.
+/// The box ship with a bay plan and a movement instruction. By itself, since a session that is read
+/// of texts which are written out costs its proof two minutes.
 fn inputs<'a>(baplie: &'a [u8], movins: &'a [u8]) -> Inputs<'a> {
     Inputs {
         profile: files(),

@@ -16,7 +16,7 @@ use Rattle.ship_profile.specs.declared.faults.Key.{Key}
 use Rattle.ship_profile.specs.declared.faults.Key.TheVariants as key
 use Rattle.ship_profile.specs.declared.faults.ProfileFault.{ProfileFault}
 use Rattle.ship_profile.specs.declared.faults.ProfileFault.TheVariants.{MissingKey, BadKey, OutOfLimits, NotRising, FrameNotStation, OutsideStations, TooFewRows}
-use Rattle.ship_profile.specs.declared.frames.Frame.{Frame}
+use Rattle.units_core.specs.declared.frames.Frame.{Frame}
 use Rattle.ship_profile.specs.Keys.{items_in, name_of, number_of, number_in_table, length_in_table, text_in_table, table_of, elements_of, elements_at, optional_of}
 use Rattle.units_core.specs.Outcome.{or_fault, demand, within}
 use Rattle.ship_profile.specs.Outcome.{one_by_one}

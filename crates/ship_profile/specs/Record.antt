@@ -1,6 +1,8 @@
--- The profile of a ship: the record that her files write, where every rule of them holds, or else the first fault in the order of the
--- files: `ship.toml` whole, the tables one after another, and then the tanks of the fills.
-use Rattle.std.specs.Prelude.{ℕ, ◌+◌, ◌<◌, ◌≤◌, ◌^◌, Bool, not, nat_eq, List, [], length, map, All, Option, Result, Ok, Err, option_map}
+-- The profile of a ship: the record that her files write, where every rule of them holds, or else
+-- the first fault in the order of the files: `ship.toml` whole, the tables one after another, and
+-- then the tanks of the fills.
+use Rattle.std.specs.Prelude.{ℕ, ◌+◌, ◌<◌, ◌≤◌, ◌^◌, Bool, not, nat_eq, List, [], length, map, All}
+use Rattle.std.specs.Prelude.{Option, Result, Ok, Err, option_map}
 use Rattle.std.specs.List.{list_any, IsDistinct}
 use Rattle.toml.specs.Data.{Members}
 use Rattle.units_core.specs.declared.bodies.Place.{Place}
@@ -17,7 +19,8 @@ use Rattle.ship_profile.specs.Keys.{document_in}
 use Rattle.units_core.specs.Outcome.{◌>>=◌, or_fault, demand}
 use Rattle.ship_profile.specs.Outcome.{one_by_one}
 use Rattle.ship_profile.specs.TableFaults.{as_profile_fault}
-use Rattle.ship_profile.specs.Ship.{ShipRecord, ship_of, IsSoundShip, extent_of, NamedFill, named_fills_of}
+use Rattle.ship_profile.specs.Ship.{ShipRecord, ship_of, IsSoundShip, extent_of, NamedFill}
+use Rattle.ship_profile.specs.Ship.{named_fills_of}
 
 -- the texts of a profile's files
 pub record Texts : Type 0 where
@@ -50,17 +53,20 @@ from_tables (Err e) = Err (as_profile_fault e)
 
 -- the tables of a ship of these stations
 abbrev pub tables_in : ShipRecord → tables.Texts → Result tables.TablesRecord ProfileFault
-tables_in ship texts = from_tables (tables.tables_of (extent_of ship.stations) (length ship.stations) texts)
+tables_in ship texts =
+    from_tables (tables.tables_of (extent_of ship.stations) (length ship.stations) texts)
 
 -- one of these fills is of this tank
 abbrev pub is_filled : List TankFill → ℕ → Bool
 is_filled fills tank = list_any (λ f. nat_eq f.tank tank) fills
 
--- a fill in its tank: the tank is there, and wasn't filled before; it is named by its number, the first being 1
+-- a fill in its tank: the tank is there, and wasn't filled before; it is named by its number, the
+-- first being 1
 abbrev pub fill_in : tables.TablesRecord → List TankFill → NamedFill → Result TankFill ProfileFault
 fill_in ts before named =
     or_fault (fault.UnknownTank (length before + 1)) (tables.tank_of ts named.tank) >>= (λ tank.
-    demand (fault.BadKey key.Fills) (not (is_filled before tank)) (record { tank = tank; kg = named.kg }))
+    demand (fault.BadKey key.Fills) (not (is_filled before tank))
+    (record { tank = tank; kg = named.kg }))
 
 -- the fills in their tanks, in the order of `ship.toml`
 abbrev pub fills_in : tables.TablesRecord → List NamedFill → Result (List TankFill) ProfileFault
@@ -106,7 +112,8 @@ pub record AreFills (ts : tables.TablesRecord) (fs : List TankFill) : Type 0 whe
   pub each : All (IsFill ts) fs
   pub distinct : IsDistinct nat_eq (map (λ f. f.tank) fs)
 
--- what every profile keeps: each number of `ship.toml` within its limits, tables that can be read, and fills of its tanks
+-- what every profile keeps: each number of `ship.toml` within its limits, tables that can be read,
+-- and fills of its tanks
 pub record IsSound (p : ProfileRecord) : Type 0 where
   pub ship : IsSoundShip p.ship
   pub tables : tables.IsSound (extent_of p.ship.stations) (length p.ship.stations) p.tables

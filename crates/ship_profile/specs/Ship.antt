@@ -1,6 +1,9 @@
--- What `ship.toml` says: the ship's length and limits, her stations, the blocks of the light ship, the frames at which loads are judged,
--- and the tanks that are filled. Lengths are in mm, masses in kg.
-use Rattle.std.specs.Prelude.{◌≡◌, codes, ℕ, ◌+◌, ◌-◌, ◌≤◌, ◌^◌, ℤ, pos, ◌≤ℤ◌, neg_ℤ, unsigned_abs, int_lt, int_le, Bool, true, List, map, length, slice_get, All, Contains, Option, Some, None, option_map, Result, Ok}
+-- What `ship.toml` says: the ship's length and limits, her stations, the blocks of the light ship,
+-- the frames at which loads are judged, and the tanks that are filled. Lengths are in mm, masses in
+-- kg.
+use Rattle.std.specs.Prelude.{◌≡◌, codes, ℕ, ◌+◌, ◌-◌, ◌≤◌, ◌^◌, ℤ, pos, ◌≤ℤ◌, neg_ℤ, unsigned_abs}
+use Rattle.std.specs.Prelude.{int_lt, int_le, Bool, true, List, map, length, slice_get, All}
+use Rattle.std.specs.Prelude.{Contains, Option, Some, None, option_map, Result, Ok}
 use Rattle.std.specs.List.{list_any}
 use Rattle.std.specs.Ordering.{int_eq}
 use Rattle.toml.specs.Data.{Data, Members, get_member}
@@ -12,9 +15,12 @@ use Rattle.units_core.specs.Interpolation.{at, IsRising, IsWithin}
 use Rattle.ship_tables.specs.declared.faults.File.TheVariants as file
 use Rattle.ship_profile.specs.declared.faults.Key.TheVariants as key
 use Rattle.ship_profile.specs.declared.faults.ProfileFault.{ProfileFault}
-use Rattle.ship_profile.specs.declared.faults.ProfileFault.TheVariants.{NotRising, FrameNotStation, OutsideStations, Downflooding}
-use Rattle.ship_profile.specs.declared.frames.Frame.{Frame}
-use Rattle.ship_profile.specs.Keys.{number_of, number_in_table, length_in_table, text_in_table, table_of, number_at, elements_at, optional_of, name_of}
+use Rattle.ship_profile.specs.declared.faults.ProfileFault.TheVariants.{NotRising, FrameNotStation}
+use Rattle.ship_profile.specs.declared.faults.ProfileFault.TheVariants.{OutsideStations}
+use Rattle.ship_profile.specs.declared.faults.ProfileFault.TheVariants.{Downflooding}
+use Rattle.units_core.specs.declared.frames.Frame.{Frame}
+use Rattle.ship_profile.specs.Keys.{number_of, number_in_table, length_in_table, text_in_table}
+use Rattle.ship_profile.specs.Keys.{table_of, number_at, elements_at, optional_of, name_of}
 use Rattle.units_core.specs.Outcome.{◌>>=◌, demand}
 
 -- from the first station to the last
@@ -48,7 +54,11 @@ block_in ms =
     length_in_table key.Blocks (codes "y_mm") ms >>= (λ y.
     length_in_table key.Blocks (codes "z_mm") ms >>= (λ z.
     number_in_table key.Blocks (codes "half_mm") (pos 0) (pos 1000000) ms >>= (λ half.
-    Ok (record { kg = unsigned_abs kg; place = record { x = x; y = y; z = z; half = half }; fsm = pos 0 }))))))
+    Ok (record {
+      kg = unsigned_abs kg;
+      place = record { x = x; y = y; z = z; half = half };
+      fsm = pos 0;
+    }))))))
 
 -- a block: a table, and within the stations; it is named by its number, the first being 1
 abbrev pub block_of : Extent → List Mass → Data → Result Mass ProfileFault
@@ -74,12 +84,14 @@ frame_in ms =
 abbrev pub is_one_of : List ℤ → ℤ → Bool
 is_one_of xs x = list_any (λ y. int_eq y x) xs
 
--- a frame: a table, above the frame before it, and at a station; it is named by its number, the first being 1
+-- a frame: a table, above the frame before it, and at a station; it is named by its number, the
+-- first being 1
 abbrev pub frame_of : List ℤ → List Frame → Data → Result Frame ProfileFault
 frame_of stations before d =
     table_of key.Frames d >>= (λ ms.
     frame_in ms >>= (λ f.
-    demand (NotRising file.Ship 0) (is_above (option_map (λ b. b.x) (last_of before)) f.x) f >>= (λ above.
+    demand (NotRising file.Ship 0) (is_above (option_map (λ b. b.x) (last_of before)) f.x) f
+    >>= (λ above.
     demand (FrameNotStation (length before + 1)) (is_one_of stations above.x) above)))
 
 -- the frames: 1 to 16
@@ -92,9 +104,10 @@ downflooding_of ms =
     number_at key.Downflooding (pos 0) (pos 90) ms >>= (λ angle.
     demand (Downflooding (unsigned_abs angle)) (int_le (pos 40) angle) (unsigned_abs angle))
 
--- The ship's values but for the fills: her length between perpendiculars, the angle of down-flooding in degrees, the greatest
--- draught and the greatest trim either way, the greatest list in ten-thousandths of its tangent, the greatest closing error of the
--- buoyancy in kg, the stations, the blocks and the frames.
+-- The ship's values but for the fills: her length between perpendiculars, the angle of
+-- down-flooding in degrees, the greatest draught and the greatest trim either way, the greatest
+-- list in ten-thousandths of its tangent, the greatest closing error of the buoyancy in kg, the
+-- stations, the blocks and the frames.
 pub record ShipRecord : Type 0 where
   pub lbp : ℤ
   pub downflooding : ℕ

@@ -1,5 +1,6 @@
--- What a profile says is what its files say: each number of `ship.toml` is at its key in the document, each station, block, frame and fill
--- in its array at the same place, and each number of the tables is in its column.
+-- What a profile says is what its files say: each number of `ship.toml` is at its key in the
+-- document, each station, block, frame and fill in its array at the same place, and each number of
+-- the tables is in its column.
 use Rattle.std.specs.Prelude.{◌≡◌, codes, ℕ, ℤ, pos, List, [], ◌∷◌, Option, Some, None}
 use Rattle.std.specs.Bool.{⊤}
 use Rattle.toml.specs.Data.{Data, string, integer, array, table, Items, Members, get_member}
@@ -7,7 +8,7 @@ use Rattle.units_core.specs.Bodies.{Mass}
 use Rattle.ship_tables.specs.Record as tables
 use Rattle.ship_tables.specs.Written as table_files
 use Rattle.ship_profile.specs.declared.fills.TankFill.{TankFill}
-use Rattle.ship_profile.specs.declared.frames.Frame.{Frame}
+use Rattle.units_core.specs.declared.frames.Frame.{Frame}
 use Rattle.ship_profile.specs.Keys.{document_of, items_in}
 use Rattle.ship_profile.specs.Record.{Texts, ProfileRecord}
 use Rattle.ship_profile.specs.Ship.{ShipRecord, NamedFill}
@@ -23,7 +24,8 @@ Pairwise R (x ∷ xs) (y ∷ ys) = R x y × Pairwise R xs ys
 Pairwise R _ _ = ⊥
 
 -- an array is at a key, and its elements are related to these one by one
-pub record HasArray {A : Type 0} (R : A → Data → Type 0) (ms : Members) (name : List ℕ) (xs : List A) : Type 0 where
+pub record HasArray {A : Type 0} (R : A → Data → Type 0) (ms : Members) (name : List ℕ)
+    (xs : List A) : Type 0 where
   pub items : Items
   pub there : get_member name ms ≡ Some (array items)
   pub each : Pairwise R xs (items_in items)

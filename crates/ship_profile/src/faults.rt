@@ -61,30 +61,35 @@ impl fmt::Display for Key {
     }
 }
 
-/// Why the files of a profile are refused. It prints as its code and its place: the key, or the file and the number of the
-/// CSV record, the heading being 1. For `ship.toml` that number is 0, or the number of the block where it is
-/// outside of the stations. Blocks, frames and fills are counted from 1.
+/// Why the files of a profile are refused. It prints as its code and its place: the key, or the
+/// file and the number of the CSV record, the heading being 1. For `ship.toml` that number is 0, or
+/// the number of the block where it is outside of the stations. Blocks, frames and fills are
+/// counted from 1.
 #[derive(Clone, Copy, Debug, PartialEq, Eq)]
 pub enum ProfileFault {
     /// P1: the text of `ship.toml` is no TOML document, or has more than 1,048,576 bytes.
     BadToml,
     /// P2: a key isn't there, also in a table of this key's array.
     MissingKey(Key),
-    /// P3: a key has a value of another type, also in a table of this key's array; or, for the fills, a tank is filled twice.
+    /// P3: a key has a value of another type, also in a table of this key's array; or, for the
+    /// fills, a tank is filled twice.
     BadKey(Key),
     /// P4: a record has another number of fields than its table.
     BadCsv(File, u32),
     /// P5: a field is no number, or no cell where a cell is asked.
     BadNumber(File, u32),
-    /// P6: a number is out of its limits, an element or a row is one too many, or a row is too far from the one before it.
+    /// P6: a number is out of its limits, an element or a row is one too many, or a row is too far
+    /// from the one before it.
     OutOfLimits(File, u32),
-    /// P7: a number isn't above that of the row or the element before it, or the rows of a tank aren't together.
+    /// P7: a number isn't above that of the row or the element before it, or the rows of a tank
+    /// aren't together.
     NotRising(File, u32),
     /// P8: a row's cell is that of an earlier row of `cells.csv`.
     DoubleCell(u32),
     /// P9: a frame is at no station.
     FrameNotStation(u32),
-    /// P10: a block, a container's place or a tank's row reaches beyond the first or the last station.
+    /// P10: a block, a container's place or a tank's row reaches beyond the first or the last
+    /// station.
     OutsideStations(File, u32),
     /// P11: the angle of down-flooding, in degrees, is below 40.
     Downflooding(u32),

@@ -1,4 +1,4 @@
-ghost use Rattle.std.specs.Prelude.{◌≡◌, ◌≢◌, ◌≤◌, length, Ok, Err, IfOk, IfErr};
+ghost use Rattle.std.specs.Prelude.{◌≡◌, ◌≢◌, Ok, Err, IfOk, IfErr};
 ghost use Rattle.toml.specs.View.{view, table_view};
 ghost use Rattle.ship_profile.specs.Ship.{frame_in, frame_of, frames_of, is_one_of, AreFrames};
 
@@ -8,53 +8,11 @@ use crate::keys::{MAX_KG, length_in_table, number_in_table, table_of};
 use crate::stations::is_above;
 use ship_tables::File;
 use std::alloc::Global;
-use std::marker::Model;
 use toml::{Table, Value};
-use units_core::Mm;
+use units_core::{Frame, Frames, Mm};
 
 /// The greatest bending moment, in kg mm.
 const MAX_BENDING: i64 = 1_000_000_000_000_000;
-
-/// A frame at which the loads on the hull are judged, and the greatest loads there.
-#[derive(Clone, Copy, Debug, PartialEq, Eq)]
-pub struct Frame {
-    /// Its place: at one of the stations.
-    pub x: Mm,
-    /// The greatest shear force either way, in kg.
-    pub shear_max: i64,
-    /// The greatest hogging moment, in kg mm.
-    pub hog_max: i64,
-    /// The greatest sagging moment, in kg mm.
-    pub sag_max: i64,
-}
-
-/// The frames of a ship, 1 to 16, each above the one before it.
-#[derive(Debug, Drop)]
-pub struct Frames {
-    frames: Vec<Frame>,
-}
-
-impl Model for Frames {
-    ghost use Rattle.std.specs.Prelude.{List, length, ◌≤◌};
-    ghost use Rattle.ship_profile.specs.declared.frames.Frame.{Frame};
-
-    ghost Value = { List Frame };
-
-    ghost view = { λ f. f.frames.items };
-
-    ghost invariant = { λ f. (1 ≤ length f.frames.items) × (length f.frames.items ≤ 16) };
-}
-
-impl Frames {
-    /// The frames in their order along the ship.
-    pub fn as_slice(&self) -> &[Frame]
-        ensures value { result.now ≡ self.now }
-        ensures some { 1 ≤ length result.now }
-        ensures few { length result.now ≤ 16 }
-    {
-        self.frames.as_slice()
-    }
-}
 
 /// Frames, each above the one before it and at a station.
 #[derive(Clone, Copy)]
@@ -112,5 +70,5 @@ pub fn read_frames(alloc: Global, stations: &[Mm], table: &Table) -> Result<Fram
     ensures meaning { IfOk result (λ f. AreFrames stations.now f) }
 {
     let frames = elements_at(alloc, &FrameRule { stations }, Key::Frames, 1, 16, table)?;
-    Ok(Frames { frames })
+    Ok(Frames::new(frames))
 }

@@ -1,7 +1,9 @@
-ghost use Rattle.std.specs.Prelude.{◌≡◌, ◌≢◌, ◌≤ℤ◌, ◌≤◌, ◌^◌, pos, neg_ℤ, unsigned_abs, Ok, Err, IfOk, IfErr, option_map};
+ghost use Rattle.std.specs.Prelude.{◌≡◌, ◌≢◌, ◌≤ℤ◌, ◌≤◌, ◌^◌, pos, neg_ℤ, unsigned_abs, Ok, Err};
+ghost use Rattle.std.specs.Prelude.{IfOk, IfErr, option_map};
 ghost use Rattle.toml.specs.Data.{get_member};
 ghost use Rattle.toml.specs.View.{view, table_view};
-ghost use Rattle.ship_profile.specs.Keys.{document_in, number_of, number_in_table, length_in_table, text_in_table, table_of, number_at};
+ghost use Rattle.ship_profile.specs.Keys.{document_in, number_of, number_in_table, length_in_table};
+ghost use Rattle.ship_profile.specs.Keys.{text_in_table, table_of, number_at};
 
 use crate::faults::{Key, ProfileFault};
 use ship_tables::File;
@@ -15,8 +17,9 @@ pub const MAX_MM: i64 = 1_000_000;
 /// The greatest mass, and the greatest shear force, in kg.
 pub const MAX_KG: i64 = 1_000_000_000;
 
-/// The longest `ship.toml` that is read, in bytes. One within all limits needs a twentieth of it; a longer one could only be hostile, since a
-/// document takes up to a hundred times its length in memory.
+/// The longest `ship.toml` that is read, in bytes. One within all limits needs a twentieth of it; a
+/// longer one could only be hostile, since a document takes up to a hundred times its length in
+/// memory.
 pub const MAX_SHIP_BYTES: usize = 1_048_576;
 
 /// The document that the text of `ship.toml` is.

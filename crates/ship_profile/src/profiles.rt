@@ -1,18 +1,19 @@
-ghost use Rattle.std.specs.Prelude.{◌≡◌, ◌≢◌, ◌↔◌, IsTrue, Ok, Err, IfOk, IfErr, length, option_map};
-ghost use Rattle.ship_profile.specs.Record.{texts_of, tables_in, record_of, place_of, number_of, tank_of, tank_body, IsSound};
+ghost use Rattle.std.specs.Prelude.{◌≡◌, ◌≢◌, ◌↔◌, IsTrue, Ok, Err, IfOk, IfErr, length};
+ghost use Rattle.std.specs.Prelude.{option_map};
+ghost use Rattle.ship_profile.specs.Record.{texts_of, tables_in, record_of, place_of, number_of};
+ghost use Rattle.ship_profile.specs.Record.{tank_of, tank_body, IsSound};
 ghost use Rattle.ship_profile.specs.Ship.{extent_of, IsSoundShip};
 ghost use Rattle.ship_profile.specs.Written.{IsWritten};
 ghost use Rattle.ship_tables.specs.Record.{IsSound as AreTables};
 
 use crate::faults::ProfileFault;
 use crate::fills::{TankFill, fill_tanks, read_fills};
-use crate::frames::Frames;
 use crate::keys::read_document;
 use crate::ships::{Ship, extent_of, read_ship};
 use ship_tables::{Curves, Hydro, TableTexts, Tables};
 use std::alloc::Global;
 use std::marker::Model;
-use units_core::{Body, Cell, Mm, Place, same_items};
+use units_core::{Body, Cell, Frames, Mm, Place, same_items};
 
 /// The texts of a profile's files.
 #[derive(Clone, Copy, Debug)]
@@ -34,11 +35,22 @@ pub struct ProfileBytes<'a> {
 }
 
 /// A ship's profile. It stays as it was read.
-#[derive(Debug, Drop)]
+#[derive(Debug)]
 pub struct Profile {
     ship: Ship,
     tables: Tables,
     fills: Vec<TankFill>,
+}
+
+impl Drop for Profile {
+    // Written out, since the crates above prove a derived one anew, field by field.
+    fn drop(self) {
+        let Profile {
+            ship: _ship,
+            tables: _tables,
+            fills: _fills,
+        } = self;
+    }
 }
 
 impl Model for Profile {
@@ -48,7 +60,11 @@ impl Model for Profile {
 
     ghost view = { λ p. record { ship = p.ship; tables = p.tables; fills = p.fills.items } };
 
-    ghost invariant = { λ p. IsSound (record { ship = p.ship; tables = p.tables; fills = p.fills.items }) };
+    ghost invariant = { λ p. IsSound (record {
+      ship = p.ship;
+      tables = p.tables;
+      fills = p.fills.items;
+    }) };
 }
 
 /// The tables of a ship, whose stations they are read by.
@@ -74,10 +90,11 @@ fn read_tables(alloc: Global, ship: &Ship, bytes: &ProfileBytes<'_>) -> Result<T
 }
 
 impl Profile {
-    /// Reads the profile that the texts of its files write, or the first fault of them: `ship.toml` whole, then the tables
-    /// in the order `cells.csv`, `hydro.csv`, `kn.csv`, `bonjean.csv`, `tanks.csv`, `gm.csv`, then the tanks of the fills.
-    /// Each number of the profile is the one in its file: at its key, or in its column and in the record of its row. Only
-    /// this takes memory; where it is refused the answer is [`ProfileFault::NoMemory`].
+    /// Reads the profile that the texts of its files write, or the first fault of them: `ship.toml`
+    /// whole, then the tables in the order `cells.csv`, `hydro.csv`, `kn.csv`, `bonjean.csv`,
+    /// `tanks.csv`, `gm.csv`, then the tanks of the fills. Each number of the profile is the one in
+    /// its file: at its key, or in its column and in the record of its row. Only this takes memory;
+    /// where it is refused the answer is [`ProfileFault::NoMemory`].
     pub fn read(alloc: Global, bytes: &ProfileBytes<'_>) -> Result<Profile, ProfileFault>
         ensures ok { IfOk result (λ p. record_of (texts_of bytes.now) ≡ Ok p) }
         ensures refused { IfErr result
@@ -153,7 +170,8 @@ impl Profile {
         self.ship.stations.as_slice()
     }
 
-    /// The blocks of the light ship, 1 to 200, in the order of their file, each within the stations.
+    /// The blocks of the light ship, 1 to 200, in the order of their file, each within the
+    /// stations.
     pub fn blocks(&self) -> &[Body]
         ensures value { result.now ≡ self.now.ship.blocks }
         ensures sound { IsSound self.now }
@@ -185,22 +203,24 @@ impl Profile {
         self.tables.cell(cell)
     }
 
-    /// The number of a cell, from 0 in the order of `cells.csv`, in constant time; `None` for a cell that the ship hasn't.
+    /// The number of a cell, from 0 in the order of `cells.csv`, in constant time; `None` for a
+    /// cell that the ship hasn't.
     pub fn cell_number(&self, cell: Cell) -> Option<usize>
         ensures { result ≡ number_of self.now cell }
     {
         self.tables.cell_number(cell)
     }
 
-    /// The number of the tank of a name, from 0 in the order of `tanks.csv`; `None` for a tank that isn't there.
+    /// The number of the tank of a name, from 0 in the order of `tanks.csv`; `None` for a tank that
+    /// isn't there.
     pub fn tank(&self, name: &[u8]) -> Option<u16>
         ensures { result ≡ tank_of self.now name.now }
     {
         self.tables.tank(name)
     }
 
-    /// A tank that holds the mass `kg`, as a body; `None` for an unknown tank, and for a mass outside of the tank's
-    /// table.
+    /// A tank that holds the mass `kg`, as a body; `None` for an unknown tank, and for a mass
+    /// outside of the tank's table.
     pub fn tank_item(&self, tank: u16, kg: u32) -> Option<Body>
         ensures { result ≡ tank_body self.now tank kg }
     {
@@ -215,7 +235,8 @@ impl Profile {
         self.tables.hydro()
     }
 
-    /// The righting levers KN in mm at 0, 5, .., 60 degrees of heel, 13 curves over the displacement in kg.
+    /// The righting levers KN in mm at 0, 5, .., 60 degrees of heel, 13 curves over the
+    /// displacement in kg.
     pub fn levers(&self) -> &Curves
         ensures value { result.now ≡ self.now.tables.levers }
         ensures sound { IsSound self.now }
@@ -231,7 +252,8 @@ impl Profile {
         self.tables.bonjean()
     }
 
-    /// The least metacentric height in mm, one curve over the displacement in kg; `None` for a ship without such limits.
+    /// The least metacentric height in mm, one curve over the displacement in kg; `None` for a ship
+    /// without such limits.
     pub fn least_gm(&self) -> Option<&Curves>
         ensures value { option_map (λ c. c.now) result ≡ self.now.tables.least_gm }
         ensures sound { IsSound self.now }
@@ -239,8 +261,9 @@ impl Profile {
         self.tables.least_gm()
     }
 
-    /// Whether two profiles are equal: `ship.toml` says the same of both ships, and the rows of their tables are the same in the same
-    /// order. It takes no memory, and time in the length of the tables.
+    /// Whether two profiles are equal: `ship.toml` says the same of both ships, and the rows of
+    /// their tables are the same in the same order. It takes no memory, and time in the length of
+    /// the tables.
     pub fn same(&self, other: &Profile) -> bool
         ensures { IsTrue result ↔ (self.now ≡ other.now) }
     {

@@ -5,14 +5,14 @@ ghost use Rattle.ship_profile.specs.Ship.{ship_of, downflooding_of, extent_of, I
 
 use crate::blocks::read_blocks;
 use crate::faults::{Key, ProfileFault};
-use crate::frames::{Frames, read_frames};
+use crate::frames::read_frames;
 use crate::keys::{MAX_KG, MAX_MM, length_at, number_at};
 use crate::stations::read_stations;
 use ship_tables::Extent;
 use std::alloc::Global;
 use std::marker::Model;
 use toml::Table;
-use units_core::{Body, Mm, same_items};
+use units_core::{Body, Frames, Mm, same_items};
 
 /// What `ship.toml` says of the ship but for the fills.
 #[derive(Debug, Drop)]
@@ -33,7 +33,17 @@ impl Model for Ship {
 
     ghost Value = { ShipRecord };
 
-    ghost view = { λ s. record { lbp = s.lbp; downflooding = s.downflooding; draught_max = s.draught_max; trim_max = s.trim_max; list_max = s.list_max; closing_max = s.closing_max; stations = s.stations.items; blocks = s.blocks.items; frames = s.frames } };
+    ghost view = { λ s. record {
+      lbp = s.lbp;
+      downflooding = s.downflooding;
+      draught_max = s.draught_max;
+      trim_max = s.trim_max;
+      list_max = s.list_max;
+      closing_max = s.closing_max;
+      stations = s.stations.items;
+      blocks = s.blocks.items;
+      frames = s.frames;
+    } };
 }
 
 impl Ship {
@@ -49,7 +59,8 @@ impl Ship {
             && self.closing_max == other.closing_max
     }
 
-    /// Whether `ship.toml` says the same of two ships: length and limits, stations, blocks and frames.
+    /// Whether `ship.toml` says the same of two ships: length and limits, stations, blocks and
+    /// frames.
     pub fn same(&self, other: &Ship) -> bool
         ensures { IsTrue result ↔ (self.now ≡ other.now) }
     {

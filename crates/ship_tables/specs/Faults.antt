@@ -1,5 +1,7 @@
--- A file of the profile with its rows, or the fault of a text that is none; and the first file of a ship's tables that has a fault.
-use Rattle.std.specs.Prelude.{◌≡◌, ◌≢◌, ◌⊎◌, ℕ, ◌+◌, List, [], ◌∷◌, ◌++◌, length, map, zip, take, slice_get, Option, Some, None, Result, Ok, Err, true, false}
+-- A file of the profile with its rows, or the fault of a text that is none; and the first file of a
+-- ship's tables that has a fault.
+use Rattle.std.specs.Prelude.{◌≡◌, ◌≢◌, ◌⊎◌, ℕ, ◌+◌, List, [], ◌∷◌, ◌++◌, length, map, zip, take}
+use Rattle.std.specs.Prelude.{slice_get, Option, Some, None, Result, Ok, Err, true, false}
 use Rattle.std.specs.List.{fold, flat_map}
 use Rattle.csv_text.specs.Reading.{Fields, records_of}
 use Rattle.ship_tables.specs.declared.faults.TableFault.{TableFault}
@@ -7,8 +9,11 @@ use Rattle.ship_tables.specs.declared.faults.TableFault.TheVariants.{BadCsv, Too
 use Rattle.ship_tables.specs.declared.layouts.Column.{Column}
 use Rattle.ship_tables.specs.declared.layouts.Field.{Field}
 use Rattle.ship_tables.specs.declared.extents.Extent.{Extent}
-use Rattle.ship_tables.specs.Record.{Texts, TablesRecord, cells_form, hydro_form, levers_form, bonjean_form, tanks_form, least_gm_form, places_in, hydro_in, curves_in, tanks_in, least_gm_in}
-use Rattle.ship_tables.specs.Tables.{Form, Row, Read, heading_read, tables_read, with_row, field_in, row_in, row_fault, is_short}
+use Rattle.ship_tables.specs.Record.{Texts, TablesRecord, cells_form, hydro_form, levers_form}
+use Rattle.ship_tables.specs.Record.{bonjean_form, tanks_form, least_gm_form, places_in, hydro_in}
+use Rattle.ship_tables.specs.Record.{curves_in, tanks_in, least_gm_in}
+use Rattle.ship_tables.specs.Tables.{Form, Row, Read, heading_read, tables_read, with_row, field_in}
+use Rattle.ship_tables.specs.Tables.{row_in, row_fault, is_short}
 
 -- what is read of a file once these rows came
 abbrev pub read_after : Form → List Row → Read
@@ -18,15 +23,18 @@ read_after form rows = fold (with_row form.rule) heading_read rows
 abbrev pub rows_of : Read → List Row
 rows_of r = flat_map (λ table. table) (tables_read r)
 
--- The text has a heading of a field for each column and then these records, or it has neither heading nor records.
+-- The text has a heading of a field for each column and then these records, or it has neither
+-- heading nor records.
 abbrev pub AreUnderHeading : Form → List ℕ → List Fields → Type 0
 AreUnderHeading form text records =
-    ((heading : Fields) × (records_of text ≡ heading ∷ records) × (length heading ≡ length form.columns))
+    ((heading : Fields) × (records_of text ≡ heading ∷ records)
+    × (length heading ≡ length form.columns))
     ⊎ ((records_of text ≡ []) × (records ≡ []))
 
 -- Each record has n fields.
 abbrev pub HaveFields : ℕ → List Fields → Type 0
-HaveFields n records = (k : ℕ) (fields : Fields) → slice_get records k ≡ Some fields → length fields ≡ n
+HaveFields n records = (k : ℕ) (fields : Fields) → slice_get records k ≡ Some fields
+    → length fields ≡ n
 
 -- what a field is in its column
 abbrev pub read_in : Form → ℕ → Column × List ℕ → Result Field TableFault
@@ -52,7 +60,8 @@ pub record IsFieldFault (form : Form) (line : ℕ) (fields : Fields) (f : TableF
 -- The record has another number of fields than there are columns, or a field is refused.
 abbrev pub IsRowFault : Form → ℕ → Fields → TableFault → Type 0
 IsRowFault form line fields f =
-    ((length fields ≢ length form.columns) × (f ≡ BadCsv form.file line)) ⊎ IsFieldFault form line fields f
+    ((length fields ≢ length form.columns) × (f ≡ BadCsv form.file line))
+    ⊎ IsFieldFault form line fields f
 
 -- A row can be the next after those before it.
 abbrev pub CanCome : Form → List Row → Row → Type 0
@@ -61,7 +70,8 @@ CanCome form before row = row_fault form (read_after form before) row ≡ None
 -- Each record writes its row, which can come after those before it. The heading is record 1.
 pub record AreRowsOf (form : Form) (records : List Fields) (rows : List Row) : Type 0 where
   pub as_many : length rows ≡ length records
-  pub each : (k : ℕ) (fields : Fields) (row : Row) → slice_get records k ≡ Some fields → slice_get rows k ≡ Some row
+  pub each : (k : ℕ) (fields : Fields) (row : Row) → slice_get records k ≡ Some fields
+      → slice_get rows k ≡ Some row
       → (row_in form (k + 2) fields ≡ Ok row) × CanCome form (take k rows) row
 
 -- The text is a file of this form, with these rows, and no table of it has too few.
@@ -83,7 +93,8 @@ pub record IsHeadingFault (form : Form) (text : List ℕ) (f : TableFault) : Typ
 abbrev pub IsRefusedRecord : Form → List Row → Fields → TableFault → Type 0
 IsRefusedRecord form rows fields f =
     (row_in form (length rows + 2) fields ≡ Err f)
-    ⊎ ((row : Row) × (row_in form (length rows + 2) fields ≡ Ok row) × (row_fault form (read_after form rows) row ≡ Some f))
+    ⊎ ((row : Row) × (row_in form (length rows + 2) fields ≡ Ok row)
+    × (row_fault form (read_after form rows) row ≡ Some f))
 
 -- A record is refused, and none before it is refused.
 pub record IsRecordFault (form : Form) (text : List ℕ) (f : TableFault) : Type 0 where
@@ -106,7 +117,8 @@ pub record IsShortFile (form : Form) (text : List ℕ) (f : TableFault) : Type 0
 
 -- The fault of a text that is no file of this form.
 abbrev pub IsFileFault : Form → List ℕ → TableFault → Type 0
-IsFileFault form text f = IsHeadingFault form text f ⊎ (IsRecordFault form text f ⊎ IsShortFile form text f)
+IsFileFault form text f =
+    IsHeadingFault form text f ⊎ (IsRecordFault form text f ⊎ IsShortFile form text f)
 
 -- a file that may be missing
 abbrev pub least_gm_file : Option (List ℕ) → List (Form × List ℕ)
@@ -117,10 +129,12 @@ least_gm_file (Some text) = (least_gm_form, text) ∷ []
 abbrev pub files_of : Extent → ℕ → Texts → List (Form × List ℕ)
 files_of extent stations texts =
     (cells_form extent, texts.cells) ∷ (hydro_form, texts.hydro) ∷ (levers_form, texts.levers)
-    ∷ (bonjean_form stations, texts.bonjean) ∷ (tanks_form extent, texts.tanks) ∷ least_gm_file texts.least_gm
+    ∷ (bonjean_form stations, texts.bonjean) ∷
+    (tanks_form extent, texts.tanks) ∷ least_gm_file texts.least_gm
 
 -- Each table is what its own file writes.
-pub record AreTablesOf (extent : Extent) (stations : ℕ) (texts : Texts) (t : TablesRecord) : Type 0 where
+pub record AreTablesOf (extent : Extent) (stations : ℕ) (texts : Texts)
+    (t : TablesRecord) : Type 0 where
   pub cells : places_in extent texts.cells ≡ Ok t.cells
   pub hydro : hydro_in texts.hydro ≡ Ok t.hydro
   pub levers : curves_in levers_form 13 texts.levers ≡ Ok t.levers
@@ -135,5 +149,6 @@ pub record IsFirstFileFault (files : List (Form × List ℕ)) (f : TableFault) :
   pub text : List ℕ
   pub behind : List (Form × List ℕ)
   pub files_are : files ≡ before ++ (form, text) ∷ behind
-  pub good_before : (k : ℕ) (file : Form × List ℕ) → slice_get before k ≡ Some file → (rows : List Row) × IsFile file.0 file.1 rows
+  pub good_before : (k : ℕ) (file : Form × List ℕ) → slice_get before k ≡ Some file
+      → (rows : List Row) × IsFile file.0 file.1 rows
   pub fault_is : IsFileFault form text f

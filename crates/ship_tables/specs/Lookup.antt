@@ -3,9 +3,11 @@ use Rattle.std.specs.Prelude.{◌≡◌, ℕ, ◌+◌, ◌*◌, ◌<◌, List, l
 use Rattle.units_core.specs.declared.cells.Cell.{Cell}
 
 -- the entry of the cell's tier in the block of its bay and row
-abbrev pub told : List ℕ → List ℕ → Cell → ℕ
-told blocks entries cell = slice_index entries (slice_index blocks (cell.bay * 100 + cell.row) * 100 + cell.tier)
+abbrev pub index_in : List ℕ → List ℕ → Cell → ℕ
+index_in blocks entries cell =
+    slice_index entries (slice_index blocks (cell.bay * 100 + cell.row) * 100 + cell.tier)
 
 -- the tables give each cell of the list its index
 abbrev pub AllTold : List ℕ → List ℕ → List Cell → Type 0
-AllTold blocks entries cells = (i : ℕ) (d : Cell) → i < length cells → told blocks entries (get_or cells i d) ≡ i
+AllTold blocks entries cells = (i : ℕ) (d : Cell) → i < length cells
+    → index_in blocks entries (get_or cells i d) ≡ i

@@ -1,6 +1,8 @@
--- The tables of a ship's profile: the record that their files write, where every rule of them holds, or else the first fault in the order
--- of the files.
-use Rattle.std.specs.Prelude.{◌≡◌, ℕ, suc, zero, ◌<◌, ◌≤◌, ◌^◌, ℤ, pos, neg_ℤ, ◌≤ℤ◌, unsigned_abs, true, List, [], ◌∷◌, map, zip, length, All, slice_get, replicate, position, Option, Some, None, option_map, IfSome, Result, Ok}
+-- The tables of a ship's profile: the record that their files write, where every rule of them
+-- holds, or else the first fault in the order of the files.
+use Rattle.std.specs.Prelude.{◌≡◌, ℕ, suc, zero, ◌<◌, ◌≤◌, ◌^◌, ℤ, pos, neg_ℤ, ◌≤ℤ◌, unsigned_abs}
+use Rattle.std.specs.Prelude.{true, List, [], ◌∷◌, map, zip, length, All, slice_get, replicate}
+use Rattle.std.specs.Prelude.{position, Option, Some, None, option_map, IfSome, Result, Ok}
 use Rattle.std.specs.Borrow.{Bor}
 use Rattle.std.specs.List.{IsDistinct}
 use Rattle.std.specs.Map.{keys_of, lookup}
@@ -9,7 +11,8 @@ use Rattle.units_core.specs.declared.bodies.Place.{Place}
 use Rattle.units_core.specs.declared.cells.Cell.{Cell}
 use Rattle.units_core.specs.Bodies.{Mass}
 use Rattle.units_core.specs.Cells.{cell_eq}
-use Rattle.units_core.specs.Interpolation.{at, interval, reading, IsRising, Rises, IsWithin, IsPositive}
+use Rattle.units_core.specs.Interpolation.{at, interval, reading, IsRising, Rises, IsWithin}
+use Rattle.units_core.specs.Interpolation.{IsPositive}
 use Rattle.units_core.specs.Ratio.{floor_of}
 use Rattle.ship_tables.specs.declared.extents.Extent.{Extent}
 use Rattle.ship_tables.specs.declared.faults.File.TheVariants as file
@@ -20,10 +23,11 @@ use Rattle.ship_tables.specs.declared.layouts.Rule.TheVariants as rule
 use Rattle.ship_tables.specs.declared.texts.TableTexts.{TableTexts}
 use Rattle.ship_tables.specs.Extents.{holds}
 use Rattle.units_core.specs.Outcome.{◌>>=◌}
-use Rattle.ship_tables.specs.Tables.{Form, Row, number_at, cells_in, table_name, tables_read, file_in}
+use Rattle.ship_tables.specs.Tables.{Form, Row, number_at, cells_in, table_name, tables_read}
+use Rattle.ship_tables.specs.Tables.{file_in}
 
--- a length in mm of at most 10^6 either way, one that isn't below 0, a draught in mm, and a mass in kg (or a moment in kg mm that
--- changes the trim by 1 mm)
+-- a length in mm of at most 10^6 either way, one that isn't below 0, a draught in mm, and a mass in
+-- kg (or a moment in kg mm that changes the trim by 1 mm)
 abbrev pub length_column : Column
 length_column = column.Number (neg_ℤ (pos 1000000)) (pos 1000000)
 
@@ -51,12 +55,13 @@ cells_form extent = record {
   stands = Some (record { extent = extent; x = 1; half = 4 });
 }
 
--- `hydro.csv`: displacement in kg, mean draught, height of the transverse metacentre, longitudinal centres of buoyancy and of flotation
--- in mm, and the moment in kg mm that changes the trim by 1 mm
+-- `hydro.csv`: displacement in kg, mean draught, height of the transverse metacentre, longitudinal
+-- centres of buoyancy and of flotation in mm, and the moment in kg mm that changes the trim by 1 mm
 abbrev pub hydro_form : Form
 hydro_form = record {
   file = file.Hydro;
-  columns = positive_column ∷ draught_column ∷ size_column ∷ length_column ∷ length_column ∷ positive_column ∷ [];
+  columns = positive_column ∷ draught_column ∷ size_column ∷ length_column ∷ length_column
+      ∷ positive_column ∷ [];
   least = 2;
   most = 200;
   rule = rule.Rising (Some (pos 100000000));
@@ -67,7 +72,8 @@ hydro_form = record {
 abbrev pub levers_form : Form
 levers_form = record {
   file = file.Levers;
-  columns = positive_column ∷ size_column ∷ size_column ∷ size_column ∷ size_column ∷ size_column ∷ size_column ∷ size_column ∷ size_column
+  columns = positive_column ∷ size_column ∷ size_column ∷ size_column ∷ size_column ∷ size_column
+      ∷ size_column ∷ size_column ∷ size_column
       ∷ size_column ∷ size_column ∷ size_column ∷ size_column ∷ size_column ∷ [];
   least = 2;
   most = 64;
@@ -86,11 +92,13 @@ bonjean_form stations = record {
   stands = None;
 }
 
--- `tanks.csv`: the tank's name, the mass of its filling in kg, its place (x, y, z, half in mm), and its free surface moment in kg mm
+-- `tanks.csv`: the tank's name, the mass of its filling in kg, its place (x, y, z, half in mm), and
+-- its free surface moment in kg mm
 abbrev pub tanks_form : Extent → Form
 tanks_form extent = record {
   file = file.Tanks;
-  columns = column.Name ∷ column.Number (pos 0) (pos 1000000000) ∷ length_column ∷ length_column ∷ length_column ∷ size_column
+  columns = column.Name ∷ column.Number (pos 0)
+      (pos 1000000000) ∷ length_column ∷ length_column ∷ length_column ∷ size_column
       ∷ column.Number (pos 0) (pos 1000000000000) ∷ [];
   least = 2;
   most = 64;
@@ -111,11 +119,18 @@ least_gm_form = record {
 
 -- the place of the container of a row of `cells.csv`
 abbrev pub place_at : Row → Place
-place_at fields = record { x = number_at fields 1; y = number_at fields 2; z = number_at fields 3; half = number_at fields 4 }
+place_at fields =
+    record {
+      x = number_at fields 1;
+      y = number_at fields 2;
+      z = number_at fields 3;
+      half = number_at fields 4;
+    }
 
 -- the cells that the text of `cells.csv` writes, each with the place of its container
 abbrev pub places_in : Extent → List ℕ → Result (List (Cell × Place)) TableFault
-places_in extent text = file_in (cells_form extent) text >>= (λ r. Ok (zip (cells_in r.rows) (map place_at r.rows)))
+places_in extent text =
+    file_in (cells_form extent) text >>= (λ r. Ok (zip (cells_in r.rows) (map place_at r.rows)))
 
 -- the numbers of a column, row by row
 abbrev pub numbers_of : ℕ → List Row → List ℤ
@@ -191,7 +206,8 @@ tank_at rows = record { name = table_name rows; rows = tank_table rows }
 
 -- tanks by their names and their tables
 abbrev pub tanks_by : List (List ℕ) → List TankTable → List Tank
-tanks_by (name ∷ names) (table ∷ tables) = record { name = name; rows = table } ∷ tanks_by names tables
+tanks_by (name ∷ names) (table ∷ tables) =
+    record { name = name; rows = table } ∷ tanks_by names tables
 tanks_by _ _ = []
 
 -- the tanks that the text of `tanks.csv` writes
@@ -221,8 +237,9 @@ texts_of t = record {
   least_gm = text_of t.least_gm;
 }
 
--- what the tables of a ship are: the cells in the order of their file, the hydrostatic table, the righting levers, the Bonjean curves, the
--- tanks in the order of their file, and the least metacentric heights of a ship that has such limits
+-- what the tables of a ship are: the cells in the order of their file, the hydrostatic table, the
+-- righting levers, the Bonjean curves, the tanks in the order of their file, and the least
+-- metacentric heights of a ship that has such limits
 pub record TablesRecord : Type 0 where
   pub cells : List (Cell × Place)
   pub hydro : HydroTable
@@ -245,7 +262,14 @@ tables_of extent stations texts =
     curves_in (bonjean_form stations) stations texts.bonjean >>= (λ bonjean.
     tanks_in extent texts.tanks >>= (λ tanks.
     least_gm_in texts.least_gm >>= (λ least_gm.
-    Ok (record { cells = cells; hydro = hydro; levers = levers; bonjean = bonjean; tanks = tanks; least_gm = least_gm })))))))
+    Ok (record {
+      cells = cells;
+      hydro = hydro;
+      levers = levers;
+      bonjean = bonjean;
+      tanks = tanks;
+      least_gm = least_gm;
+    })))))))
 
 -- the place of a container in a cell
 abbrev pub place_of : TablesRecord → Cell → Option Place
@@ -259,7 +283,8 @@ number_of t cell = position (cell_eq cell) (keys_of t.cells)
 abbrev pub tank_of : TablesRecord → List ℕ → Option ℕ
 tank_of t name = position (λ tank. bytes_eq name tank.name) t.tanks
 
--- the body of a filling of mass kg in the i-th interval of its tank's table, each figure read there and rounded down
+-- the body of a filling of mass kg in the i-th interval of its tank's table, each figure read there
+-- and rounded down
 abbrev pub filling : TankTable → ℕ → ℕ → Mass
 filling t kg i = record {
   kg = kg;
@@ -285,7 +310,8 @@ tank_body t number kg = filling_in kg (option_map (λ tank. tank.rows) (slice_ge
 abbrev pub IsAtLeast : ℤ → List ℤ → Type 0
 IsAtLeast low xs = (k : ℕ) → k < length xs → low ≤ℤ at xs k
 
--- the table can be read by its first column: 2 to 200 rows, displacements that rise by at most 10^8 kg, and each number within its limits
+-- the table can be read by its first column: 2 to 200 rows, displacements that rise by at most 10^8
+-- kg, and each number within its limits
 pub record IsHydroTable (h : HydroTable) : Type 0 where
   pub rows : 2 ≤ length h.kg
   pub most : length h.kg ≤ 200
@@ -343,7 +369,8 @@ pub record IsLeastGmTable (c : CurveTable) : Type 0 where
   pub one : length c.columns ≡ 1
   pub displacements : AreDisplacements c.arguments
 
--- a tank's table can be read: 2 to 64 rows, masses that rise by at most 10^8 kg, and each number within its limits
+-- a tank's table can be read: 2 to 64 rows, masses that rise by at most 10^8 kg, and each number
+-- within its limits
 pub record IsTankTable (t : TankTable) : Type 0 where
   pub rows : 2 ≤ length t.kg
   pub most : length t.kg ≤ 64
@@ -376,8 +403,8 @@ pub record IsPlace (p : Place) : Type 0 where
   pub half_least : pos 0 ≤ℤ p.half
   pub half_within : unsigned_abs p.half ≤ 10 ^ 6
 
--- what the tables of every ship keep: 1 to 30,000 different cells, at most 200 tanks of different names, and tables that can be
--- read
+-- what the tables of every ship keep: 1 to 30,000 different cells, at most 200 tanks of different
+-- names, and tables that can be read
 pub record AreTables (t : TablesRecord) : Type 0 where
   pub some_cells : 1 ≤ length t.cells
   pub few_cells : length t.cells ≤ 30000
@@ -394,10 +421,16 @@ pub record AreTables (t : TablesRecord) : Type 0 where
 -- in each row of a tank's table the filling is within the extent
 abbrev pub StandsWithin : Extent → Tank → Type 0
 StandsWithin extent tank = (k : ℕ) → k < length tank.rows.kg
-    → holds extent (record { x = at tank.rows.x k; y = at tank.rows.y k; z = at tank.rows.z k; half = at tank.rows.half k }) ≡ true
+    → holds extent
+    (record {
+      x = at tank.rows.x k;
+      y = at tank.rows.y k;
+      z = at tank.rows.z k;
+      half = at tank.rows.half k;
+    }) ≡ true
 
--- what is true of the tables of a ship of this extent and number of stations: besides AreTables, there is a curve of areas for each
--- station, and containers and tanks are within the extent
+-- what is true of the tables of a ship of this extent and number of stations: besides AreTables,
+-- there is a curve of areas for each station, and containers and tanks are within the extent
 pub record IsSound (extent : Extent) (stations : ℕ) (t : TablesRecord) : Type 0 where
   pub tables : AreTables t
   pub curves : length t.bonjean.columns ≡ stations

@@ -1,6 +1,8 @@
--- The tables of a ship are the ones that her files write: each number of them is the one in the file, in its column and in the record of
--- its row. This is defined by the texts only, without a reader.
-use Rattle.std.specs.Prelude.{◌≡◌, ℕ, ◌+◌, ℤ, List, drop, map, length, slice_get, replicate, Option, Some, None}
+-- The tables of a ship are the ones that her files write: each number of them is the one in the
+-- file, in its column and in the record of its row. This is defined by the texts only, without a
+-- reader.
+use Rattle.std.specs.Prelude.{◌≡◌, ℕ, ◌+◌, ℤ, List, drop, map, length, slice_get, replicate, Option}
+use Rattle.std.specs.Prelude.{Some, None}
 use Rattle.std.specs.List.{flat_map}
 use Rattle.std.specs.Map.{keys_of}
 use Rattle.std.specs.Option.{option_and_then}
@@ -15,7 +17,8 @@ use Rattle.ship_tables.specs.Record.{HydroTable, CurveTable, TankTable, Tank, Te
 abbrev pub records_under : List ℕ → List Fields
 records_under text = drop 1 (records_of text)
 
--- what the k-th field of a record is read as, the first being number 0; None where there is none, and where it can't be read
+-- what the k-th field of a record is read as, the first being number 0; None where there is none,
+-- and where it can't be read
 abbrev pub field_as : {A : Type 0} → (List ℕ → Option A) → ℕ → Fields → Option A
 field_as read k fields = option_and_then read (slice_get fields k)
 
@@ -35,7 +38,8 @@ pub record AreCellsWritten (text : List ℕ) (cells : List (Cell × Place)) : Ty
   pub z : IsNumbers 3 text (map (λ c. c.1.z) cells)
   pub half : IsNumbers 4 text (map (λ c. c.1.half) cells)
 
--- `hydro.csv`: displacement, draught, height of the metacentre, centres of buoyancy and of flotation, moment to change the trim
+-- `hydro.csv`: displacement, draught, height of the metacentre, centres of buoyancy and of
+-- flotation, moment to change the trim
 pub record IsHydroWritten (text : List ℕ) (h : HydroTable) : Type 0 where
   pub kg : IsNumbers 0 text h.kg
   pub draught : IsNumbers 1 text h.draught
@@ -53,9 +57,11 @@ pub record AreCurvesWritten (text : List ℕ) (c : CurveTable) : Type 0 where
 abbrev pub column_of : {A : Type 0} → (TankTable → List A) → List Tank → List A
 column_of column tanks = flat_map (λ tank. column tank.rows) tanks
 
--- `tanks.csv`: in each record the name of the tank, mass, x, y, z, half and free surface moment, the records of a tank next to one another
+-- `tanks.csv`: in each record the name of the tank, mass, x, y, z, half and free surface moment,
+-- the records of a tank next to one another
 pub record AreTanksWritten (text : List ℕ) (tanks : List Tank) : Type 0 where
-  pub name : IsColumn Some 0 text (flat_map (λ tank. replicate (length tank.rows.kg) tank.name) tanks)
+  pub name : IsColumn Some 0 text
+      (flat_map (λ tank. replicate (length tank.rows.kg) tank.name) tanks)
   pub kg : IsNumbers 1 text (column_of (λ t. t.kg) tanks)
   pub x : IsNumbers 2 text (column_of (λ t. t.x) tanks)
   pub y : IsNumbers 3 text (column_of (λ t. t.y) tanks)

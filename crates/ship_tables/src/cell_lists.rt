@@ -2,7 +2,7 @@ ghost use Rattle.std.specs.Prelude.{◌≡◌, IfOk};
 ghost use Rattle.std.specs.Bool.{OnTrue};
 ghost use Rattle.std.specs.List.{position};
 ghost use Rattle.units_core.specs.Cells.{cell_eq};
-ghost use Rattle.ship_tables.specs.Lookup.{told, AllTold};
+ghost use Rattle.ship_tables.specs.Lookup.{index_in, AllTold};
 
 use std::alloc::{AllocError, Global};
 use std::marker::Model;
@@ -11,8 +11,9 @@ use units_core::Cell;
 /// The tiers of a bay and row.
 const TIERS: usize = 100;
 
-/// A list of cells in which a cell is found without a search. For each bay and row `blocks` names a block of 100 `entries`, one for each
-/// tier; an entry is the cell's index in the list. Whether all cells are found at their indices is tested once, and kept in `sure`.
+/// A list of cells in which a cell is found without a search. For each bay and row `blocks` names a
+/// block of 100 `entries`, one for each tier; an entry is the cell's index in the list. Whether all
+/// cells are found at their indices is tested once, and kept in `sure`.
 #[derive(Debug, Drop)]
 pub struct CellList {
     cells: Vec<Cell>,
@@ -36,7 +37,7 @@ impl Model for CellList {
 /// The index of a cell by the tables; any index where they have none.
 #[inline(always)]
 fn told_at(blocks: &[u16], entries: &[u16], cell: Cell) -> usize
-    ensures { result ≡ told blocks.now entries.now cell }
+    ensures { result ≡ index_in blocks.now entries.now cell }
 {
     let pair = usize::from(cell.bay) * TIERS + usize::from(cell.row);
     let block = if pair < blocks.len() {
@@ -68,8 +69,8 @@ fn reach(blocks: &mut Vec<u16>, pair: usize) -> Result<(), AllocError> {
     Ok(())
 }
 
-/// Writes the index of a cell to the tables, as far as they have room. The first block belongs to no
-/// bay.
+/// Writes the index of a cell to the tables, as far as they have room. The first block belongs to
+/// no bay.
 fn note(
     blocks: &mut Vec<u16>,
     entries: &mut Vec<u16>,
@@ -148,8 +149,8 @@ impl CellList {
         })
     }
 
-    /// The index of a cell, in constant time where no two cells are equal and each is one that seven digits
-    /// write.
+    /// The index of a cell, in constant time where no two cells are equal and each is one that
+    /// seven digits write.
     pub fn find(&self, cell: Cell) -> Option<usize>
         ensures { result ≡ position (cell_eq cell) self.now }
     {

@@ -1,7 +1,9 @@
-ghost use Rattle.std.specs.Prelude.{◌≡◌, ◌≢◌, ◌↔◌, IsTrue, ◌<◌, length, option_map, slice_get, Ok, Err, IfOk, IfErr};
+ghost use Rattle.std.specs.Prelude.{◌≡◌, ◌≢◌, ◌↔◌, IsTrue, ◌<◌, length, option_map, slice_get, Ok};
+ghost use Rattle.std.specs.Prelude.{Err, IfOk, IfErr};
 ghost use Rattle.ship_tables.specs.Curves.{curve};
 ghost use Rattle.ship_tables.specs.Tables.{form_of};
-ghost use Rattle.ship_tables.specs.Record.{numbers_of, curve_table, curves_in, bonjean_form, least_gm_in, text_of};
+ghost use Rattle.ship_tables.specs.Record.{numbers_of, curve_table, curves_in, bonjean_form};
+ghost use Rattle.ship_tables.specs.Record.{least_gm_in, text_of};
 
 use crate::faults::TableFault;
 use crate::forms::{AREA, DRAUGHT, bonjean_layout, least_gm_layout};
@@ -12,7 +14,8 @@ use std::alloc::Global;
 use std::marker::Model;
 use units_core::{same_items, same_rows};
 
-/// A table of curves over one argument, kept by columns: the arguments, which rise, and each curve's values at them.
+/// A table of curves over one argument, kept by columns: the arguments, which rise, and each
+/// curve's values at them.
 #[derive(Debug, Drop)]
 pub struct Curves {
     arguments: Vec<i128>,
@@ -25,7 +28,10 @@ impl Model for Curves {
 
     ghost Value = { CurveTable };
 
-    ghost view = { λ c. record { arguments = c.arguments.items; columns = map (λ v. v.items) c.columns.items } };
+    ghost view = { λ c. record {
+      arguments = c.arguments.items;
+      columns = map (λ v. v.items) c.columns.items;
+    } };
 }
 
 impl Curves {
@@ -43,7 +49,8 @@ impl Curves {
         self.columns.len()
     }
 
-    /// The values of a curve, row by row; `None` where there is no curve of this number. The first is number 0.
+    /// The values of a curve, row by row; `None` where there is no curve of this number. The first
+    /// is number 0.
     pub fn column(&self, number: usize) -> Option<&[i128]>
         ensures { option_map (λ c. c.now) result ≡ slice_get self.now.columns number }
     {

@@ -8,7 +8,8 @@ use std::fmt;
 /// A file of a ship's profile. It prints as its name.
 #[derive(Clone, Copy, Debug, PartialEq, Eq)]
 pub enum File {
-    /// `ship.toml`: the limits, stations, blocks, frames and fills. It holds no table, so no [`TableFault`] names it.
+    /// `ship.toml`: the limits, stations, blocks, frames and fills. It holds no table, so no
+    /// [`TableFault`] names it.
     Ship,
     /// `cells.csv`: the cells, and the place of a container in each.
     Cells,
@@ -40,18 +41,19 @@ impl fmt::Display for File {
     }
 }
 
-/// Why the tables of a profile are refused. It prints as its code and its place: the file and the number of the CSV
-/// record, the heading being 1.
+/// Why the tables of a profile are refused. It prints as its code and its place: the file and the
+/// number of the CSV record, the heading being 1.
 #[derive(Clone, Copy, Debug, PartialEq, Eq)]
 pub enum TableFault {
     /// P4: a record has another number of fields than its table.
     BadCsv(File, u32),
     /// P5: a field is no number, or no cell where a cell is asked.
     BadNumber(File, u32),
-    /// P6: a number is out of its limits, a name too short or too long, a row one too many, or it is too far from the
-    /// row before it.
+    /// P6: a number is out of its limits, a name too short or too long, a row one too many, or it
+    /// is too far from the row before it.
     OutOfLimits(File, u32),
-    /// P7: a row doesn't rise above the row before it, or it comes back to a tank whose rows have ended.
+    /// P7: a row doesn't rise above the row before it, or it comes back to a tank whose rows have
+    /// ended.
     NotRising(File, u32),
     /// P8: a row's cell is that of an earlier row of `cells.csv`.
     DoubleCell(u32),

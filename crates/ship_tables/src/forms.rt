@@ -1,6 +1,7 @@
 ghost use Rattle.std.specs.Prelude.{◌≡◌};
 ghost use Rattle.ship_tables.specs.Tables.{form_of};
-ghost use Rattle.ship_tables.specs.Record.{cells_form, hydro_form, levers_form, tanks_form, least_gm_form};
+ghost use Rattle.ship_tables.specs.Record.{cells_form, hydro_form, levers_form, tanks_form};
+ghost use Rattle.ship_tables.specs.Record.{least_gm_form};
 
 use crate::extents::Extent;
 use crate::faults::File;
@@ -72,8 +73,8 @@ pub fn cells_layout(extent: Extent) -> Layout<'static>
     }
 }
 
-/// `hydro.csv`: displacement, draught, height of the transverse metacentre, centres of buoyancy and of flotation,
-/// moment to change the trim.
+/// `hydro.csv`: displacement, draught, height of the transverse metacentre, centres of buoyancy and
+/// of flotation, moment to change the trim.
 pub fn hydro_layout() -> Layout<'static>
     ensures { form_of result ≡ hydro_form }
 {
@@ -124,7 +125,8 @@ pub fn bonjean_layout(columns: &[Column]) -> Layout<'_>
     }
 }
 
-/// `tanks.csv`: the tank's name, the mass of its filling, x, y, z and half of it, its free surface moment.
+/// `tanks.csv`: the tank's name, the mass of its filling, x, y, z and half of it, its free surface
+/// moment.
 pub fn tanks_layout(extent: Extent) -> Layout<'static>
     ensures { form_of result ≡ tanks_form extent }
 {

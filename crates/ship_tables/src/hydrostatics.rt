@@ -10,8 +10,8 @@ use std::alloc::Global;
 use std::marker::Model;
 use units_core::same_items;
 
-/// The hydrostatic table, column by column: at each displacement the draught on even keel and what the ship's
-/// form makes of it. It has 2 to 200 rows, and the displacements rise.
+/// The hydrostatic table, column by column: at each displacement the draught on even keel and what
+/// the ship's form makes of it. It has 2 to 200 rows, and the displacements rise.
 #[derive(Debug, Drop)]
 pub struct Hydro {
     kg: Vec<i128>,
@@ -27,9 +27,23 @@ impl Model for Hydro {
 
     ghost Value = { HydroTable };
 
-    ghost view = { λ h. record { kg = h.kg.items; draught = h.draught.items; kmt = h.kmt.items; lcb = h.lcb.items; lcf = h.lcf.items; mct = h.mct.items } };
+    ghost view = { λ h. record {
+      kg = h.kg.items;
+      draught = h.draught.items;
+      kmt = h.kmt.items;
+      lcb = h.lcb.items;
+      lcf = h.lcf.items;
+      mct = h.mct.items;
+    } };
 
-    ghost invariant = { λ h. IsHydroTable (record { kg = h.kg.items; draught = h.draught.items; kmt = h.kmt.items; lcb = h.lcb.items; lcf = h.lcf.items; mct = h.mct.items }) };
+    ghost invariant = { λ h. IsHydroTable (record {
+      kg = h.kg.items;
+      draught = h.draught.items;
+      kmt = h.kmt.items;
+      lcb = h.lcb.items;
+      lcf = h.lcf.items;
+      mct = h.mct.items;
+    }) };
 }
 
 impl Hydro {

@@ -29,13 +29,14 @@ pub enum Rule {
     Distinct,
     /// Its first number is above that of the row before it, by at most `gap` where there is one.
     Rising { gap: Option<i64> },
-    /// The file is at most `tables` tables, one after another. Each row begins with its table's name, and its number after
-    /// the name is above that of the table's row before it, by at most `gap`.
+    /// The file is at most `tables` tables, one after another. Each row begins with its table's
+    /// name, and its number after the name is above that of the table's row before it, by at most
+    /// `gap`.
     Together { gap: i64, tables: u8 },
 }
 
-/// The columns in which the rows of a file give the place of a body: its centre along the ship, and half its length. The
-/// body has to be within the extent.
+/// The columns in which the rows of a file give the place of a body: its centre along the ship, and
+/// half its length. The body has to be within the extent.
 #[derive(Clone, Copy, Debug, PartialEq, Eq)]
 pub struct Stands {
     pub extent: Extent,

@@ -1,7 +1,8 @@
-//! The tables of a ship's profile, as six files of comma-separated values write them: the cells and the places of containers in
-//! them, the hydrostatic table, the righting levers, the Bonjean curves, the tanks, and the least metacentric heights of a ship
-//! that has such limits. [`Tables::read`] gives all of them or the first fault of the files; what it gives never changes, and the
-//! look-ups take no memory.
+//! The tables of a ship's profile, as six files of comma-separated values write them: the cells and
+//! the places of containers in them, the hydrostatic table, the righting levers, the Bonjean
+//! curves, the tanks, and the least metacentric heights of a ship that has such limits.
+//! [`Tables::read`] gives all of them or the first fault of the files; what it gives never changes,
+//! and the look-ups take no memory.
 #![tactic(auto)]
 
 mod cell_lists;

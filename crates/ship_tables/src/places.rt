@@ -1,4 +1,5 @@
-ghost use Rattle.std.specs.Prelude.{◌≡◌, ◌≢◌, ◌↔◌, IsTrue, Ok, Err, IfOk, IfErr, All, length, map, zip, slice_get, ◌≤◌, ◌^◌, unsigned_abs};
+ghost use Rattle.std.specs.Prelude.{◌≡◌, ◌≢◌, ◌↔◌, IsTrue, Ok, Err, IfOk, IfErr, All, length, map};
+ghost use Rattle.std.specs.Prelude.{zip, slice_get, ◌≤◌, ◌^◌, unsigned_abs};
 ghost use Rattle.std.specs.List.{position};
 ghost use Rattle.std.specs.Map.{keys_of, lookup};
 ghost use Rattle.units_core.specs.Cells.{cell_eq};
@@ -45,7 +46,8 @@ fn place_number(places: &[Place], index: usize) -> Option<Place>
 }
 
 impl CellPlaces {
-    /// The number of a cell, from 0 in the order of the file, in constant time; `None` for a cell that the ship hasn't.
+    /// The number of a cell, from 0 in the order of the file, in constant time; `None` for a cell
+    /// that the ship hasn't.
     pub fn number(&self, cell: Cell) -> Option<usize>
         ensures { result ≡ position (cell_eq cell) (keys_of self.now) }
     {

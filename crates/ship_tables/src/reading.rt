@@ -1,10 +1,18 @@
-ghost use Rattle.std.specs.Prelude.{◌≡◌, ◌≢◌, ◌<◌, ◌+◌, ◌-◌, ◌^◌, List, [], ◌∷◌, ◌++◌, length, map, slice_get, option_map, nat_lt, int_lt, ◌-ℤ◌, true, false, None, OnOk, IfOk, IfErr, Ok, Err};
+ghost use Rattle.std.specs.Prelude.{◌≡◌, ◌≢◌, ◌<◌, ◌+◌, ◌-◌, ◌^◌, List, [], ◌∷◌, ◌++◌, length, map};
+ghost use Rattle.std.specs.Prelude.{slice_get, option_map, nat_lt, int_lt, ◌-ℤ◌, true, false, None};
+ghost use Rattle.std.specs.Prelude.{OnOk, IfOk, IfErr, Ok, Err};
 ghost use Rattle.std.specs.List.{list_any};
 ghost use Rattle.std.specs.Str.{bytes_eq};
 ghost use Rattle.csv.specs.Records.{fields_of};
 ghost use Rattle.csv_text.specs.Reading.{Fields, HasLeft, Gave};
-ghost use Rattle.ship_tables.specs.Gathering.{read_by, names_held, HasGathered, seen_by, remembered};
-ghost use Rattle.ship_tables.specs.Tables.{form_of, heading_read, so_far, tables_after, tables_read, belongs, step_fault, rise_fault, double_fault, rule_fault, room_fault, table_fault, begin_fault, most_tables, table_name, ended_rows, place_fault, row_fault, with_row, added, is_short, enough, read_under, read_of, file_in};
+ghost use Rattle.ship_tables.specs.Gathering.{read_by, names_held, HasGathered, seen_by};
+ghost use Rattle.ship_tables.specs.Gathering.{remembered};
+ghost use Rattle.ship_tables.specs.Tables.{form_of, heading_read, so_far, tables_after};
+ghost use Rattle.ship_tables.specs.Tables.{tables_read, belongs, step_fault, rise_fault};
+ghost use Rattle.ship_tables.specs.Tables.{double_fault, rule_fault, room_fault, table_fault};
+ghost use Rattle.ship_tables.specs.Tables.{begin_fault, most_tables, table_name, ended_rows};
+ghost use Rattle.ship_tables.specs.Tables.{place_fault, row_fault, with_row, added, is_short};
+ghost use Rattle.ship_tables.specs.Tables.{enough, read_under, read_of, file_in};
 
 use crate::extents::encloses;
 use crate::faults::{File, TableFault};
@@ -41,8 +49,9 @@ impl Table {
     }
 }
 
-/// What was read of a file: the number of the record that comes next, the tables that have ended, the rows of the one that is being
-/// read; and the cells by which a double is known, the names by which a table that has ended is.
+/// What was read of a file: the number of the record that comes next, the tables that have ended,
+/// the rows of the one that is being read; and the cells by which a double is known, the names by
+/// which a table that has ended is.
 #[derive(Debug, Drop)]
 pub struct Gathered {
     line: u32,

@@ -1,4 +1,5 @@
-ghost use Rattle.std.specs.Prelude.{◌≡◌, ◌+◌, ◌*◌, ◌^◌, ◌<◌, ◌≤◌, pos, ◌-ℤ◌, ◌≤ℤ◌, length, All, unsigned_abs};
+ghost use Rattle.std.specs.Prelude.{◌≡◌, ◌+◌, ◌*◌, ◌^◌, ◌<◌, ◌≤◌, pos, ◌-ℤ◌, ◌≤ℤ◌, length, All};
+ghost use Rattle.std.specs.Prelude.{unsigned_abs};
 ghost use Rattle.units_core.specs.Interpolation.{at, Encloses};
 ghost use Rattle.ship_tables.specs.Record.{AreDisplacements, IsCurve};
 ghost use Rattle.ship_tables.specs.Curves.{curve_at};
@@ -6,7 +7,8 @@ ghost use Rattle.ship_tables.specs.Curves.{curve_at};
 use crate::curves::Curves;
 use units_core::{gap, read};
 
-/// The value of a curve at a displacement, which lies in the interval `i`, as the number whose quotient by [`curve_gap`] it is.
+/// The value of a curve at a displacement, which lies in the interval `i`, as the number whose
+/// quotient by [`curve_gap`] it is.
 pub fn displaced(curves: &Curves, number: usize, i: usize, kg: i128) -> i128
     requires curves { All (IsCurve (length curves.now.arguments) (10 ^ 6)) curves.now.columns }
     requires displacements { AreDisplacements curves.now.arguments }

@@ -1,6 +1,7 @@
 ghost use Rattle.std.specs.Prelude.{◌≡◌, ◌≢◌, IfOk, IfErr, Ok, Err};
 ghost use Rattle.csv.specs.Records.{fields_of};
-ghost use Rattle.ship_tables.specs.Tables.{form_of, field_in, row_in, number_at, first_cell, first_name};
+ghost use Rattle.ship_tables.specs.Tables.{form_of, field_in, row_in, number_at, first_cell};
+ghost use Rattle.ship_tables.specs.Tables.{first_name};
 
 use crate::faults::{File, TableFault};
 use crate::layouts::{Column, Field, Layout};

@@ -1,5 +1,8 @@
-ghost use Rattle.std.specs.Prelude.{◌≡◌, ◌≢◌, ◌↔◌, IsTrue, ◌≤◌, length, option_map, Ok, Err, IfOk, IfErr, IfSome};
-ghost use Rattle.ship_tables.specs.Record.{texts_of, tables_of, place_of, number_of, tank_of, tank_body, IsSound, IsHydroTable, IsLeverTable, IsBonjeanTable, IsLeastGmTable, IsPlace};
+ghost use Rattle.std.specs.Prelude.{◌≡◌, ◌≢◌, ◌↔◌, IsTrue, ◌≤◌, length, option_map, Ok, Err, IfOk};
+ghost use Rattle.std.specs.Prelude.{IfErr, IfSome};
+ghost use Rattle.ship_tables.specs.Record.{texts_of, tables_of, place_of, number_of, tank_of};
+ghost use Rattle.ship_tables.specs.Record.{tank_body, IsSound, IsHydroTable, IsLeverTable};
+ghost use Rattle.ship_tables.specs.Record.{IsBonjeanTable, IsLeastGmTable, IsPlace};
 ghost use Rattle.ship_tables.specs.Written.{IsWritten};
 
 use crate::curves::{Curves, read_bonjean, read_curves, read_least_gm};
@@ -30,16 +33,32 @@ impl Model for Tables {
 
     ghost Value = { TablesRecord };
 
-    ghost view = { λ t. record { cells = t.cells; hydro = t.hydro; levers = t.levers; bonjean = t.bonjean; tanks = t.tanks; least_gm = t.least_gm } };
+    ghost view = { λ t. record {
+      cells = t.cells;
+      hydro = t.hydro;
+      levers = t.levers;
+      bonjean = t.bonjean;
+      tanks = t.tanks;
+      least_gm = t.least_gm;
+    } };
 
-    ghost invariant = { λ t. AreTables (record { cells = t.cells; hydro = t.hydro; levers = t.levers; bonjean = t.bonjean; tanks = t.tanks; least_gm = t.least_gm }) };
+    ghost invariant = { λ t. AreTables (record {
+      cells = t.cells;
+      hydro = t.hydro;
+      levers = t.levers;
+      bonjean = t.bonjean;
+      tanks = t.tanks;
+      least_gm = t.least_gm;
+    }) };
 }
 
 impl Tables {
-    /// Reads the tables that the texts of their files write, for a ship of this extent and number of stations, or the first fault
-    /// of them: the files come in the order `cells.csv`, `hydro.csv`, `kn.csv`, `bonjean.csv`, `tanks.csv`, `gm.csv`, and each is
-    /// read from its beginning. Each number of the tables is the one in its file, in its column and in the record of its row.
-    /// Only this takes memory; where it is refused the answer is [`TableFault::NoMemory`].
+    /// Reads the tables that the texts of their files write, for a ship of this extent and number
+    /// of stations, or the first fault of them: the files come in the order `cells.csv`,
+    /// `hydro.csv`, `kn.csv`, `bonjean.csv`, `tanks.csv`, `gm.csv`, and each is read from its
+    /// beginning. Each number of the tables is the one in its file, in its column and in the record
+    /// of its row. Only this takes memory; where it is refused the answer is
+    /// [`TableFault::NoMemory`].
     pub fn read(
         alloc: Global,
         extent: Extent,
@@ -77,7 +96,8 @@ impl Tables {
         self.cells.get(cell)
     }
 
-    /// The number of a cell, from 0 in the order of `cells.csv`, in constant time; `None` for a cell that the ship hasn't.
+    /// The number of a cell, from 0 in the order of `cells.csv`, in constant time; `None` for a
+    /// cell that the ship hasn't.
     pub fn cell_number(&self, cell: Cell) -> Option<usize>
         ensures { result ≡ number_of self.now cell }
     {
@@ -92,7 +112,8 @@ impl Tables {
         &self.hydro
     }
 
-    /// The righting levers KN in mm at 0, 5, .., 60 degrees of heel, 13 curves over the displacement in kg.
+    /// The righting levers KN in mm at 0, 5, .., 60 degrees of heel, 13 curves over the
+    /// displacement in kg.
     pub fn levers(&self) -> &Curves
         ensures value { result.now ≡ self.now.levers }
         ensures sound { IsLeverTable self.now.levers }
@@ -108,7 +129,8 @@ impl Tables {
         &self.bonjean
     }
 
-    /// The least metacentric height in mm, one curve over the displacement in kg; `None` for a ship without such limits.
+    /// The least metacentric height in mm, one curve over the displacement in kg; `None` for a ship
+    /// without such limits.
     pub fn least_gm(&self) -> Option<&Curves>
         ensures value { option_map (λ c. c.now) result ≡ self.now.least_gm }
         ensures sound { IfSome self.now.least_gm IsLeastGmTable }
@@ -124,14 +146,16 @@ impl Tables {
         self.tanks.len()
     }
 
-    /// The number of the tank of this name, from 0 in the order of `tanks.csv`; `None` where there is none.
+    /// The number of the tank of this name, from 0 in the order of `tanks.csv`; `None` where there
+    /// is none.
     pub fn tank(&self, name: &[u8]) -> Option<u16>
         ensures { result ≡ tank_of self.now name.now }
     {
         self.tanks.number(name)
     }
 
-    /// The filling of mass `kg` of a tank, by its table; `None` for an unknown tank, and for a mass outside its table.
+    /// The filling of mass `kg` of a tank, by its table; `None` for an unknown tank, and for a mass
+    /// outside its table.
     pub fn tank_item(&self, tank: u16, kg: u32) -> Option<Body>
         ensures value { result ≡ tank_body self.now tank kg }
         ensures placed { IfSome result (λ b. IsPlace b.place) }
@@ -139,8 +163,9 @@ impl Tables {
         self.tanks.item(tank, kg)
     }
 
-    /// Whether two ships have equal tables: the same rows in the same order, and either both or none a table of least metacentric
-    /// heights. It takes no memory, and time in the length of the tables.
+    /// Whether two ships have equal tables: the same rows in the same order, and either both or
+    /// none a table of least metacentric heights. It takes no memory, and time in the length of the
+    /// tables.
     pub fn same(&self, other: &Tables) -> bool
         ensures { IsTrue result ↔ (self.now ≡ other.now) }
     {

@@ -1,9 +1,12 @@
-ghost use Rattle.std.specs.Prelude.{◌≡◌, ◌≢◌, ◌↔◌, IsTrue, ◌≤◌, ◌<◌, ◌+◌, ◌^◌, ℕ, pos, ◌≤ℤ◌, length, map, slice_get, position, option_map, unsigned_abs, All, Ok, Err, IfOk, IfErr, IfSome};
+ghost use Rattle.std.specs.Prelude.{◌≡◌, ◌≢◌, ◌↔◌, IsTrue, ◌≤◌, ◌<◌, ◌+◌, ◌^◌, ℕ, pos, ◌≤ℤ◌};
+ghost use Rattle.std.specs.Prelude.{length, map, slice_get, position, option_map, unsigned_abs};
+ghost use Rattle.std.specs.Prelude.{All, Ok, Err, IfOk, IfErr, IfSome};
 ghost use Rattle.std.specs.Str.{bytes_eq};
 ghost use Rattle.units_core.specs.Bodies.{IsWithinLimits};
 ghost use Rattle.units_core.specs.Interpolation.{at, interval, reading, Encloses, Rises, IsWithin};
 ghost use Rattle.units_core.specs.Ratio.{floor_of};
-ghost use Rattle.ship_tables.specs.Record.{TankTable, IsTankTable, IsAtLeast, tank_table, tanks_in, filling, filling_in, numbers_of, IsPlace};
+ghost use Rattle.ship_tables.specs.Record.{TankTable, IsTankTable, IsAtLeast, tank_table, tanks_in};
+ghost use Rattle.ship_tables.specs.Record.{filling, filling_in, numbers_of, IsPlace};
 
 use crate::curves::numbers;
 use crate::extents::Extent;
@@ -25,8 +28,8 @@ struct Centres {
     half: Vec<i128>,
 }
 
-/// The table of a tank, column by column: for each mass of its filling the place and the free surface moment of the filling.
-/// It has 2 to 64 rows, and the masses rise.
+/// The table of a tank, column by column: for each mass of its filling the place and the free
+/// surface moment of the filling. It has 2 to 64 rows, and the masses rise.
 #[derive(Debug, Drop)]
 struct TankRows {
     kg: Vec<i128>,
@@ -39,9 +42,23 @@ impl Model for TankRows {
 
     ghost Value = { TankTable };
 
-    ghost view = { λ t. record { kg = t.kg.items; x = t.centres.x.items; y = t.centres.y.items; z = t.centres.z.items; half = t.centres.half.items; fsm = t.fsm.items } };
+    ghost view = { λ t. record {
+      kg = t.kg.items;
+      x = t.centres.x.items;
+      y = t.centres.y.items;
+      z = t.centres.z.items;
+      half = t.centres.half.items;
+      fsm = t.fsm.items;
+    } };
 
-    ghost invariant = { λ t. IsTankTable (record { kg = t.kg.items; x = t.centres.x.items; y = t.centres.y.items; z = t.centres.z.items; half = t.centres.half.items; fsm = t.fsm.items }) };
+    ghost invariant = { λ t. IsTankTable (record {
+      kg = t.kg.items;
+      x = t.centres.x.items;
+      y = t.centres.y.items;
+      z = t.centres.z.items;
+      half = t.centres.half.items;
+      fsm = t.fsm.items;
+    }) };
 }
 
 /// The value of a column at `x` in a row's interval of its arguments, rounded down.
@@ -184,7 +201,8 @@ impl Model for Tanks {
 
     ghost view = { λ t. tanks_by (map (λ v. v.items) t.names.keys) t.tables.items };
 
-    ghost invariant = { λ t. (length t.names.keys ≡ length t.tables.items) × (length t.tables.items ≤ 200) };
+    ghost invariant = { λ t. (length t.names.keys ≡ length t.tables.items)
+        × (length t.tables.items ≤ 200) };
 }
 
 impl Tanks {

@@ -3,7 +3,8 @@ use ship_tables::File;
 use ship_tables::File::{Bonjean, Cells, Hydro, LeastGm, Levers, Tanks};
 use std::test::Fail;
 
-/// A file, another text of it in the box ship's tables, and the words of its fault; none where it is taken.
+/// A file, another text of it in the box ship's tables, and the words of its fault; none where it
+/// is taken.
 static FAULTS: [(File, &str, &str); 102] = [
     // ---- cells.csv
     // the number of fields, of the heading too

@@ -21,7 +21,8 @@ fn own_text(file: File) -> &'static str {
     }
 }
 
-/// The prefixes of each file, from one length to before another, and the words of their faults; the last of a file go to its end.
+/// The prefixes of each file, from one length to before another, and the words of their faults; the
+/// last of a file go to its end.
 static PREFIXES: [(File, usize, usize, &str); 69] = [
     (Cells, 0, 1, "P13 cells.csv"),
     // the heading, cut before its last field and in it
@@ -121,8 +122,9 @@ fn every_prefix_of_each_file(rt: HostRuntime) -> Result<(), Fail> {
     Ok(())
 }
 
-/// The columns of each file: what stands before the field in a file of one record and behind it, both ends of its range, and the words
-/// for a number within it and beyond it. One record is enough for `cells.csv` alone.
+/// The columns of each file: what stands before the field in a file of one record and behind it,
+/// both ends of its range, and the words for a number within it and beyond it. One record is enough
+/// for `cells.csv` alone.
 static RANGES: [(File, &str, &str, i64, i64, &str, &str); 38] = [
     (
         Cells,
@@ -498,7 +500,8 @@ fn number_ranges_of_each_file(rt: HostRuntime) -> Result<(), Fail> {
     Ok(())
 }
 
-/// Writes `count` rows, numbered from 1 in seven digits, with the text before the number and behind it.
+/// Writes `count` rows, numbered from 1 in seven digits, with the text before the number and behind
+/// it.
 fn write_rows(text: &mut String, before: &str, count: u32, after: &str) -> Result<(), Fail> {
     for row in 0..count {
         let number = row + 1;
@@ -526,8 +529,8 @@ fn write_tables(
     Ok(())
 }
 
-/// Reads a heading, a number of tables of a number of rows, and a last row, and compares the words of
-/// their fault.
+/// Reads a heading, a number of tables of a number of rows, and a last row, and compares the words
+/// of their fault.
 fn check_rows(
     rt: &(impl Abort + AllocGlobal),
     file: File,
@@ -546,8 +549,9 @@ fn check_rows(
     Ok(())
 }
 
-/// The file, its heading, how many tables of how many rows it has, what stands in a row behind its number, a last row, and the words of the
-/// fault. A row too many is found after its own fields, and before the rule and the stations.
+/// The file, its heading, how many tables of how many rows it has, what stands in a row behind its
+/// number, a last row, and the words of the fault. A row too many is found after its own fields,
+/// and before the rule and the stations.
 static ROWS: [(File, &str, u32, u32, &str, &str, &str); 32] = [
     (Cells, "h,h,h,h,h\n", 1, 30_000, ",4,2,3,4", "", ""),
     (

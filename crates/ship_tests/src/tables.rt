@@ -88,8 +88,8 @@ fn with_text<'a>(texts: TableTexts<'a>, file: File, text: &'a [u8]) -> TableText
     }
 }
 
-/// The fault of these texts; none where they are tables. It owns tables, and does nothing else with them: each way of dropping
-/// them has its proof.
+/// The fault of these texts; none where they are tables. It owns tables, and does nothing else with
+/// them: each way of dropping them has its proof.
 fn fault_of(alloc: Global, extent: &Extent, texts: &TableTexts<'_>) -> Option<TableFault> {
     Tables::read(alloc, *extent, 5, texts).err()
 }
@@ -102,7 +102,8 @@ fn words(alloc: Global, fault: Option<TableFault>) -> Result<String, Fail> {
     }
 }
 
-/// The words of the fault of the box ship's texts, one of them in another form; none where they are tables.
+/// The words of the fault of the box ship's texts, one of them in another form; none where they are
+/// tables.
 pub fn refusal(alloc: Global, extent: &Extent, file: File, text: &str) -> Result<String, Fail> {
     let texts = with_text(box_texts(), file, text.as_bytes());
     words(alloc, fault_of(alloc, extent, &texts))
@@ -220,7 +221,8 @@ fn shown(alloc: Global, tables: &Tables, asked: Asked) -> Result<String, Fail> {
     }
 }
 
-/// What a look at what was read gives. What was read is of any type here, so that no proof has to take tables apart.
+/// What a look at what was read gives. What was read is of any type here, so that no proof has to
+/// take tables apart.
 fn seen<T: Drop, R, F: FnOnce(&T) -> R>(read: Result<T, TableFault>, look: F) -> Result<R, Fail>
     requires { F.IsAlwaysCallable look }
 {
@@ -249,7 +251,8 @@ fn check_answers(
     Ok(())
 }
 
-/// Each number as its text has it; a filling on the straight line between two rows, each figure rounded down.
+/// Each number as its text has it; a filling on the straight line between two rows, each figure
+/// rounded down.
 static UNLIKE: [(Asked, &str); 19] = [
     (
         Asked::Cell(Cell {
@@ -300,7 +303,8 @@ static UNLIKE: [(Asked, &str); 19] = [
     (
         Asked::Levers,
         "[1000051, 2000052] Some([100, 150]) Some([200, 250]) Some([300, 350]) Some([400, 450]) \
-Some([500, 550]) Some([600, 650]) Some([700, 750]) Some([800, 850]) Some([900, 950]) Some([1000, 1050]) \
+Some([500, 550]) Some([600, 650]) Some([700, 750]) Some([800, 850]) Some([900, 950]) \
+Some([1000, 1050]) \
 Some([1100, 1150]) Some([1200, 1250]) Some([1300, 1350]) None",
     ),
     (
@@ -343,7 +347,8 @@ fn tables_of_unlike_numbers(rt: HostRuntime) -> Result<(), Fail> {
     check_answers(&rt, &unlike_texts(), &UNLIKE)
 }
 
-/// The double bottom tank of the box ship: each kg raises the filling by 1/500 mm and adds 4,100 kg mm.
+/// The double bottom tank of the box ship: each kg raises the filling by 1/500 mm and adds 4,100 kg
+/// mm.
 static BOX: [(Asked, &str); 11] = [
     (Asked::LeastGm, "None"),
     (Asked::Tank("DB1"), "(Some(0), 1)"),

@@ -7,8 +7,8 @@ use std::process::Abort;
 use std::test::Fail;
 use units_core::{Frac, floor};
 
-/// The condition of a ship with some masses aboard: mean draught, draughts aft and forward and at 25,000, metacentric height, trim and
-/// list, each rounded down; or why she has none.
+/// The condition of a ship with some masses aboard: mean draught, draughts aft and forward and at
+/// 25,000, metacentric height, trim and list, each rounded down; or why she has none.
 type Condition = Result<([i128; 6], Option<i128>), Outside>;
 
 /// The figure of a fraction, and of one that may be missing.
@@ -79,11 +79,13 @@ impl<R: Abort + AllocGlobal> Check<R> for Rows {
 
 // The block alone: draught 4,000 mm, and GM = 10,333 - 6,000 = 4,333 mm.
 //
-// With 20,500 kg at x = 50,000, y = 8,000, z = 10,000 and 20,500 kg at x = 25,000, z = 10,000 there are 8,241,000 kg aboard. The table
-// gives 4,000 + 2,000 * 41,000 / 4,100,000 = 4,020 mm and KMT = 10,333 - 1,777 * 41,000 / 4,100,000 = 10,315.23 mm. The centre of gravity
-// lies 6,000 + 4,000 * 41,000 / 8,241,000 = 6,019.90 mm above the keel: GM = 4,295.33 mm. The trim is 20,500 * 25,000 / 17,000,000 =
-// 30.147 mm by the stern, half of it aft: 4,035.07 mm aft, 4,004.93 mm forward, and 4,020 + 30.147 / 4 = 4,027.54 mm at 25,000. The
-// centre lies 20,500 * 8,000 / 8,241,000 = 19.9005 mm to starboard, and the list is 10,000 * 19.9005 / 4,295.33 = 46.33.
+// With 20,500 kg at x = 50,000, y = 8,000, z = 10,000 and 20,500 kg at x = 25,000, z = 10,000 there
+// are 8,241,000 kg aboard. The table gives 4,000 + 2,000 * 41,000 / 4,100,000 = 4,020 mm and KMT =
+// 10,333 - 1,777 * 41,000 / 4,100,000 = 10,315.23 mm. The centre of gravity lies 6,000 + 4,000 *
+// 41,000 / 8,241,000 = 6,019.90 mm above the keel: GM = 4,295.33 mm. The trim is 20,500 * 25,000 /
+// 17,000,000 = 30.147 mm by the stern, half of it aft: 4,035.07 mm aft, 4,004.93 mm forward, and
+// 4,020 + 30.147 / 4 = 4,027.54 mm at 25,000. The centre lies 20,500 * 8,000 / 8,241,000 = 19.9005
+// mm to starboard, and the list is 10,000 * 19.9005 / 4,295.33 = 46.33.
 static CONDITIONS: [Row; 4] = [
     Row {
         masses: &[BLOCK],
@@ -97,7 +99,8 @@ static CONDITIONS: [Row; 4] = [
         ],
         condition: Ok(([4_020, 4_035, 4_004, 4_027, 4_295, 30], Some(46))),
     },
-    // At 10,333 mm the centre of gravity is the metacentre: without a metacentric height there is no list.
+    // At 10,333 mm the centre of gravity is the metacentre: without a metacentric height there is
+    // no list.
     Row {
         masses: &[(8_200_000, [50_000, 100, 10_333, 50_000])],
         condition: Ok(([4_000, 4_000, 4_000, 4_000, 0, 0], None)),
@@ -113,7 +116,8 @@ fn conditions(rt: HostRuntime) -> Result<(), Fail> {
     on_box_ship(&rt, &Rows(&CONDITIONS))
 }
 
-/// Looks at a draught that is decided in 64 bits: with the two containers of the second row it is 4,027.54 mm at 25,000.
+/// Looks at a draught that is decided in 64 bits: with the two containers of the second row it is
+/// 4,027.54 mm at 25,000.
 #[derive(Clone, Copy)]
 struct Decided;
 

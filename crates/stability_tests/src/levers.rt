@@ -18,8 +18,8 @@ static TIED: &str = "kg,0,5,10,15,20,25,30,35,40,45,50,55,60
 12300000,0,900,1790,2650,4230,4230,4000,3800,3600,3400,3200,3000,2800
 ";
 
-/// The levers with one body amidships of mass `kg`, `y` mm from the centre line and `z` mm above the keel; none where its mass lies outside
-/// of the cross curves.
+/// The levers with one body amidships of mass `kg`, `y` mm from the centre line and `z` mm above
+/// the keel; none where its mass lies outside of the cross curves.
 fn told(profile: &Profile, kg: u32, y: i32, z: i32) -> Result<Option<Levers>, Fail> {
     let totals = sum_of(profile, &[(kg, [50_000, y, z, 50_000])])?;
     match levers_of(profile, &totals) {
@@ -46,12 +46,14 @@ fn figures(levers: &Levers) -> [i128; 13] {
     figures
 }
 
-/// 6,000 mm above the keel: KN - 6,000 sin h, as 5,400 - 6,000 * 0.573576 = 1,958.544 at 35 degrees.
+/// 6,000 mm above the keel: KN - 6,000 sin h, as 5,400 - 6,000 * 0.573576 = 1,958.544 at 35
+/// degrees.
 static UPRIGHT: [i128; 13] = [
     0, 377, 748, 1_097, 1_417, 1_694, 1_900, 1_958, 1_893, 1_737, 1_513, 1_235, 913,
 ];
 
-/// The levers where the centre of gravity is `y` mm from the centre line and 6,000 mm above the keel.
+/// The levers where the centre of gravity is `y` mm from the centre line and 6,000 mm above the
+/// keel.
 #[derive(Clone, Copy)]
 struct Listing {
     y: i32,
@@ -75,7 +77,8 @@ fn levers_of_the_box_ship(rt: HostRuntime) -> Result<(), Fail> {
     on_box_ship(&rt, &upright)
 }
 
-/// The same 500 mm from the middle line: less 500 cos h, as 1,958.544 - 500 * 0.819152 = 1,548.968 at 35 degrees.
+/// The same 500 mm from the middle line: less 500 cos h, as 1,958.544 - 500 * 0.819152 = 1,548.968
+/// at 35 degrees.
 static LISTING: [i128; 13] = [
     -500, -122, 255, 614, 948, 1_241, 1_466, 1_548, 1_510, 1_383, 1_192, 948, 663,
 ];
@@ -121,10 +124,12 @@ fn angle(degrees: u8) -> Result<Angle, Fail> {
     Ok(Angle::new(degrees / 5).ok_or("an angle")?)
 }
 
-/// From one angle to another, Simpson's sum under the levers of `UPRIGHT`, in mm, rounded down. With 377.064, 748.112, 1,097.086, 1,417.880,
-/// 1,694.292, 1,900, 1,958.544 and 1,893.272 mm at 5, 10, .., 40 degrees:
+/// From one angle to another, Simpson's sum under the levers of `UPRIGHT`, in mm, rounded down.
+/// With 377.064, 748.112, 1,097.086, 1,417.880, 1,694.292, 1,900, 1,958.544 and 1,893.272 mm at 5,
+/// 10, .., 40 degrees:
 static AREAS: [(u8, u8, i128); 3] = [
-    // 4 * (377.064 + 1,097.086 + 1,694.292) + 2 * (748.112 + 1,417.880) + 1,900 = 18,905.752, which is 31,509.6 mm degrees
+    // 4 * (377.064 + 1,097.086 + 1,694.292) + 2 * (748.112 + 1,417.880) + 1,900 = 18,905.752, which
+    // is 31,509.6 mm degrees
     (0, 30, 18_905),
     // 18,905.752 + 11,627.448 = 30,533.200
     (0, 40, 30_533),
@@ -155,7 +160,8 @@ impl<R: Abort + AllocGlobal> Check<R> for Areas {
         for (from, to, sum) in &AREAS {
             assert_eq!(rt; area(&levers, *from, *to)?, *sum, "{from} to {to}");
         }
-        // from 10 to 30 degrees: 748.112 + 4 * (1,097.086 + 1,694.292) + 2 * 1,417.880 + 1,900 = 16,649.384
+        // from 10 to 30 degrees: 748.112 + 4 * (1,097.086 + 1,694.292) + 2 * 1,417.880 + 1,900 =
+        // 16,649.384
         same(rt, floor(area_over_pairs(&levers, 2, 2)), 16_649);
         Ok(())
     }
@@ -181,8 +187,8 @@ fn area_at_its_limit(rt: HostRuntime) {
     same(&rt, area_holds(missed, 3_151_268), false);
 }
 
-/// Looks for the greatest lever on the keel and the middle line, where the levers are those of the curves: 4,230 mm at 20 and at 25 degrees,
-/// 4,000 mm at 30.
+/// Looks for the greatest lever on the keel and the middle line, where the levers are those of the
+/// curves: 4,230 mm at 20 and at 25 degrees, 4,000 mm at 30.
 #[derive(Clone, Copy)]
 struct Greatest;
 

@@ -1,5 +1,7 @@
--- What an edit makes of a list of steps, why it can't be done, and the edit that takes it back. Steps are numbered from 1.
-use Rattle.std.specs.Prelude.{◌≡◌, ◌≢◌, ⊤, ℕ, zero, suc, ◌+◌, ◌≤◌, List, length, Option, None, Some, slice_get, nat_le, Bool, ◌&&◌, if◌then◌else◌}
+-- What an edit makes of a list of steps, why it can't be done, and the edit that takes it back.
+-- Steps are numbered from 1.
+use Rattle.std.specs.Prelude.{◌≡◌, ◌≢◌, ⊤, ℕ, zero, suc, ◌+◌, ◌≤◌, List, length, Option, None, Some}
+use Rattle.std.specs.Prelude.{slice_get, nat_le, Bool, ◌&&◌, if◌then◌else◌}
 use Rattle.std.specs.List.{swap, insert, remove}
 use Rattle.std.specs.Option.{is_some}
 use Rattle.stow_messages.specs.declared.lifts.Lift.TheVariants.{Load}
@@ -26,8 +28,8 @@ abbrev pub moved_to : List operation.Op → Option operation.Op → ℕ → ℕ 
 moved_to ops None i j = ops
 moved_to ops (Some op) i j = insert (remove ops i) j op
 
--- The list after an edit: two steps in each other's places; a step at the number `to`; without a step; with a new step at the number
--- `at`; with another weight of a load.
+-- The list after an edit: two steps in each other's places; a step at the number `to`; without a
+-- step; with a new step at the number `at`; with another weight of a load.
 abbrev pub edited : List operation.Op → Edit → List operation.Op
 edited ops (Swap a b) = swap ops (place_of a) (place_of b)
 edited ops (Move from to) = moved_to ops (step_at ops from) (place_of from) (place_of to)
@@ -46,11 +48,12 @@ abbrev pub weigh_fault : Option operation.Op → Option EditFault
 weigh_fault None = Some NoStep
 weigh_fault (Some op) = if is_some (loaded_cell op) then None else Some NotLoad
 
--- Why an edit can't be done, whatever its list then does aboard: a number is that of no step, or the step to be weighed is no load. A
--- new step may come behind all others.
+-- Why an edit can't be done, whatever its list then does aboard: a number is that of no step, or
+-- the step to be weighed is no load. A new step may come behind all others.
 abbrev pub edit_fault : List operation.Op → Edit → Option EditFault
 edit_fault ops (Swap a b) = number_fault (is_number (length ops) a && is_number (length ops) b)
-edit_fault ops (Move from to) = number_fault (is_number (length ops) from && is_number (length ops) to)
+edit_fault ops (Move from to) =
+    number_fault (is_number (length ops) from && is_number (length ops) to)
 edit_fault ops (Remove at) = number_fault (is_number (length ops) at)
 edit_fault ops (Insert at op) = number_fault (is_number (length ops + 1) at)
 edit_fault ops (Reweigh at kg) = weigh_fault (step_at ops at)
@@ -71,8 +74,8 @@ CanBeDone ops (Remove at) = IsNumber (length ops) at
 CanBeDone ops (Insert at op) = IsNumber (length ops + 1) at
 CanBeDone ops (Reweigh at kg) = IsNumber (length ops) at
 
--- The edit that puts a removed step back, and the one that gives a load its weight back. Where there is no such step, or it is no load,
--- the edit itself.
+-- The edit that puts a removed step back, and the one that gives a load its weight back. Where
+-- there is no such step, or it is no load, the edit itself.
 abbrev pub put_back : ℕ → Option operation.Op → Edit
 put_back at None = Remove at
 put_back at (Some op) = Insert at op
@@ -92,4 +95,5 @@ inverse ops (Reweigh at kg) = weigh_back at kg (step_at ops at)
 -- An edit that can be done, and then its inverse, which can be done too, leave a list as it was.
 abbrev pub TakesBack : Type 0
 TakesBack = (ops : List operation.Op) (edit : Edit) → edit_fault ops edit ≡ None
-    → (edit_fault (edited ops edit) (inverse ops edit) ≡ None) × (edited (edited ops edit) (inverse ops edit) ≡ ops)
+    → (edit_fault (edited ops edit) (inverse ops edit) ≡ None)
+    × (edited (edited ops edit) (inverse ops edit) ≡ ops)

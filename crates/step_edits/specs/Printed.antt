@@ -1,7 +1,8 @@
 -- The codes of an edit's faults, as they are printed.
 use Rattle.std.specs.Prelude.{ℕ, List, codes}
 use Rattle.step_edits.specs.declared.faults.EditFault.{EditFault}
-use Rattle.step_edits.specs.declared.faults.EditFault.TheVariants.{NoStep, NotLoad, Sequence, NoMemory}
+use Rattle.step_edits.specs.declared.faults.EditFault.TheVariants.{NoStep, NotLoad, Sequence}
+use Rattle.step_edits.specs.declared.faults.EditFault.TheVariants.{NoMemory}
 
 abbrev pub edit_code_text : EditFault → List ℕ
 edit_code_text NoStep = codes "X1"

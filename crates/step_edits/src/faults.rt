@@ -5,7 +5,8 @@ use lift_sequence::SeqFault;
 use std::error::Error;
 use std::fmt;
 
-/// Why an edit can't be made, in the order in which this is looked at. It prints as its code, X1 to X4.
+/// Why an edit can't be made, in the order in which this is looked at. It prints as its code, X1 to
+/// X4.
 #[derive(Clone, Copy, Debug, PartialEq, Eq)]
 pub enum EditFault {
     /// A number isn't that of a step.

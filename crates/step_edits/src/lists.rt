@@ -1,6 +1,9 @@
-ghost use Rattle.std.specs.Prelude.{◌≡◌, ◌≤◌, ◌<◌, ◌+◌, length, slice_get, option_copied, IfOk, IfSome, None};
+ghost use Rattle.std.specs.Prelude.{◌≡◌, ◌≤◌, ◌<◌, ◌+◌, length, slice_get, option_copied, IfOk};
+ghost use Rattle.std.specs.Prelude.{IfSome, None};
 ghost use Rattle.std.specs.Vec.{vec_capacity};
-ghost use Rattle.step_edits.specs.Edits.{CanBeDone, TellsMemory, edited, edit_fault, inverse, is_number, moved_to, number_fault, place_of, put_back, step_at, weigh_back, weigh_fault};
+ghost use Rattle.step_edits.specs.Edits.{CanBeDone, TellsMemory, edited, edit_fault, inverse};
+ghost use Rattle.step_edits.specs.Edits.{is_number, moved_to, number_fault, place_of, put_back};
+ghost use Rattle.step_edits.specs.Edits.{step_at, weigh_back, weigh_fault};
 
 use crate::edits::Edit;
 use crate::faults::EditFault;
@@ -44,8 +47,9 @@ fn weigh_fault(op: Option<&Op>) -> Option<EditFault>
     }
 }
 
-/// Why an edit of a list can't be done, whatever the list then does aboard: [`EditFault::NoStep`] where a number isn't that of a step,
-/// and for `Reweigh` then `NotLoad`; `None` where it can. A step may be inserted at any number from 1 to one more than there are steps.
+/// Why an edit of a list can't be done, whatever the list then does aboard: [`EditFault::NoStep`]
+/// where a number isn't that of a step, and for `Reweigh` then `NotLoad`; `None` where it can. A
+/// step may be inserted at any number from 1 to one more than there are steps.
 pub fn fault_of(ops: &[Op], edit: &Edit) -> Option<EditFault>
     ensures exact { result ≡ edit_fault ops.now edit.now }
     ensures memory { IfSome result TellsMemory }
@@ -83,7 +87,8 @@ fn weigh_back(at: u32, kg: Kg, op: Option<&Op>) -> Edit
     }
 }
 
-/// The edit that takes an edit of this list back: where the edit can be done, the list after it and after its inverse is this list again.
+/// The edit that takes an edit of this list back: where the edit can be done, the list after it and
+/// after its inverse is this list again.
 pub fn inverse(ops: &[Op], edit: &Edit) -> Edit
     ensures { result ≡ inverse ops.now edit.now }
 {
@@ -158,7 +163,8 @@ fn perform(ops: &mut Vec<Op>, edit: &Edit)
     }
 }
 
-/// The list after an edit that can be done ([`fault_of`] answers `None`). It is allocated once; out of memory is the only error.
+/// The list after an edit that can be done ([`fault_of`] answers `None`). It is allocated once; out
+/// of memory is the only error.
 pub fn edited(alloc: Global, ops: &[Op], edit: &Edit) -> Result<Vec<Op>, AllocError>
     requires { edit_fault ops.now edit.now ≡ None }
     ensures { IfOk result (λ v. v.items ≡ edited ops.now edit.now) }

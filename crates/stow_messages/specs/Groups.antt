@@ -1,12 +1,16 @@
--- How the segments of a message are cut into parts: a location of a cell (LOC+147) begins a group, and in a movement
--- instruction a handling (HAN) is a part by itself. A group runs to the next part or to the end of the message.
-use Rattle.std.specs.Prelude.{List, [], ◌∷◌, Option, Some, None, Bool, true, ◌&&◌, ◌||◌, if◌then◌else◌, find}
+-- How the segments of a message are cut into parts: a location of a cell (LOC+147) begins a group,
+-- and in a movement instruction a handling (HAN) is a part by itself. A group runs to the next part
+-- or to the end of the message.
+use Rattle.std.specs.Prelude.{List, [], ◌∷◌, Option, Some, None, Bool, true, ◌&&◌, ◌||◌}
+use Rattle.std.specs.Prelude.{if◌then◌else◌, find}
 use Rattle.std.specs.Option.{option_or, is_some}
 use Rattle.edifact_text.specs.Interchange.{Numbered}
-use Rattle.stow_messages.specs.declared.groups.SegmentKind.TheVariants.{Location, Handling, Equipment, Verified, Gross}
+use Rattle.stow_messages.specs.declared.groups.SegmentKind.TheVariants.{Location, Handling}
+use Rattle.stow_messages.specs.declared.groups.SegmentKind.TheVariants.{Equipment, Verified, Gross}
 use Rattle.stow_messages.specs.Kinds.{has_kind}
 
--- What counts of a group: its location, and the first container, verified mass and gross mass behind it.
+-- What counts of a group: its location, and the first container, verified mass and gross mass
+-- behind it.
 pub record Found : Type 0 where
   pub location : Numbered
   pub equipment : Option Numbered
@@ -30,7 +34,8 @@ pub data Part : Type 0 where
   Handled : Numbered → Part
   Located : Found → Part
 
--- The segment begins a part. Handlings are parts of a movement instruction; in a bay plan they are ignored.
+-- The segment begins a part. Handlings are parts of a movement instruction; in a bay plan they are
+-- ignored.
 abbrev pub begins : Bool → Numbered → Bool
 begins handles s = if has_kind Location s then true else handles && has_kind Handling s
 
@@ -45,9 +50,11 @@ part_at s behind = if has_kind Location s then Located (found_in s behind) else 
 abbrev pub parts_of : Bool → List Numbered → List Part
 parts_of handles [] = []
 parts_of handles (s ∷ more) =
-    if begins handles s then part_at s (until_part handles more) ∷ parts_of handles more else parts_of handles more
+    if begins handles s then part_at s (until_part handles more) ∷ parts_of handles more
+    else parts_of handles more
 
--- What is found where nothing is behind the location yet, and with one more segment: the first of each kind counts.
+-- What is found where nothing is behind the location yet, and with one more segment: the first of
+-- each kind counts.
 abbrev pub found_at : Numbered → Found
 found_at location = found_in location []
 
@@ -85,7 +92,8 @@ handling_behind last (Located f) = last
 -- the parts in their order, where this is the last handling before them
 abbrev pub handled_parts : Option Numbered → List Part → List HandledPart
 handled_parts last [] = []
-handled_parts last (p ∷ more) = record { handling = last; part = p } ∷ handled_parts (handling_behind last p) more
+handled_parts last (p ∷ more) =
+    record { handling = last; part = p } ∷ handled_parts (handling_behind last p) more
 
 -- the segment that begins a part
 abbrev pub location_of : Part → Numbered

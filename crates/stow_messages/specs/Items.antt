@@ -1,5 +1,5 @@
--- The items of a bay plan (BAPLIE, UN/EDIFACT D.95B): those of its groups in their order. The first fault in the order of the
--- groups is the plan's.
+-- The items of a bay plan (BAPLIE, UN/EDIFACT D.95B): those of its groups in their order. The first
+-- fault in the order of the groups is the plan's.
 use Rattle.std.specs.Prelude.{ℕ, List, [], ◌∷◌, Option, Result, Ok, Err, false}
 use Rattle.edifact_text.specs.Interchange.{Opened}
 use Rattle.edifact_text.specs.Reading.{opened}
@@ -25,7 +25,8 @@ with_item_of mark items f = item_in mark f >>= with_entry 30000 items f.location
 abbrev pub items_from : ℕ → List Item → List Part → Result (List Item) StowFault
 items_from mark items [] = Ok items
 items_from mark items (Handled s ∷ more) = items_from mark items more
-items_from mark items (Located f ∷ more) = with_item_of mark items f >>= (λ longer. items_from mark longer more)
+items_from mark items (Located f ∷ more) =
+    with_item_of mark items f >>= (λ longer. items_from mark longer more)
 
 -- the items of a message, in which handlings are ignored
 abbrev pub items_of : Opened → Result (List Item) StowFault

@@ -3,7 +3,9 @@ use Rattle.std.specs.Prelude.{ℕ, List, Bool, true, false, if◌then◌else◌,
 use Rattle.std.specs.Str.{bytes_eq}
 use Rattle.edifact_text.specs.Interchange.{Numbered, component}
 use Rattle.stow_messages.specs.declared.groups.SegmentKind.{SegmentKind}
-use Rattle.stow_messages.specs.declared.groups.SegmentKind.TheVariants.{Location, Handling, Equipment, Verified, Gross, Other}
+use Rattle.stow_messages.specs.declared.groups.SegmentKind.TheVariants.{Location, Handling}
+use Rattle.stow_messages.specs.declared.groups.SegmentKind.TheVariants.{Equipment, Verified, Gross}
+use Rattle.stow_messages.specs.declared.groups.SegmentKind.TheVariants.{Other}
 
 -- component j of element i of the segment is this text
 abbrev pub has : Numbered → ℕ → ℕ → List ℕ → Bool
@@ -11,7 +13,8 @@ has s i j text = bytes_eq (component s.parts i j) text
 
 -- a measurement, by its qualifier
 abbrev pub measurement_of : Numbered → SegmentKind
-measurement_of s = if has s 1 0 (codes "VGM") then Verified else if has s 1 0 (codes "WT") then Gross else Other
+measurement_of s =
+    if has s 1 0 (codes "VGM") then Verified else if has s 1 0 (codes "WT") then Gross else Other
 
 abbrev pub kind_of : Numbered → SegmentKind
 kind_of s =

@@ -1,7 +1,9 @@
--- The lifts of a movement instruction (MOVINS, UN/EDIFACT D.95B): those of its groups in their order, each handled as the last
--- handling before it says. The first fault in the order of the segments is the instruction's, and those of a group come before
--- those of the segment that ends it.
-use Rattle.std.specs.Prelude.{ℕ, List, [], ◌∷◌, Option, Some, None, Result, Ok, Err, true, if◌then◌else◌, codes}
+-- The lifts of a movement instruction (MOVINS, UN/EDIFACT D.95B): those of its groups in their
+-- order, each handled as the last handling before it says. The first fault in the order of the
+-- segments is the instruction's, and those of a group come before those of the segment that ends
+-- it.
+use Rattle.std.specs.Prelude.{ℕ, List, [], ◌∷◌, Option, Some, None, Result, Ok, Err, true}
+use Rattle.std.specs.Prelude.{if◌then◌else◌, codes}
 use Rattle.std.specs.Option.{option_map}
 use Rattle.arrayvec.specs.ArrayVec.{ArrayVec}
 use Rattle.units_core.specs.declared.cells.Cell.{Cell}
@@ -14,10 +16,12 @@ use Rattle.stow_messages.specs.declared.lifts.Lift.TheVariants.{Load, Discharge}
 use Rattle.stow_messages.specs.declared.lifts.Handling.{Handling}
 use Rattle.stow_messages.specs.declared.lifts.Handling.TheVariants.{Loading, Discharging}
 use Rattle.stow_messages.specs.declared.faults.StowFault.{StowFault}
-use Rattle.stow_messages.specs.declared.faults.StowCode.TheVariants.{Envelope, LiftWithoutHandling, UnknownHandling}
+use Rattle.stow_messages.specs.declared.faults.StowCode.TheVariants.{Envelope, LiftWithoutHandling}
+use Rattle.stow_messages.specs.declared.faults.StowCode.TheVariants.{UnknownHandling}
 use Rattle.units_core.specs.Outcome.{◌>>=◌}
 use Rattle.stow_messages.specs.Entries.{fault_at, or_fault_at, cell_at, id_of, item_of, with_entry}
-use Rattle.stow_messages.specs.Groups.{Found, Part, Handled, Located, names_a_container, parts_of, groups_in, HandledPart, handled_parts}
+use Rattle.stow_messages.specs.Groups.{Found, Part, Handled, Located, names_a_container, parts_of}
+use Rattle.stow_messages.specs.Groups.{groups_in, HandledPart, handled_parts}
 use Rattle.stow_messages.specs.Kinds.{has}
 
 -- what a handling says: LOA to load, DIS to discharge, and no other code
@@ -30,7 +34,8 @@ handling_at s =
 -- A group under DIS is a discharge where it has a container or a mass, which isn't read.
 abbrev pub lift_of : ℕ → Found → Cell → Handling → ArrayVec ℕ → Result (Option Lift) StowFault
 lift_of mark f cell Loading id = item_of mark f cell id >>= (λ item. Ok (option_map Load item))
-lift_of mark f cell Discharging id = Ok (if names_a_container f then Some (Discharge cell id) else None)
+lift_of mark f cell Discharging id =
+    Ok (if names_a_container f then Some (Discharge cell id) else None)
 
 -- the lift of a group behind a handling, if there was one
 abbrev pub lift_in : ℕ → Option Handling → Found → Result (Option Lift) StowFault
@@ -46,8 +51,10 @@ with_lift_of mark handling lifts f = lift_in mark handling f >>= with_entry 2000
 
 abbrev pub lifts_from : ℕ → Option Handling → List Lift → List Part → Result (List Lift) StowFault
 lifts_from mark handling lifts [] = Ok lifts
-lifts_from mark handling lifts (Handled s ∷ more) = handling_at s >>= (λ next. lifts_from mark (Some next) lifts more)
-lifts_from mark handling lifts (Located f ∷ more) = with_lift_of mark handling lifts f >>= (λ longer. lifts_from mark handling longer more)
+lifts_from mark handling lifts (Handled s ∷ more) =
+    handling_at s >>= (λ next. lifts_from mark (Some next) lifts more)
+lifts_from mark handling lifts (Located f ∷ more) =
+    with_lift_of mark handling lifts f >>= (λ longer. lifts_from mark handling longer more)
 
 -- the lifts of a message, before which there was no handling
 abbrev pub lifts_of : Opened → Result (List Lift) StowFault
@@ -66,7 +73,8 @@ abbrev pub handling_of : Option Numbered → Result (Option Handling) StowFault
 handling_of None = Ok None
 handling_of (Some s) = handling_at s >>= (λ handling. Ok (Some handling))
 
--- the lift of a part behind this handling: a handling gives none, but has a fault where it isn't understood
+-- the lift of a part behind this handling: a handling gives none, but has a fault where it isn't
+-- understood
 abbrev pub lift_behind : ℕ → Option Numbered → Part → Result (Option Lift) StowFault
 lift_behind mark last (Handled s) = handling_at s >>= (λ handling. Ok None)
 lift_behind mark last (Located f) = handling_of last >>= (λ handling. lift_in mark handling f)

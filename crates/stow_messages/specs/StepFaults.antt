@@ -1,15 +1,18 @@
 -- A steps file with its rows, or the fault of a text that is none.
-use Rattle.std.specs.Prelude.{◌≡◌, ◌≢◌, ◌⊎◌, ℕ, ◌+◌, ◌<◌, ◌≤◌, List, [], ◌∷◌, ◌++◌, map, length, Ok, Err, true, false}
+use Rattle.std.specs.Prelude.{◌≡◌, ◌≢◌, ◌⊎◌, ℕ, ◌+◌, ◌<◌, ◌≤◌, List, [], ◌∷◌, ◌++◌, map, length, Ok}
+use Rattle.std.specs.Prelude.{Err, true, false}
 use Rattle.std.specs.List.{filter}
 use Rattle.csv_text.specs.Reading.{Fields, records_of}
 use Rattle.stow_messages.specs.declared.step_rows.StepRow.{StepRow}
 use Rattle.stow_messages.specs.declared.step_rows.StepRow.TheVariants.{Lift}
 use Rattle.stow_messages.specs.declared.step_faults.StepsFault.{StepsFault}
 use Rattle.stow_messages.specs.declared.step_faults.StepsCode.{StepsCode}
-use Rattle.stow_messages.specs.declared.step_faults.StepsCode.TheVariants.{BadCsv, LiftTwice, LiftMissing, TooMany}
+use Rattle.stow_messages.specs.declared.step_faults.StepsCode.TheVariants.{BadCsv, LiftTwice}
+use Rattle.stow_messages.specs.declared.step_faults.StepsCode.TheVariants.{LiftMissing, TooMany}
 use Rattle.stow_messages.specs.Steps.{row_of, is_lift, stands, EachLiftOnce}
 
--- The text has a heading of four fields and then these records, or it has neither heading nor records.
+-- The text has a heading of four fields and then these records, or it has neither heading nor
+-- records.
 abbrev pub AreUnderHeading : List ℕ → List Fields → Type 0
 AreUnderHeading text records =
     ((heading : Fields) × (records_of text ≡ heading ∷ records) × (length heading ≡ 4))
@@ -39,12 +42,14 @@ pub record IsHeadingFault (text : List ℕ) (f : StepsFault) : Type 0 where
   pub not_four : length heading ≢ 4
   pub fault_is : f ≡ record { code = BadCsv; at = 1 }
 
--- A record is refused behind these rows: it is one too many, or it writes no row, or its lift is among them.
+-- A record is refused behind these rows: it is one too many, or it writes no row, or its lift is
+-- among them.
 abbrev pub IsRefusedRecord : ℕ → List StepRow → Fields → StepsCode → Type 0
 IsRefusedRecord lifts rows fields code =
     ((length rows ≡ 200000) × (code ≡ TooMany))
     ⊎ (((length rows < 200000) × (row_of lifts fields ≡ Err code))
-    ⊎ ((n : ℕ) × (length rows < 200000) × (row_of lifts fields ≡ Ok (Lift n)) × (stands n rows ≡ true) × (code ≡ LiftTwice)))
+    ⊎ ((n : ℕ) × (length rows < 200000) × (row_of lifts fields ≡ Ok (Lift n))
+    × (stands n rows ≡ true) × (code ≡ LiftTwice)))
 
 -- A record is refused, and none before it is refused. The heading is record 1.
 pub record IsRecordFault (lifts : ℕ) (text : List ℕ) (f : StepsFault) : Type 0 where
@@ -73,4 +78,5 @@ pub record IsMissing (lifts : ℕ) (text : List ℕ) (f : StepsFault) : Type 0 w
 
 -- The fault of a text that is no steps file for this number of lifts.
 abbrev pub IsStepsFault : ℕ → List ℕ → StepsFault → Type 0
-IsStepsFault lifts text f = IsHeadingFault text f ⊎ (IsRecordFault lifts text f ⊎ IsMissing lifts text f)
+IsStepsFault lifts text f =
+    IsHeadingFault text f ⊎ (IsRecordFault lifts text f ⊎ IsMissing lifts text f)

@@ -1,6 +1,7 @@
--- Bookkeeping: what the code that reads a steps file keeps while it reads, as its own functions hand it on. No definition of the
--- format cites this.
-use Rattle.std.specs.Prelude.{◌≡◌, ◌≢◌, ℕ, ◌+◌, ◌≤◌, List, length, Result, Err, Bool, false, slice_index_or, ⊤}
+-- Bookkeeping: what the code that reads a steps file keeps while it reads, as its own functions
+-- hand it on. No definition of the format cites this.
+use Rattle.std.specs.Prelude.{◌≡◌, ◌≢◌, ℕ, ◌+◌, ◌≤◌, List, length, Result, Err, Bool, false}
+use Rattle.std.specs.Prelude.{slice_index_or, ⊤}
 use Rattle.std.specs.Borrow.{Bor}
 use Rattle.csv.specs.declared.reader.Reader.{Reader}
 use Rattle.csv_text.specs.Reading.{Fields, HasLeft}

@@ -3,7 +3,8 @@ ghost use Rattle.std.specs.Prelude.{◌≡◌};
 use edifact_text::EdiFault;
 use std::fmt;
 
-/// Why a text is no bay plan, or no movement instruction. The display is the code of the cause, M1 to M10.
+/// Why a text is no bay plan, or no movement instruction. The display is the code of the cause, M1
+/// to M10.
 #[derive(Clone, Copy, Debug, PartialEq, Eq)]
 pub enum StowCode {
     /// The text isn't the interchange of one such message.
@@ -28,8 +29,8 @@ pub enum StowCode {
     NoMemory,
 }
 
-/// The cause, and the number of the segment at which it was found: that of the message header is 1, and 0
-/// stands for the message as a whole.
+/// The cause, and the number of the segment at which it was found: that of the message header is 1,
+/// and 0 stands for the message as a whole.
 #[derive(Clone, Copy, Debug, PartialEq, Eq)]
 pub struct StowFault {
     pub code: StowCode,

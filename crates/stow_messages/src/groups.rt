@@ -1,8 +1,9 @@
 ghost use Rattle.std.specs.Prelude.{◌≡◌, ◌≢◌, Ok, Err, IfErr, OnOk, ◌∷◌, [], codes, if◌then◌else◌};
 ghost use Rattle.std.specs.Str.{bytes_eq};
 ghost use Rattle.edifact_text.specs.Interchange.{component};
-ghost use Rattle.edifact_text.specs.Views.{letters_of, meant, numbered_view};
-ghost use Rattle.stow_messages.specs.Entries.{IsFaultOf, cell_at, fault_at, id_at, id_of, kg_at, item_of, with_entry};
+ghost use Rattle.edifact_text.specs.Views.{letters_of, meaning_of, numbered_view};
+ghost use Rattle.stow_messages.specs.Entries.{IsFaultOf, cell_at, fault_at, id_at, id_of, kg_at};
+ghost use Rattle.stow_messages.specs.Entries.{item_of, with_entry};
 ghost use Rattle.stow_messages.specs.Groups.{found_at, names_a_container, with_segment};
 ghost use Rattle.stow_messages.specs.Kinds.{has, kind_of, measurement_of};
 ghost use Rattle.stow_messages.specs.Views.{found_view};
@@ -14,8 +15,8 @@ use arrayvec::ArrayVec;
 use edifact_text::{Raw, Segment, Tag};
 use units_core::{Cell, Kg};
 
-/// What counts of a group of segments: the location of the cell that begins it, and the first container,
-/// verified gross mass and gross mass behind it.
+/// What counts of a group of segments: the location of the cell that begins it, and the first
+/// container, verified gross mass and gross mass behind it.
 #[derive(Clone, Copy)]
 pub struct Group<'a> {
     pub location: Segment<'a>,
@@ -54,7 +55,7 @@ pub enum SegmentKind {
 #[inline(always)]
 #[tactic(auto, using(crate::proofs::Texts::told))]
 fn reads(component: Raw<'_>, text: &[u8]) -> bool
-    ensures { result ≡ bytes_eq (meant component.entry) text.now }
+    ensures { result ≡ bytes_eq (meaning_of component.entry) text.now }
 {
     component.is(text)
 }
@@ -276,8 +277,8 @@ impl<'a> Group<'a> {
         self.equipment.is_some() || self.verified.is_some() || self.gross.is_some()
     }
 
-    /// The item of the group's cell and identification, nothing where the group has neither a container nor a
-    /// mass, or its first fault.
+    /// The item of the group's cell and identification, nothing where the group has neither a
+    /// container nor a mass, or its first fault.
     pub fn item(
         &self,
         cell: Cell,

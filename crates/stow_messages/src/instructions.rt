@@ -2,7 +2,8 @@ ghost use Rattle.std.specs.Prelude.{◌≡◌, ◌≢◌, ◌≤◌, [], None, l
 ghost use Rattle.edifact_text.specs.Views.{numbered_view};
 ghost use Rattle.stow_messages.specs.Faults.{AreLifts};
 ghost use Rattle.stow_messages.specs.Entries.{IsFaultOf};
-ghost use Rattle.stow_messages.specs.Lifts.{handling_at, lift_of, lift_in, lifts_from, movement_instruction, with_lift_of};
+ghost use Rattle.stow_messages.specs.Lifts.{handling_at, lift_of, lift_in, lifts_from};
+ghost use Rattle.stow_messages.specs.Lifts.{movement_instruction, with_lift_of};
 ghost use Rattle.stow_messages.specs.Views.{found_view, parts_left};
 
 use crate::faults::{StowCode, StowFault};
@@ -108,10 +109,11 @@ fn lifts_of(alloc: Global, parts: Parts<'_>, mark: u8) -> Result<Vec<Lift>, Stow
     Ok(lifts)
 }
 
-/// The lifts of a movement instruction: the message MOVINS of directory D.95B in a text of ISO 9735. A handling,
-/// `HAN+LOA` to load or `HAN+DIS` to discharge, holds for the groups behind it until the next; a group is read as in
-/// a bay plan, but the values of a discharge's masses are ignored. The first fault is answered, with the number of its
-/// segment; out of memory has segment 0.
+/// The lifts of a movement instruction: the message MOVINS of directory D.95B in a text of ISO
+/// 9735. A handling, `HAN+LOA` to load or `HAN+DIS` to discharge, holds for the groups behind it
+/// until the next; a group is read as in a bay plan, but the values of a discharge's masses are
+/// ignored. The first fault is answered, with the number of its segment; out of memory has segment
+/// 0.
 pub fn movins(alloc: Global, bytes: &[u8]) -> Result<Vec<Lift>, StowFault>
     ensures ok { IfOk result (λ lifts. movement_instruction bytes.now ≡ Ok lifts.items) }
     ensures refused { IfErr result (IsFaultOf (movement_instruction bytes.now)) }

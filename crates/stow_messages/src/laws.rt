@@ -16,9 +16,10 @@ ghost use Rattle.stow_messages.specs.Lifts.{lift_groups, movement_instruction};
 ghost use Rattle.stow_messages.specs.StepFaults.{AreSteps, IsStepsFault};
 ghost use Rattle.stow_messages.specs.Steps.{steps_of};
 
-/// A text is a bay plan with its items, or it has a fault, and one only: that of its envelope, or of the first group that is
-/// refused (`specs/Items.antt`, `specs/Faults.antt`). No container is lost: there are as many items as groups with a container or
-/// a mass. [`baplie`](crate::baplie) answers what is defined here.
+/// A text is a bay plan with its items, or it has a fault, and one only: that of its envelope, or
+/// of the first group that is refused (`specs/Items.antt`, `specs/Faults.antt`). No container is
+/// lost: there are as many items as groups with a container or a mass. [`baplie`](crate::baplie)
+/// answers what is defined here.
 pub fn one_bay_plan()
     ensures sound { (text : List ℕ) (items : List Item) →
         AreItems text items → bay_plan text ≡ Ok items }
@@ -33,9 +34,10 @@ pub fn one_bay_plan()
         length items ≡ length (filter names_a_container (item_groups m)) }
 {}
 
-/// A text is a movement instruction with its lifts, or it has a fault, and one only: that of its envelope, or of the first part,
-/// a handling or a group, that is refused (`specs/Lifts.antt`, `specs/Faults.antt`). No container is lost: there are as many lifts
-/// as groups with a container or a mass. [`movins`](crate::movins) answers what is defined here.
+/// A text is a movement instruction with its lifts, or it has a fault, and one only: that of its
+/// envelope, or of the first part, a handling or a group, that is refused (`specs/Lifts.antt`,
+/// `specs/Faults.antt`). No container is lost: there are as many lifts as groups with a container
+/// or a mass. [`movins`](crate::movins) answers what is defined here.
 pub fn one_movement_instruction()
     ensures sound { (text : List ℕ) (lifts : List Lift) →
         AreLifts text lifts → movement_instruction text ≡ Ok lifts }
@@ -51,9 +53,10 @@ pub fn one_movement_instruction()
         length lifts ≡ length (filter names_a_container (lift_groups m)) }
 {}
 
-/// A text is a steps file with its rows, each lift of the instruction in one of them, or it has a fault, and one only: that of
-/// its heading, or of the first record that is refused, or else the least lift that is missing (`specs/StepFaults.antt`). No
-/// record is lost: there are as many rows as records under the heading. [`steps`](crate::steps) answers what is defined here.
+/// A text is a steps file with its rows, each lift of the instruction in one of them, or it has a
+/// fault, and one only: that of its heading, or of the first record that is refused, or else the
+/// least lift that is missing (`specs/StepFaults.antt`). No record is lost: there are as many rows
+/// as records under the heading. [`steps`](crate::steps) answers what is defined here.
 pub fn one_steps_file()
     ensures sound { (lifts : ℕ) (text : List ℕ) (rows : List StepRow) →
         AreSteps lifts text rows → steps_of lifts text ≡ Ok rows }

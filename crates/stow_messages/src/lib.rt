@@ -1,6 +1,7 @@
-//! The messages that say what is aboard and what is moved: the bay plan (BAPLIE of UN/EDIFACT directory
-//! D.95B) as a list of items, the movement instruction (MOVINS) as a list of lifts, and a planner's steps file as a
-//! list of rows: the order of the lifts, with the changes of tanks and the restows among them.
+//! The messages that say what is aboard and what is moved: the bay plan (BAPLIE of UN/EDIFACT
+//! directory D.95B) as a list of items, the movement instruction (MOVINS) as a list of lifts, and a
+//! planner's steps file as a list of rows: the order of the lifts, with the changes of tanks and
+//! the restows among them.
 #![tactic(auto)]
 
 mod faults;

@@ -17,8 +17,8 @@ pub enum Part<'a> {
     Located(Group<'a>),
 }
 
-/// The parts of a message that are left, in their order. This is the one walk over the segments, for a bay plan and
-/// for a movement instruction: they differ in whether handlings are parts.
+/// The parts of a message that are left, in their order. This is the one walk over the segments,
+/// for a bay plan and for a movement instruction: they differ in whether handlings are parts.
 #[derive(Clone, Copy)]
 pub struct Parts<'a> {
     left: Segments<'a>,
@@ -42,7 +42,8 @@ impl<'a> Parts<'a> {
     /// The next segment.
     #[inline(always)]
     fn next_segment(&mut self) -> Option<Segment<'a>>
-        ensures segment { MatchOption result ((segments_left self.old ≡ []) × (segments_left self.new ≡ []))
+        ensures segment { MatchOption result
+            ((segments_left self.old ≡ []) × (segments_left self.new ≡ []))
             (λ s. segments_left self.old ≡ numbered_view s ∷ segments_left self.new) }
         ensures same { (self.new.handles ≡ self.old.handles) × (self.new.ahead ≡ None) }
     {

@@ -52,10 +52,10 @@ fn items_of(alloc: Global, parts: Parts<'_>, mark: u8) -> Result<Vec<Item>, Stow
     Ok(items)
 }
 
-/// The items of a bay plan: the message BAPLIE of directory D.95B in a text of ISO 9735. A location of a cell
-/// (`LOC+147`) begins a group; the first `EQD` behind it names the container, and the first `MEA+VGM`, else
-/// the first `MEA+WT`, is its gross mass in kg. The first fault is answered, with the number of its segment;
-/// out of memory has segment 0.
+/// The items of a bay plan: the message BAPLIE of directory D.95B in a text of ISO 9735. A location
+/// of a cell (`LOC+147`) begins a group; the first `EQD` behind it names the container, and the
+/// first `MEA+VGM`, else the first `MEA+WT`, is its gross mass in kg. The first fault is answered,
+/// with the number of its segment; out of memory has segment 0.
 pub fn baplie(alloc: Global, bytes: &[u8]) -> Result<Vec<Item>, StowFault>
     ensures ok { IfOk result (λ items. bay_plan bytes.now ≡ Ok items.items) }
     ensures refused { IfErr result (IsFaultOf (bay_plan bytes.now)) }

@@ -24,8 +24,8 @@ pub enum StepsCode {
     NoMemory,
 }
 
-/// The cause, and where it was found: the number of the record, that of the heading being 1; for a missing lift
-/// the least such lift; for out of memory 0.
+/// The cause, and where it was found: the number of the record, that of the heading being 1; for a
+/// missing lift the least such lift; for out of memory 0.
 #[derive(Clone, Copy, Debug, PartialEq, Eq)]
 pub struct StepsFault {
     pub code: StepsCode,

@@ -1,10 +1,13 @@
-ghost use Rattle.std.specs.Prelude.{◌≡◌, ◌≢◌, ℕ, ◌≤◌, ◌<◌, ◌+◌, ◌^◌, List, [], length, OnOk, IfOk, IfErr, Ok, Err};
+ghost use Rattle.std.specs.Prelude.{◌≡◌, ◌≢◌, ℕ, ◌≤◌, ◌<◌, ◌+◌, ◌^◌, List, [], length, OnOk, IfOk};
+ghost use Rattle.std.specs.Prelude.{IfErr, Ok, Err};
 ghost use Rattle.csv.specs.Records.{fields_of};
 ghost use Rattle.csv_text.specs.Reading.{Fields, Gave, HasLeft};
 ghost use Rattle.stow_messages.specs.declared.step_rows.StepRow.{StepRow};
 ghost use Rattle.stow_messages.specs.StepsSoFar.{AreFlags, IsCodeOf, IsWithin, OfRecordsLeft};
 ghost use Rattle.stow_messages.specs.StepFaults.{AreSteps};
-ghost use Rattle.stow_messages.specs.Steps.{EachLiftOnce, IsFaultOf, at_record, complete, with_row, missing_from, rows_from, rows_under, steps_of, with_record};
+ghost use Rattle.stow_messages.specs.Steps.{EachLiftOnce, IsFaultOf, at_record, complete, with_row};
+ghost use Rattle.stow_messages.specs.Steps.{missing_from, rows_from, rows_under, steps_of};
+ghost use Rattle.stow_messages.specs.Steps.{with_record};
 
 use crate::step_faults::{StepsCode, StepsFault, fault_at};
 use crate::step_rows::{FIELDS, StepRow, row_of};
@@ -15,7 +18,8 @@ use std::alloc::Global;
 /// The greatest number of rows in a steps file.
 const MAX_ROWS: usize = 200_000;
 
-/// The rows of a steps file so far, and a flag for each lift that says whether the lift is among them.
+/// The rows of a steps file so far, and a flag for each lift that says whether the lift is among
+/// them.
 #[derive(Debug, Drop)]
 struct Gathered {
     rows: Vec<StepRow>,
@@ -193,11 +197,12 @@ fn complete(lifts: u32, gathered: Gathered) -> Result<Vec<StepRow>, StepsFault>
     }
 }
 
-/// The rows of a steps file, in which each of the lifts 1 to `lifts` occurs once, and changes of tanks and restows
-/// among them: comma-separated values, a heading of four fields, whose text is ignored, and a record for each step,
-/// `lift,N,,`, `tank,NAME,KG,` or `restow,FROM,TO,ID`. The first fault is answered: of a record, in this order,
-/// [`StepsCode::TooMany`] (a record past 200,000 behind the heading), `BadCsv`, `BadKind`, `BadField`, `NoLift` and
-/// `LiftTwice`, with the record's number; at the end of the file `LiftMissing`, with the least missing lift.
+/// The rows of a steps file, in which each of the lifts 1 to `lifts` occurs once, and changes of
+/// tanks and restows among them: comma-separated values, a heading of four fields, whose text is
+/// ignored, and a record for each step, `lift,N,,`, `tank,NAME,KG,` or `restow,FROM,TO,ID`. The
+/// first fault is answered: of a record, in this order, [`StepsCode::TooMany`] (a record past
+/// 200,000 behind the heading), `BadCsv`, `BadKind`, `BadField`, `NoLift` and `LiftTwice`, with the
+/// record's number; at the end of the file `LiftMissing`, with the least missing lift.
 pub fn steps(alloc: Global, bytes: &[u8], lifts: u32) -> Result<Vec<StepRow>, StepsFault>
     ensures once { IfOk result (λ rows. EachLiftOnce lifts rows.items) }
     ensures ok { IfOk result (λ rows. steps_of lifts bytes.now ≡ Ok rows.items) }

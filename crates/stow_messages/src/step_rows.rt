@@ -1,7 +1,8 @@
 ghost use Rattle.std.specs.Prelude.{◌≡◌, ℕ, IfOk};
 ghost use Rattle.csv.specs.Records.{fields_of};
 ghost use Rattle.std.specs.Str.{bytes_eq};
-ghost use Rattle.stow_messages.specs.Steps.{within, text_of, lift_number, lift_row, tank_row, restow_row, row_by, row_of};
+ghost use Rattle.stow_messages.specs.Steps.{within, text_of, lift_number, lift_row, tank_row};
+ghost use Rattle.stow_messages.specs.Steps.{restow_row, row_by, row_of};
 ghost use Rattle.stow_messages.specs.StepsSoFar.{IsWithin};
 
 use crate::items::copied;
@@ -27,7 +28,8 @@ pub enum StepRow {
         name: ArrayVec<u8, 16>,
         kg: u32,
     },
-    /// The container in the cell `from` is put into the cell `to`. An empty identification fits any container.
+    /// The container in the cell `from` is put into the cell `to`. An empty identification fits any
+    /// container.
     Restow {
         from: Cell,
         to: Cell,

@@ -2,8 +2,9 @@ ghost use Rattle.std.specs.Prelude.{◌≡◌, ◌==◌, ◌<◌, ◌≤◌, ◌
 ghost use Rattle.std.specs.Char.{is_ascii_digit};
 ghost use Rattle.std.specs.List.{list_all};
 ghost use Rattle.std.specs.Str.Parse.{digits_value};
-ghost use Rattle.edifact_text.specs.Views.{meant};
-ghost use Rattle.stow_messages.specs.Weights.{kg_in, kg_of, digits_of, behind_digits, is_fraction, is_above_zero, begins_with_digit};
+ghost use Rattle.edifact_text.specs.Views.{meaning_of};
+ghost use Rattle.stow_messages.specs.Weights.{kg_in, kg_of, digits_of, behind_digits, is_fraction};
+ghost use Rattle.stow_messages.specs.Weights.{is_above_zero, begins_with_digit};
 
 use arrayvec::ArrayVec;
 use edifact_text::Raw;
@@ -83,10 +84,10 @@ fn kilograms_of(text: &[u8], mark: u8) -> Option<Kg>
     Kg::new(u32::try_from(rounded).ok()?)
 }
 
-/// The mass in kg that a value writes, a fraction rounded up by its digits alone; `None` for what is no
-/// number, over 35 bytes long, or above 999,999 kg. `mark` is the interchange's decimal mark.
+/// The mass in kg that a value writes, a fraction rounded up by its digits alone; `None` for what
+/// is no number, over 35 bytes long, or above 999,999 kg. `mark` is the interchange's decimal mark.
 pub fn kilograms(value: Raw<'_>, mark: u8) -> Option<Kg>
-    ensures { result ≡ kg_in mark (meant value.entry) }
+    ensures { result ≡ kg_in mark (meaning_of value.entry) }
 {
     let mut text: ArrayVec<u8, 35> = ArrayVec::new();
     if !value.literal_into(&mut text) {

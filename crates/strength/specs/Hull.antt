@@ -1,7 +1,7 @@
 -- Bookkeeping: what the loads take of a ship's profile alone.
 use Rattle.std.specs.Prelude.{◌≡◌, ℕ, ◌<◌, ◌≤◌, ℤ, List, length, get_or, slice_get, IfSome}
 use Rattle.ship_profile.specs.Ship.{ShipRecord}
-use Rattle.ship_profile.specs.declared.frames.Frame.{Frame}
+use Rattle.units_core.specs.declared.frames.Frame.{Frame}
 use Rattle.strength.specs.Buoyancy.{intervals_aft}
 
 -- how many intervals between stations lie aft of each frame
@@ -13,7 +13,8 @@ pub record IsHull (aft : List ℕ) : Type 0 where
 
 -- how many intervals lie aft of each frame
 abbrev pub AreAft : List ℕ → List ℤ → List Frame → Type 0
-AreAft aft stations frames = (i : ℕ) → IfSome (slice_get frames i) (λ frame. get_or aft i 0 ≡ intervals_aft stations frame.x)
+AreAft aft stations frames = (i : ℕ)
+    → IfSome (slice_get frames i) (λ frame. get_or aft i 0 ≡ intervals_aft stations frame.x)
 
 -- it is that of a ship
 pub record IsHullOf (h : HullRecord) (ship : ShipRecord) : Type 0 where

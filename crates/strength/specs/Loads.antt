@@ -1,5 +1,6 @@
 -- The loads on a ship's hull, or the table or the limit that they lie outside of.
-use Rattle.std.specs.Prelude.{◌≡◌, ℕ, ℤ, length, map, Bool, true, false, Option, Some, None, Result, Ok, Err}
+use Rattle.std.specs.Prelude.{◌≡◌, ℕ, ℤ, length, map, Bool, true, false, Option, Some, None, Result}
+use Rattle.std.specs.Prelude.{Ok, Err}
 use Rattle.std.specs.List.{range_with_len}
 use Rattle.ship_profile.specs.Ship.{ShipRecord}
 use Rattle.ship_profile.specs.Record.{ProfileRecord}
@@ -28,7 +29,9 @@ pub record AreLoadsAt (l : Loads) (shear bending : ℕ → ℤ) (frames : ℕ) (
 -- those of a ship, by the areas at the stations
 abbrev pub AreLoads : Loads → Sum → (ℕ → ℤ) → ShipRecord → Type 0
 AreLoads l s areas ship =
-    AreLoadsAt l (shear_at s areas ship.stations ship.frames) (bending_at s areas ship.stations ship.frames) (length ship.frames) (closing_of s areas ship.stations)
+    AreLoadsAt l (shear_at s areas ship.stations ship.frames)
+    (bending_at s areas ship.stations ship.frames) (length ship.frames)
+    (closing_of s areas ship.stations)
 
 -- an answer that is so where the closing error is within the ship's limit; else the cause
 abbrev pub IsClosed : {X : Type 0} → Result X Outside → (X → Type 0) → Bool → Type 0
@@ -38,8 +41,10 @@ IsClosed (Err outside) is true = ⊥
 IsClosed (Err outside) is false = outside ≡ Closing
 
 -- by the areas, where the Bonjean table has all of them
-abbrev pub IsAlong : {X : Type 0} → Result X Outside → (X → (ℕ → ℤ) → Type 0) → Sum → Option (ℕ → ℤ) → ShipRecord → Type 0
-IsAlong result is s (Some areas) ship = IsClosed result (λ x. is x areas) (closes (closing_of s areas ship.stations) ship.closing_max)
+abbrev pub IsAlong : {X : Type 0} → Result X Outside → (X → (ℕ → ℤ) → Type 0) → Sum
+    → Option (ℕ → ℤ) → ShipRecord → Type 0
+IsAlong result is s (Some areas) ship =
+    IsClosed result (λ x. is x areas) (closes (closing_of s areas ship.stations) ship.closing_max)
 IsAlong (Ok x) is s None ship = ⊥
 IsAlong (Err outside) is s None ship = outside ≡ Bonjean
 
@@ -48,7 +53,8 @@ AreLoadsBy result s areas ship = IsAlong result (λ l areas. AreLoads l s areas 
 
 -- the relation between the numbers from which the loads are made
 abbrev pub AreStrainsOr : Result Strains Outside → Sum → Option (ℕ → ℤ) → ShipRecord → Type 0
-AreStrainsOr result s areas ship = IsAlong result (λ r areas. AreStrains r s areas ship) s areas ship
+AreStrainsOr result s areas ship =
+    IsAlong result (λ r areas. AreStrains r s areas ship) s areas ship
 
 -- with this aboard of a ship, by its hydrostatics; without these there are no loads
 abbrev pub AreLoadsOn : Result Loads Outside → ProfileRecord → Sum → Option Hydrostatics → Type 0
@@ -60,4 +66,5 @@ AreLoadsOf result p s = AreLoadsOn result p s (hydrostatics_at p.tables.hydro (s
 
 -- the figures are those of the ship with this aboard
 abbrev pub IsFloatingWith : Floating → ProfileRecord → Sum → Type 0
-IsFloatingWith f p s = IsFloatingOf (Ok f) (hydrostatics_at p.tables.hydro (s Weight)) (load_of s) p.ship.lbp
+IsFloatingWith f p s =
+    IsFloatingOf (Ok f) (hydrostatics_at p.tables.hydro (s Weight)) (load_of s) p.ship.lbp

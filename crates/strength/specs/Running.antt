@@ -7,7 +7,8 @@ use Rattle.strength.specs.Buoyancy.{arm_top, force_top, tops}
 use Rattle.strength.specs.Strains.{bending_at, closing_of, shear_at}
 use Rattle.strength.specs.declared.loads.Strains.{Strains}
 
--- of the first k intervals, k up to n: twice their volumes, and six times their moments about the after perpendicular
+-- of the first k intervals, k up to n: twice their volumes, and six times their moments about the
+-- after perpendicular
 pub record AreRunning (volumes arms : List ℤ) (xs ys : ℕ → ℤ) (n : ℕ) : Type 0 where
   pub are_volumes : (k : ℕ) → k ≤ n → at volumes k ≡ tops (force_top xs ys) k
   pub are_arms : (k : ℕ) → k ≤ n → at arms k ≡ tops (arm_top xs ys) k

@@ -18,10 +18,11 @@ use hydrostat::DraughtLine;
 use moment_sums::Totals;
 use ship_profile::Profile;
 
-/// Works out the loads on the hull of a ship with this aboard, in kg and kg mm, by one walk along her stations and the draughts there; `false`
-/// where the draught at some station, rounded down, lies outside of the Bonjean table, and the loads may then be any. They are written where they are,
-/// since a move of them is a copy of 500 bytes.
-/// Each draught is looked for first in the row of the one before, and the first of all in the row that `walk` keeps from the last condition.
+/// Works out the loads on the hull of a ship with this aboard, in kg and kg mm, by one walk along
+/// her stations and the draughts there; `false` where the draught at some station, rounded down,
+/// lies outside of the Bonjean table, and the loads may then be any. They are written where they
+/// are, since a move of them is a copy of 500 bytes. Each draught is looked for first in the row of
+/// the one before, and the first of all in the row that `walk` keeps from the last condition.
 pub fn strains_into(
     profile: &Profile,
     hull: &Hull,
@@ -67,8 +68,8 @@ pub fn strains_into(
     true
 }
 
-/// The loads on the hull of a ship with this aboard, as [`strains_into`] works them out; `None` where the draught at some station, rounded
-/// down, lies outside of the Bonjean table.
+/// The loads on the hull of a ship with this aboard, as [`strains_into`] works them out; `None`
+/// where the draught at some station, rounded down, lies outside of the Bonjean table.
 pub fn strains_along(
     profile: &Profile,
     hull: &Hull,

@@ -40,7 +40,8 @@ fn unsigned(number: i64) -> u64
     number as u64
 }
 
-/// The weighted values over the whole distance, rounded down, guessed by about the reciprocal of that distance.
+/// The weighted values over the whole distance, rounded down, guessed by about the reciprocal of
+/// that distance.
 #[inline(always)]
 fn rounded_down(lower: u64, above: u64, upper: u64, below: u64, reciprocal: &mut u64) -> u64
     requires lower { lower ≤ 10 ^ 8 }

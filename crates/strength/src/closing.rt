@@ -22,7 +22,8 @@ fn high_bound(limit: i64) -> i128
     i128::from(limit)
 }
 
-/// Whether a load is between two limits, the first with the other sign: a shear force, a bending moment (sagging is negative) or a closing error.
+/// Whether a load is between two limits, the first with the other sign: a shear force, a bending
+/// moment (sagging is negative) or a closing error.
 pub fn is_between(load: i128, low: i64, high: i64) -> bool
     ensures { result ≡ (int_le (neg_ℤ low) load && int_le load high) }
 {

@@ -1,4 +1,5 @@
-ghost use Rattle.std.specs.Prelude.{◌≡◌, ℕ, pos, ◌+ℤ◌, ◌-ℤ◌, ◌*ℤ◌, ◌+◌, ◌*◌, ◌^◌, ◌<◌, ◌≤◌, ◌≤ℤ◌, ◌<ℤ◌, true, unsigned_abs, length};
+ghost use Rattle.std.specs.Prelude.{◌≡◌, ℕ, pos, ◌+ℤ◌, ◌-ℤ◌, ◌*ℤ◌, ◌+◌, ◌*◌, ◌^◌, ◌<◌, ◌≤◌, ◌≤ℤ◌};
+ghost use Rattle.std.specs.Prelude.{◌<ℤ◌, true, unsigned_abs, length};
 ghost use Rattle.std.specs.Int.{int_div_euclid};
 ghost use Rattle.units_core.specs.Interpolation.{at, IsWithin};
 ghost use Rattle.strength.specs.Buoyancy.{IsBuoyancy, IsMoment, arm_top, force_top, tops};
@@ -60,7 +61,8 @@ fn product(a: i64, b: i64) -> i128
     i128::from(a) * i128::from(b)
 }
 
-/// Six times the moment about the after perpendicular of the volume between two stations, by their places and their areas.
+/// Six times the moment about the after perpendicular of the volume between two stations, by their
+/// places and their areas.
 #[inline(always)]
 pub fn arm_between(aft: i64, fore: i64, first: i64, second: i64) -> i128
     requires aft { unsigned_abs aft ≤ 10 ^ 6 }
@@ -103,7 +105,8 @@ fn coarse_guess(top: i128) -> i64 {
     }
 }
 
-/// About a 2,400,000th of a number, which is nearly always right below 2^71; any number would do, since it is tested.
+/// About a 2,400,000th of a number, which is nearly always right below 2^71; any number would do,
+/// since it is tested.
 #[inline(always)]
 fn guess(top: i128) -> i64 {
     match i64::try_from(top >> 8) {
@@ -121,7 +124,8 @@ fn rest_of(top: i128, quotient: i64) -> i128
     top - i128::from(quotient) * PARTS
 }
 
-/// A number over 2,400,000, rounded down. It is guessed and then tested, since a division of 128 bits takes many times as long.
+/// A number over 2,400,000, rounded down. It is guessed and then tested, since a division of 128
+/// bits takes many times as long.
 fn divided(top: i128) -> i128
     requires { unsigned_abs top ≤ 10 ^ 26 }
     ensures { result ≡ int_div_euclid top (pos 2400000) }
@@ -138,7 +142,8 @@ fn divided(top: i128) -> i128
     top.div_euclid(PARTS)
 }
 
-/// 41 times the moment about `f`, of twice a volume and of six times its moment about the after perpendicular.
+/// 41 times the moment about `f`, of twice a volume and of six times its moment about the after
+/// perpendicular.
 #[inline(always)]
 fn moment_top(f: i64, volume: i64, arm: i128) -> i128
     requires f_near { unsigned_abs f ≤ 10 ^ 6 }
@@ -150,7 +155,8 @@ fn moment_top(f: i64, volume: i64, arm: i128) -> i128
     (product(3 * f, volume) - arm) * 41
 }
 
-/// The moment of buoyancy about `f` in kg mm, rounded down, of twice a volume and of six times its moment about the after perpendicular.
+/// The moment of buoyancy about `f` in kg mm, rounded down, of twice a volume and of six times its
+/// moment about the after perpendicular.
 pub fn buoyancy_moment(f: i64, volume: i64, arm: i128) -> i128
     requires f_near { unsigned_abs f ≤ 10 ^ 6 }
     requires within { unsigned_abs volume ≤ 3 * 10 ^ 16 }

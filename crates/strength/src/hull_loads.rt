@@ -5,7 +5,8 @@ ghost use Rattle.moment_sums.specs.Kept.{values};
 ghost use Rattle.moment_sums.specs.Sum.{Weight};
 ghost use Rattle.hydrostat.specs.Floating.{load, water};
 ghost use Rattle.strength.specs.Immersed.{areas_along};
-ghost use Rattle.strength.specs.Loads.{AreLoadsAt, AreLoadsBy, AreLoadsOf, AreStrainsOr, IsFloatingWith};
+ghost use Rattle.strength.specs.Loads.{AreLoadsAt, AreLoadsBy, AreLoadsOf, AreStrainsOr};
+ghost use Rattle.strength.specs.Loads.{IsFloatingWith};
 
 use crate::aboard::strains_along;
 use crate::closing::closes;

@@ -7,10 +7,12 @@ use crate::stations::intervals_aft;
 use ship_profile::Profile;
 use std::marker::Model;
 
-/// What the loads take of a ship's profile alone, worked out once for all that she has aboard one after another.
+/// What the loads take of a ship's profile alone, worked out once for all that she has aboard one
+/// after another.
 #[derive(Clone, Copy, Drop)]
 pub struct Hull {
-    /// How many intervals between stations lie wholly aft of each frame; 0 at the places behind them.
+    /// How many intervals between stations lie wholly aft of each frame; 0 at the places behind
+    /// them.
     aft: [usize; 16],
 }
 
@@ -26,7 +28,8 @@ impl Model for Hull {
     ghost inverse = { λ v. record { aft = v.aft } };
 }
 
-/// How many intervals between stations lie wholly aft of each frame, and 0 at the places behind the last frame.
+/// How many intervals between stations lie wholly aft of each frame, and 0 at the places behind the
+/// last frame.
 fn frames_aft(profile: &Profile) -> [usize; 16]
     ensures value { AreAft result profile.now.ship.stations profile.now.ship.frames }
     ensures inside { (i : ℕ) → get_or result i 0 < length profile.now.ship.stations }

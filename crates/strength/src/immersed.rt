@@ -51,7 +51,8 @@ fn area_exactly(curves: &Curves, line: &DraughtLine, number: usize, x: Mm) -> Op
     Some(read_down(curves.arguments(), curves.values(number), i, draught))
 }
 
-/// The immersed area at a station, rounded down; `None` where the draught there lies outside of the table.
+/// The immersed area at a station, rounded down; `None` where the draught there lies outside of the
+/// table.
 #[inline(always)]
 pub fn area_near(
     curves: &Curves,

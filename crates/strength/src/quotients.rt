@@ -2,7 +2,8 @@ ghost use Rattle.std.specs.Prelude.{◌≡◌, ◌/◌, ◌<◌, ◌≤◌, ◌^
 
 use units_core::upper_half;
 
-/// 2^64 over a divisor, rounded up, so that a quotient without a rest is guessed right; 0 of 1, where the guess is never right.
+/// 2^64 over a divisor, rounded up, so that a quotient without a rest is guessed right; 0 of 1,
+/// where the guess is never right.
 #[inline(always)]
 pub fn reciprocal_of(by: u64) -> u64
     requires { 0 < by }

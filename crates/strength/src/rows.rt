@@ -1,5 +1,7 @@
-ghost use Rattle.std.specs.Prelude.{◌≡◌, ℕ, ◌+◌, ◌^◌, ◌<◌, ◌≤◌, pos, ◌≤ℤ◌, ◌<ℤ◌, true, false, None, Some, IfSome, length, unsigned_abs};
-ghost use Rattle.units_core.specs.Interpolation.{at, interval, reading, Encloses, IsRising, IsWithin};
+ghost use Rattle.std.specs.Prelude.{◌≡◌, ℕ, ◌+◌, ◌^◌, ◌<◌, ◌≤◌, pos, ◌≤ℤ◌, ◌<ℤ◌, true, false, None};
+ghost use Rattle.std.specs.Prelude.{Some, IfSome, length, unsigned_abs};
+ghost use Rattle.units_core.specs.Interpolation.{at, interval, reading, Encloses, IsRising};
+ghost use Rattle.units_core.specs.Interpolation.{IsWithin};
 ghost use Rattle.units_core.specs.Ratio.{floor_of};
 ghost use Rattle.ship_tables.specs.Record.{IsBonjeanTable};
 ghost use Rattle.strength.specs.Immersed.{area_in};
@@ -85,8 +87,9 @@ fn other_row(arguments: &[i128], x: i64, near: &mut usize) -> Option<usize>
 /// How many reciprocals are kept. Rows whose numbers differ by a multiple of it share one.
 const RECIPROCALS: usize = 32;
 
-/// The row of the Bonjean table in which the last draught was found, and its ends; and about 2^64 over its length, and over those of the rows in which
-/// one was found before, by which quotients are guessed. Answers don't depend on them.
+/// The row of the Bonjean table in which the last draught was found, and its ends; and about 2^64
+/// over its length, and over those of the rows in which one was found before, by which quotients
+/// are guessed. Answers don't depend on them.
 #[derive(Clone, Copy, Default)]
 pub struct BonjeanRow {
     row: usize,
@@ -208,7 +211,8 @@ impl BonjeanRow {
         self.find(arguments, x)
     }
 
-    /// The reading of a curve of numbers from 0 to 10^8 at `x`, which lies in this row, rounded down.
+    /// The reading of a curve of numbers from 0 to 10^8 at `x`, which lies in this row, rounded
+    /// down.
     #[inline(always)]
     fn read(&mut self, arguments: &[i128], ys: &[i128], x: i64) -> i64
         requires rises { IsRising arguments.now }

@@ -23,8 +23,9 @@ fn minus(one: i128, other: i128) -> i128
     one - other
 }
 
-/// Sets the loads on the hull with this aboard, by the sums of a walk: twice the volumes of the first intervals between stations and six times
-/// their moments about the after perpendicular, each by how many intervals they are.
+/// Sets the loads on the hull with this aboard, by the sums of a walk: twice the volumes of the
+/// first intervals between stations and six times their moments about the after perpendicular, each
+/// by how many intervals they are.
 #[inline(always)]
 pub fn set_strains(
     profile: &Profile,

@@ -1,7 +1,8 @@
 use crate::rows::BonjeanRow;
 
-/// What a walk along the stations leaves to the next one: the row of the Bonjean table in which a draught was found, and the room for its sums, so
-/// that none has to clear it. The loads don't depend on it.
+/// What a walk along the stations leaves to the next one: the row of the Bonjean table in which a
+/// draught was found, and the room for its sums, so that none has to clear it. The loads don't
+/// depend on it.
 #[derive(Clone, Copy)]
 pub struct Walk {
     pub(crate) near: BonjeanRow,

@@ -74,7 +74,8 @@ fn chunk_given(rt: HostRuntime) {
     }
 }
 
-/// One thread, sixteen, and a number between, in each place, with the other command and with the other option.
+/// One thread, sixteen, and a number between, in each place, with the other command and with the
+/// other option.
 static WORKERS: [(&[&str], Line<'static>); 3] = [
     (
         &["check", "--workers", "1", "box", "plan", "moves"],
@@ -118,7 +119,8 @@ fn workers_given(rt: HostRuntime) {
     }
 }
 
-/// An option twice, without its word, in place of a word that has to be there, one that there isn't, and numbers outside its limits.
+/// An option twice, without its word, in place of a word that has to be there, one that there
+/// isn't, and numbers outside its limits.
 static WRONG: [&[&str]; 17] = [
     &[
         "check", "box", "plan", "moves", "--steps", "s.csv", "--steps", "t.csv",

@@ -583,8 +583,8 @@ fn release_and_verified_weight(rt: HostRuntime) -> Result<(), EdiFault> {
     Ok(())
 }
 
-/// Components of 35 and of 36 bytes, release characters not counted, one with a release character that wasn't needed, the same without it,
-/// and an empty one.
+/// Components of 35 and of 36 bytes, release characters not counted, one with a release character
+/// that wasn't needed, the same without it, and an empty one.
 const LITERALS: &[u8] =
     b"UNB+++++7'UNH+1+MOVINS:D:95B:UN'A+?1234567890123456789012345678901234??+?1234567890123456789012345678901234??6+A?BC+ABC+'UNT+3+1'UNZ+1+7'";
 
@@ -617,8 +617,9 @@ fn literals(rt: HostRuntime) -> Result<(), EdiFault> {
     Ok(())
 }
 
-/// The byte can stand at this place of the advice `UNA:+.? '`: it is none of the plain ones nor of the characters at the other
-/// places, and a space stands for no release character alone. The decimal mark and the reserved byte may be anything.
+/// The byte can stand at this place of the advice `UNA:+.? '`: it is none of the plain ones nor of
+/// the characters at the other places, and a space stands for no release character alone. The
+/// decimal mark and the reserved byte may be anything.
 fn can_stand(place: usize, byte: u8) -> bool {
     let others: &[u8] = match place {
         3 => b" +?'",

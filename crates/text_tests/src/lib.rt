@@ -1,5 +1,6 @@
-//! Tests of `units_core`, `decimal_text`, `csv_text`, `edifact_text`, `stow_messages` and `command_line`, which go by their public calls alone. They stand
-//! apart since the tests of a crate are proved together with all of it once more.
+//! Tests of `units_core`, `decimal_text`, `csv_text`, `edifact_text`, `stow_messages` and
+//! `command_line`, which go by their public calls alone. They stand apart since the tests of a
+//! crate are proved together with all of it once more.
 #![tactic(auto)]
 
 #[cfg(test)]

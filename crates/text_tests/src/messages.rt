@@ -456,8 +456,8 @@ fn faults_of_an_instruction(rt: HostRuntime) -> Result<(), Fail> {
     check_orders(&rt, &ORDER_FAULTS)
 }
 
-/// What stands behind a plan's 30,000 items, and how many items there are, or the fault. The items are two segments each, and so
-/// the segments 2 to 60,001 behind the message header.
+/// What stands behind a plan's 30,000 items, and how many items there are, or the fault. The items
+/// are two segments each, and so the segments 2 to 60,001 behind the message header.
 static PLAN_ENDS: [(&str, &str); 5] = [
     ("UNT+60002+1'", "30000"),
     ("LOC+147+0030082'UNT+60003+1'", "30000"),
@@ -472,7 +472,8 @@ static PLAN_ENDS: [(&str, &str); 5] = [
     ("LOC+147+0030082'EQD'UNT+60004+1'", "M6 segment 60002"),
 ];
 
-/// The same of an instruction's 200,000 lifts, which are the segments 3 to 400,002 behind the message header and a handling.
+/// The same of an instruction's 200,000 lifts, which are the segments 3 to 400,002 behind the
+/// message header and a handling.
 static ORDER_ENDS: [(&str, &str); 4] = [
     ("UNT+400003+1'", "200000"),
     ("LOC+147+0030082'UNT+400004+1'", "200000"),
@@ -531,12 +532,13 @@ fn most_lifts(rt: HostRuntime) -> Result<(), Fail> {
     Ok(())
 }
 
-/// Free text of over 64 bytes, with released service characters, behind which a segment is read as any other.
+/// Free text of over 64 bytes, with released service characters, behind which a segment is read as
+/// any other.
 const LONG_TEXT: &str =
     "FTX+AAA+++A TEXT OF OVER SIXTY-FOUR BYTES ?'QUOTED?' WITH ?+ AND ?: AND ?? IN IT'";
 
-/// Messages between headers and trailers of their own, each with the answer to the plan. What is ordinary is read one way and what
-/// isn't another, and each of these has both.
+/// Messages between headers and trailers of their own, each with the answer to the plan. What is
+/// ordinary is read one way and what isn't another, and each of these has both.
 static BOTH_WAYS: [(&str, &str); 6] = [
     // released bytes in an identification, in the tag and in the qualifier of the next group
     (
@@ -548,7 +550,8 @@ static BOTH_WAYS: [(&str, &str); 6] = [
         "\r\nLOC+147+0030082::5'\r\n \tMEA+WT++KGM:7'\r\nEQD+CN+AB'\r\nLOC+147+0010082'\r\nMEA+VGM++KGM:8'\r\nUNT+7+1'\r\n",
         "AB@0030082=7 @0010082=8 ",
     ),
-    // an empty identification, a group without a container, and one whose container stands before its mass
+    // an empty identification, a group without a container, and one whose container stands before
+    // its mass
     (
         "LOC+147+0030082'EQD+CN+'MEA+WT++KGM:7'LOC+147+0010082'MEA+WT++KGM:8'LOC+147+0050082'EQD+CN+AB'MEA+WT++KGM:9'UNT+10+1'",
         "@0030082=7 @0010082=8 AB@0050082=9 ",
@@ -603,7 +606,8 @@ static LAST_SEGMENTS: [(&str, &str); 3] = [
     ("MEA+VGM++KGM:8,?5'", "AB@0030082=9 "),
 ];
 
-/// Other service characters: what is ordinary elsewhere separates, and what separates elsewhere is ordinary.
+/// Other service characters: what is ordinary elsewhere separates, and what separates elsewhere is
+/// ordinary.
 #[test]
 fn other_service_characters(rt: HostRuntime) -> Result<(), Fail> {
     let text =
@@ -613,7 +617,8 @@ fn other_service_characters(rt: HostRuntime) -> Result<(), Fail> {
     Ok(())
 }
 
-// A producer's habits: the service string advice, a line for each segment, and segments that are ignored.
+// A producer's habits: the service string advice, a line for each segment, and segments that are
+// ignored.
 #[test]
 fn segments_between(rt: HostRuntime) -> Result<(), Fail> {
     let text =

@@ -1,4 +1,5 @@
-//! Numbers at the places where their digits change in count, and whole lines, against what Rust prints.
+//! Numbers at the places where their digits change in count, and whole lines, against what Rust
+//! prints.
 use crate::checks::same;
 use decimal_text::{BackwardText, FourDigits, ROOM};
 use std::alloc::{AllocError, Global};

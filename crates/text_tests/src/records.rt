@@ -62,7 +62,8 @@ fn a_spreadsheets_habits(rt: HostRuntime) -> Result<(), Fail> {
     )
 }
 
-/// Fields and their numbers: 18 digits are taken, 19 aren't; bytes 47 and 58 stand beside the digits.
+/// Fields and their numbers: 18 digits are taken, 19 aren't; bytes 47 and 58 stand beside the
+/// digits.
 static NUMBERS: [(&[u8], Option<i64>); 23] = [
     (b"0", Some(0)),
     (b"-1", Some(-1)),

@@ -144,7 +144,8 @@ fn a_spreadsheets_habits(rt: HostRuntime) -> Result<(), Fail> {
     Ok(())
 }
 
-/// Files with no heading or one of another number of fields, how many lifts there are, and the answer.
+/// Files with no heading or one of another number of fields, how many lifts there are, and the
+/// answer.
 static HEADINGS: [(&str, u32, &str); 6] = [
     ("", 0, ""),
     ("", 2, "G6 lift 1"),
@@ -163,8 +164,8 @@ fn headings_of_steps_files(rt: HostRuntime) -> Result<(), Fail> {
     Ok(())
 }
 
-/// What stands behind 200,000 records, and how many rows there are, or the fault. The next record is number 200,002, the heading
-/// being 1, and is refused before its fields are read.
+/// What stands behind 200,000 records, and how many rows there are, or the fault. The next record
+/// is number 200,002, the heading being 1, and is refused before its fields are read.
 static FILE_ENDS: [(&str, &str); 2] = [("", "200000"), ("swap\n", "G7 line 200002")];
 
 /// A file of 200,000 records that ends so.

@@ -91,7 +91,8 @@ fn cells_of_six_and_seven_digits(rt: HostRuntime) {
     same(&rt, Cell::read(b"1234567"), Some(unlike));
 }
 
-/// Texts of five and eight digits, and one with another byte in each place: those next to the digits are `/` and `:`.
+/// Texts of five and eight digits, and one with another byte in each place: those next to the
+/// digits are `/` and `:`.
 static NO_CELLS: [&[u8]; 20] = [
     b"",
     b"30782",
@@ -136,7 +137,8 @@ fn figures_are_rounded_down(rt: HostRuntime) {
     }
 }
 
-// longer than 63 bits, also with divisors longer than 103: 5 * 10^26 = 3 * 10^23 * 1,666 + 2 * 10^23, and 10^30 = 7 * 142,857,142,857,142,857,142,857,142,857 + 1
+// longer than 63 bits, also with divisors longer than 103: 5 * 10^26 = 3 * 10^23 * 1,666 + 2 *
+// 10^23, and 10^30 = 7 * 142,857,142,857,142,857,142,857,142,857 + 1
 #[test]
 fn long_fractions_are_rounded_down(rt: HostRuntime) {
     const FIVE: i128 = 500_000_000_000_000_000_000_000_000;
@@ -219,8 +221,9 @@ fn spans_of_bays(rt: HostRuntime) {
     }
 }
 
-/// The bay of a cell on the centre line in tier 82, then bay, row and tier of another, and whether the two overlap. A 40-foot bay covers its
-/// two odd neighbours, and two 40-foot bays may share one of these.
+/// The bay of a cell on the centre line in tier 82, then bay, row and tier of another, and whether
+/// the two overlap. A 40-foot bay covers its two odd neighbours, and two 40-foot bays may share one
+/// of these.
 static ROOMS: [(u16, u16, u8, u8, bool); 14] = [
     (1, 2, 0, 82, true),
     (2, 1, 0, 82, true),
@@ -460,7 +463,8 @@ fn bodies_are_told_apart(rt: HostRuntime) {
     }
 }
 
-// The mass alone changes, of what is taken out and of what is put in; where there is no body, there is none of another weight.
+// The mass alone changes, of what is taken out and of what is put in; where there is no body, there
+// is none of another weight.
 #[test]
 fn steps_of_another_weight(rt: HostRuntime) {
     let Some(kg) = Kg::new(55) else {

@@ -2,7 +2,8 @@
 use Rattle.std.specs.Prelude.{ℕ, ◌≤◌, ◌^◌, ℤ, pos, ◌≤ℤ◌}
 use Rattle.units_core.specs.declared.bodies.Place.{Place}
 
--- A mass in kg at a place, and the moment in kg mm by which its free surface raises the centre of gravity.
+-- A mass in kg at a place, and the moment in kg mm by which its free surface raises the centre of
+-- gravity.
 pub record Mass : Type 0 where
   pub kg : ℕ
   pub place : Place

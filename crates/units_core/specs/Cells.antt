@@ -1,5 +1,7 @@
--- The numbers of cells: bay, row and tier (ISO 9711-1), written in seven digits, three, two and two.
-use Rattle.std.specs.Prelude.{◌≡◌, ℕ, ◌+◌, ◌-◌, ◌*◌, ◌%◌, Bool, true, nat_eq, nat_le, ◌&&◌, if◌then◌else◌, List, [], ◌∷◌, Option, Some, None}
+-- The numbers of cells: bay, row and tier (ISO 9711-1), written in seven digits, three, two and
+-- two.
+use Rattle.std.specs.Prelude.{◌≡◌, ℕ, ◌+◌, ◌-◌, ◌*◌, ◌%◌, Bool, true, nat_eq, nat_le, ◌&&◌}
+use Rattle.std.specs.Prelude.{if◌then◌else◌, List, [], ◌∷◌, Option, Some, None}
 use Rattle.std.specs.Char.{is_ascii_digit}
 use Rattle.units_core.specs.declared.cells.Cell.{Cell}
 
@@ -17,7 +19,10 @@ two_in a b = if is_ascii_digit a && is_ascii_digit b then Some (10 * digit a + d
 
 -- the number that three bytes write, where all are digits
 abbrev pub three_in : ℕ → ℕ → ℕ → Option ℕ
-three_in a b c = if is_ascii_digit a && (is_ascii_digit b && is_ascii_digit c) then Some (100 * digit a + (10 * digit b + digit c)) else None
+three_in a b c =
+    if is_ascii_digit a
+    && (is_ascii_digit b && is_ascii_digit c) then Some (100 * digit a + (10 * digit b + digit c))
+    else None
 
 -- the cell of bay, row and tier, where all three are there
 abbrev pub cell_of : Option ℕ → Option ℕ → Option ℕ → Option Cell
@@ -26,12 +31,14 @@ cell_of bay row tier = None
 
 -- the cell that a text of six or seven digits names, six being read with a 0 (code 48) before them
 abbrev pub cell_in : List ℕ → Option Cell
-cell_in (b1 ∷ b2 ∷ b3 ∷ r1 ∷ r2 ∷ t1 ∷ t2 ∷ []) = cell_of (three_in b1 b2 b3) (two_in r1 r2) (two_in t1 t2)
-cell_in (b2 ∷ b3 ∷ r1 ∷ r2 ∷ t1 ∷ t2 ∷ []) = cell_of (three_in 48 b2 b3) (two_in r1 r2) (two_in t1 t2)
+cell_in (b1 ∷ b2 ∷ b3 ∷ r1 ∷ r2 ∷ t1 ∷ t2 ∷ []) =
+    cell_of (three_in b1 b2 b3) (two_in r1 r2) (two_in t1 t2)
+cell_in (b2 ∷ b3 ∷ r1 ∷ r2 ∷ t1 ∷ t2 ∷ []) =
+    cell_of (three_in 48 b2 b3) (two_in r1 r2) (two_in t1 t2)
 cell_in text = None
 
--- The 20-foot bays that a cell covers: an odd bay is one itself, and an even bay covers its two odd neighbours. Bay 0
--- has no bay before it.
+-- The 20-foot bays that a cell covers: an odd bay is one itself, and an even bay covers its two odd
+-- neighbours. Bay 0 has no bay before it.
 abbrev pub span_of : ℕ → ℕ × ℕ
 span_of bay = if nat_eq (bay % 2) 1 then (bay, bay) else (bay - 1, bay + 1)
 

@@ -1,10 +1,15 @@
--- Reading a table: a straight line between two neighbouring rows, and no value outside of the table.
-use Rattle.std.specs.Prelude.{◌≡◌, ℕ, ◌+◌, ◌-◌, ◌<◌, ◌≤◌, ◌⊎◌, ℤ, pos, ◌+ℤ◌, ◌-ℤ◌, ◌*ℤ◌, ◌≤ℤ◌, ◌<ℤ◌, List, [], ◌∷◌, length, Option, Some, None, unsigned_abs, slice_index_or, if◌then◌else◌, int_lt}
+-- Reading a table: a straight line between two neighbouring rows, and no value outside of the
+-- table.
+use Rattle.std.specs.Prelude.{◌≡◌, ℕ, ◌+◌, ◌-◌, ◌<◌, ◌≤◌, ◌⊎◌, ℤ, pos, ◌+ℤ◌, ◌-ℤ◌, ◌*ℤ◌, ◌≤ℤ◌, ◌<ℤ◌}
+use Rattle.std.specs.Prelude.{List, [], ◌∷◌, length, Option, Some, None, unsigned_abs}
+use Rattle.std.specs.Prelude.{slice_index_or, if◌then◌else◌, int_lt}
 use Rattle.units_core.specs.Ratio.{Ratio, ◌over◌}
 
--- the ratio is the value at x on the line through (x0, y0) and (x1, y1): y (x1 - x0) = y0 (x1 - x) + y1 (x - x0)
+-- the ratio is the value at x on the line through (x0, y0) and (x1, y1): y (x1 - x0) = y0 (x1 - x)
+-- + y1 (x - x0)
 abbrev pub IsOnLine : Ratio → ℤ → ℤ → ℤ → ℤ → ℤ → Type 0
-IsOnLine y x x0 y0 x1 y1 = y.top *ℤ (x1 -ℤ x0) ≡ ((y0 *ℤ (x1 -ℤ x)) +ℤ (y1 *ℤ (x -ℤ x0))) *ℤ y.bottom
+IsOnLine y x x0 y0 x1 y1 =
+    y.top *ℤ (x1 -ℤ x0) ≡ ((y0 *ℤ (x1 -ℤ x)) +ℤ (y1 *ℤ (x -ℤ x0))) *ℤ y.bottom
 
 -- the k-th number of a column
 abbrev pub at : List ℤ → ℕ → ℤ
@@ -15,8 +20,8 @@ abbrev pub climb : List ℤ → ℤ → ℕ → Option ℕ
 climb [] x i = None
 climb (upper ∷ rest) x i = (if int_lt upper x then climb rest x (i + 1) else Some i)
 
--- The interval of the arguments in which x lies: the first whose upper end is not below x. At a row that two intervals
--- share either gives the same value. None outside of the table.
+-- The interval of the arguments in which x lies: the first whose upper end is not below x. At a row
+-- that two intervals share either gives the same value. None outside of the table.
 abbrev pub interval : List ℤ → ℤ → Option ℕ
 interval [] x = None
 interval (first ∷ rest) x = (if int_lt x first then None else climb rest x 0)
@@ -33,7 +38,8 @@ IsOutside xs x = (x <ℤ at xs 0) ⊎ (at xs (length xs - 1) <ℤ x)
 
 -- the value at x of the column ys, on the line through the rows i and i + 1
 abbrev pub reading : List ℤ → List ℤ → ℕ → ℤ → Ratio
-reading xs ys i x = ((at ys i *ℤ (at xs (i + 1) -ℤ x)) +ℤ (at ys (i + 1) *ℤ (x -ℤ at xs i))) over (at xs (i + 1) -ℤ at xs i)
+reading xs ys i x = ((at ys i *ℤ (at xs (i + 1) -ℤ x)) +ℤ (at ys (i + 1) *ℤ (x -ℤ at xs i))) over
+    (at xs (i + 1) -ℤ at xs i)
 
 -- each argument is above the one before it
 abbrev pub IsRising : List ℤ → Type 0

@@ -1,5 +1,7 @@
--- Results that stop at their first fault: the chains in which the definitions of all readers are written.
-use Rattle.std.specs.Prelude.{ℤ, int_le, Bool, ◌&&◌, if◌then◌else◌, Option, None, Some, Result, Ok, Err}
+-- Results that stop at their first fault: the chains in which the definitions of all readers are
+-- written.
+use Rattle.std.specs.Prelude.{ℤ, int_le, Bool, ◌&&◌, if◌then◌else◌, Option, None, Some, Result, Ok}
+use Rattle.std.specs.Prelude.{Err}
 
 -- what follows, where there was no fault
 infixl 10 ◌>>=◌

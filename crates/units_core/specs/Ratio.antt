@@ -1,4 +1,5 @@
--- Fractions of whole numbers as a textbook writes them. Two are equal where their cross products are.
+-- Fractions of whole numbers as a textbook writes them. Two are equal where their cross products
+-- are.
 use Rattle.std.specs.Prelude.{◌≡◌, ℤ, pos, ◌+ℤ◌, ◌-ℤ◌, ◌*ℤ◌, ◌≤ℤ◌, ◌<ℤ◌, int_le, Bool}
 use Rattle.std.specs.Int.{int_div_euclid}
 

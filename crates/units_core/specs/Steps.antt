@@ -14,4 +14,8 @@ abbrev pub body_weighed : ℕ → Mass → Mass
 body_weighed kg body = record { kg = kg; place = body.place; fsm = body.fsm }
 
 abbrev pub step_weighed : ℕ → Step → Step
-step_weighed kg step = record { out = option_map (body_weighed kg) step.out; put = option_map (body_weighed kg) step.put }
+step_weighed kg step =
+    record {
+      out = option_map (body_weighed kg) step.out;
+      put = option_map (body_weighed kg) step.put;
+    }

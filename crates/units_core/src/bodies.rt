@@ -44,8 +44,8 @@ impl Body {
     /// The greatest free surface moment of one body, in kg mm.
     pub const MAX_FSM: i64 = 1_000_000_000_000;
 
-    /// The body of `kg` kilograms at a place, with the free surface moment `fsm` in kg mm. `None` above
-    /// [`Body::MAX_KG`], above [`Body::MAX_FSM`], and for a moment below 0.
+    /// The body of `kg` kilograms at a place, with the free surface moment `fsm` in kg mm. `None`
+    /// above [`Body::MAX_KG`], above [`Body::MAX_FSM`], and for a moment below 0.
     pub fn new(kg: u32, place: Place, fsm: i64) -> Option<Body>
         ensures { SomeIff result (IsWithinLimits kg fsm)
             (record { kg = kg; place = place; fsm = fsm }) }

@@ -1,9 +1,9 @@
 ghost use Rattle.std.specs.Prelude.{◌≡◌, ◌↔◌, IsTrue};
 ghost use Rattle.units_core.specs.Cells.{cell_in, two_in, three_in, span_of, Conflicts};
 
-/// A cell by bay, row and tier (ISO 9711-1), in the seven digits that bay plans write: three of the bay, two
-/// of the row, two of the tier. An odd bay is one of 20 feet, an even bay one of 40 feet over its two odd
-/// neighbours.
+/// A cell by bay, row and tier (ISO 9711-1), in the seven digits that bay plans write: three of the
+/// bay, two of the row, two of the tier. An odd bay is one of 20 feet, an even bay one of 40 feet
+/// over its two odd neighbours.
 #[derive(Clone, Copy, Debug, PartialEq, Eq, Hash)]
 pub struct Cell {
     pub bay: u16,
@@ -35,8 +35,8 @@ fn three(hundreds: u8, tens: u8, ones: u8) -> Option<u16>
 }
 
 impl Cell {
-    /// The cell that six or seven ASCII digits name, six being read with a 0 before them; `None` for any other
-    /// text.
+    /// The cell that six or seven ASCII digits name, six being read with a 0 before them; `None`
+    /// for any other text.
     pub fn read(text: &[u8]) -> Option<Cell>
         ensures { result ≡ cell_in text.now }
     {
@@ -53,8 +53,8 @@ impl Cell {
     }
 }
 
-/// The first and the last of the 20-foot bays that a cell covers: an odd bay is one itself, an even bay
-/// covers its two odd neighbours, and bay 0 covers 0 and 1.
+/// The first and the last of the 20-foot bays that a cell covers: an odd bay is one itself, an even
+/// bay covers its two odd neighbours, and bay 0 covers 0 and 1.
 pub fn span(cell: Cell) -> (u16, u16)
     ensures { result ≡ span_of cell.bay }
 {

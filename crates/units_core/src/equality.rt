@@ -1,9 +1,10 @@
 ghost use Rattle.std.specs.Prelude.{◌≡◌, ◌↔◌, IsTrue, map, Decides};
 ghost use Rattle.std.specs.Cmp.{signed_Decides, unsigned_Decides};
-ghost use Rattle.units_core.specs.Equality.{cells_exact, places_exact, bodies_exact};
+ghost use Rattle.units_core.specs.Equality.{cells_exact, places_exact, bodies_exact, frames_exact};
 
 use crate::bodies::{Body, Place};
 use crate::cells::Cell;
+use crate::frames::Frame;
 use crate::measures::Mm;
 
 /// A type whose `==` says whether two values are equal, which a contract writes as `≡`.
@@ -33,6 +34,10 @@ impl Exact for Place {
 
 impl Exact for Body {
     ghost exact = { bodies_exact };
+}
+
+impl Exact for Frame {
+    ghost exact = { frames_exact };
 }
 
 /// Whether two lists are equal: they are equally long, and equal at each place.

@@ -1,4 +1,5 @@
-ghost use Rattle.std.specs.Prelude.{◌≡◌, ℕ, ◌+◌, ◌*◌, ◌^◌, ◌<◌, ◌≤◌, ◌↔◌, IsTrue, pos, ◌+ℤ◌, ◌-ℤ◌, ◌*ℤ◌, ◌≤ℤ◌, ◌<ℤ◌, unsigned_abs, FitsSigned, IfSome, true};
+ghost use Rattle.std.specs.Prelude.{◌≡◌, ℕ, ◌+◌, ◌*◌, ◌^◌, ◌<◌, ◌≤◌, ◌↔◌, IsTrue, pos, ◌+ℤ◌, ◌-ℤ◌};
+ghost use Rattle.std.specs.Prelude.{◌*ℤ◌, ◌≤ℤ◌, ◌<ℤ◌, unsigned_abs, FitsSigned, IfSome, true};
 ghost use Rattle.std.specs.Int.{w128};
 ghost use Rattle.units_core.specs.Ratio.{◌over◌, floor_of, IsFloor, IsAtLeast, IsAtMost};
 ghost use Rattle.units_core.specs.Interpolation.{IsOnLine};
@@ -14,7 +15,8 @@ pub struct Frac {
 }
 
 /// The greatest whole number that is not above the fraction: a figure is printed so, rounded toward
-/// minus infinity. It is guessed and then tested, since a division of 128 bits takes many times as long.
+/// minus infinity. It is guessed and then tested, since a division of 128 bits takes many times as
+/// long.
 pub fn floor(fraction: Frac) -> i128
     ensures value { result ≡ floor_of (fraction.num over fraction.den) }
     ensures greatest { IsFloor result (fraction.num over fraction.den) }
@@ -25,7 +27,8 @@ pub fn floor(fraction: Frac) -> i128
     }
 }
 
-/// Whether the fraction is at least `limit`, decided by the cross product and not by a rounded figure.
+/// Whether the fraction is at least `limit`, decided by the cross product and not by a rounded
+/// figure.
 pub fn at_least(fraction: Frac, limit: i128) -> bool
     requires { FitsSigned w128 (limit *ℤ fraction.den) }
     ensures { IsTrue result ↔ IsAtLeast (fraction.num over fraction.den) limit }
@@ -41,8 +44,8 @@ pub fn at_most(fraction: Frac, limit: i128) -> bool
     fraction.num <= limit * fraction.den
 }
 
-/// The value at `x` on the straight line through `(x0, y0)` and `(x1, y1)`, two neighbouring rows of a
-/// table, as a fraction over `x1 - x0`.
+/// The value at `x` on the straight line through `(x0, y0)` and `(x1, y1)`, two neighbouring rows
+/// of a table, as a fraction over `x1 - x0`.
 pub fn interp(x: i128, x0: i128, y0: i128, x1: i128, y1: i128) -> Frac
     requires rises { x0 <ℤ x1 }
     requires from { x0 ≤ℤ x }

@@ -1,19 +1,22 @@
-ghost use Rattle.std.specs.Prelude.{◌≡◌, ◌*◌, ◌/◌, ◌^◌, ◌<◌, pos, ◌-ℤ◌, ◌*ℤ◌, ◌≤ℤ◌, ◌<ℤ◌, true, IfSome};
+ghost use Rattle.std.specs.Prelude.{◌≡◌, ◌*◌, ◌/◌, ◌^◌, ◌<◌, pos, ◌-ℤ◌, ◌*ℤ◌, ◌≤ℤ◌, ◌<ℤ◌, true};
+ghost use Rattle.std.specs.Prelude.{IfSome};
 ghost use Rattle.units_core.specs.Ratio.{◌over◌, floor_of};
 
 use crate::fractions::{Frac, floor};
 use std::num::{nearest_i64_to_f64, saturating_f64_to_i64, saturating_f64_to_u64};
 
-/// The greatest divisor under which a guess is tested, and the greatest guess: so their product fits.
+/// The greatest divisor under which a guess is tested, and the greatest guess: so their product
+/// fits.
 const MOST_DIVISOR: i128 = 1 << 103;
 
 const MOST_GUESS: u64 = 1 << 23;
 
-/// The greatest guess and 2^-26. With it no quotient is negative, so that dropping the fraction rounds down. The small part makes up for what an exact
-/// quotient may lose in floating point.
+/// The greatest guess and 2^-26. With it no quotient is negative, so that dropping the fraction
+/// rounds down. The small part makes up for what an exact quotient may lose in floating point.
 const LIFT: f64 = 8_388_608.000_000_014_901_161_193_847_656_25;
 
-/// The upper half of the product of two numbers. Where one of them is about 2^64 over a divisor, this is about the quotient of the other.
+/// The upper half of the product of two numbers. Where one of them is about 2^64 over a divisor,
+/// this is about the quotient of the other.
 #[inline(always)]
 pub fn upper_half(a: u64, b: u64) -> u64
     ensures { result ≡ a * b / 2 ^ 64 }
@@ -34,8 +37,10 @@ pub fn is_rest(rest: i128, divisor: i128) -> bool
     rest < divisor
 }
 
-/// A guess of the quotient of two numbers, rounded down, from their leading 53 bits in floating point, which is several times faster than a division of whole
-/// numbers of 64 bits. It may be wrong, so nothing is promised of it: callers test that the remainder is at least 0 and less than the divisor.
+/// A guess of the quotient of two numbers, rounded down, from their leading 53 bits in floating
+/// point, which is several times faster than a division of whole numbers of 64 bits. It may be
+/// wrong, so nothing is promised of it: callers test that the remainder is at least 0 and less than
+/// the divisor.
 #[inline(always)]
 pub fn guess(num: i128, den: i128) -> i64 {
     let shift = 65u32.saturating_sub(num.unsigned_abs().leading_zeros());
@@ -49,16 +54,16 @@ pub fn guess(num: i128, den: i128) -> i64 {
     saturating_f64_to_i64(quotient + LIFT).wrapping_sub(1 << 23)
 }
 
-/// About 2^64 over a divisor, right to some 50 bits. Quotients are guessed by it (see [`upper_half`]) and then tested, so nothing is
-/// promised of it.
+/// About 2^64 over a divisor, right to some 50 bits. Quotients are guessed by it (see
+/// [`upper_half`]) and then tested, so nothing is promised of it.
 #[inline(always)]
 pub fn reciprocal_near(divisor: i64) -> u64 {
     // 2^64
     saturating_f64_to_u64(18_446_744_073_709_551_616.0 / nearest_i64_to_f64(divisor))
 }
 
-/// The remainder of a fraction over a guess; `None` where the numbers are so great that it might not
-/// fit.
+/// The remainder of a fraction over a guess; `None` where the numbers are so great that it might
+/// not fit.
 #[inline(always)]
 fn rest_over(fraction: Frac, guess: i64) -> Option<i128>
     ensures { IfSome result (λ rest. rest ≡ fraction.num -ℤ (guess *ℤ fraction.den)) }
@@ -86,7 +91,8 @@ pub fn tested(fraction: Frac, guess: i64) -> Option<i128>
     None
 }
 
-/// The fraction rounded down, as [`floor`] gives it, by a guess of the caller's: where it is right, no number is divided.
+/// The fraction rounded down, as [`floor`] gives it, by a guess of the caller's: where it is right,
+/// no number is divided.
 #[inline(always)]
 pub fn floor_near(fraction: Frac, guess: i64) -> i128
     ensures { result ≡ floor_of (fraction.num over fraction.den) }

@@ -4,7 +4,8 @@ ghost use Rattle.units_core.specs.Steps.{body_weighed, step_weighed};
 use crate::bodies::Body;
 use crate::measures::Kg;
 
-/// What a step does to the bodies aboard: it takes the one out and puts the other in. A filling takes out what its tank held before.
+/// What a step does to the bodies aboard: it takes the one out and puts the other in. A filling
+/// takes out what its tank held before.
 #[derive(Clone, Copy, Debug, PartialEq, Eq)]
 pub struct Step {
     /// The body that it takes out, if there is one.

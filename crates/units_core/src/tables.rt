@@ -1,11 +1,13 @@
-ghost use Rattle.std.specs.Prelude.{◌≡◌, ℕ, ◌+◌, ◌*◌, ◌^◌, ◌<◌, ◌≤◌, pos, ◌-ℤ◌, ◌≤ℤ◌, ◌<ℤ◌, unsigned_abs, true, length, MatchOption};
-ghost use Rattle.units_core.specs.Interpolation.{at, interval, reading, Encloses, IsOutside, IsPositive, IsRising, IsWithin};
+ghost use Rattle.std.specs.Prelude.{◌≡◌, ℕ, ◌+◌, ◌*◌, ◌^◌, ◌<◌, ◌≤◌, pos, ◌-ℤ◌, ◌≤ℤ◌, ◌<ℤ◌};
+ghost use Rattle.std.specs.Prelude.{unsigned_abs, true, length, MatchOption};
+ghost use Rattle.units_core.specs.Interpolation.{at, interval, reading, Encloses, IsOutside};
+ghost use Rattle.units_core.specs.Interpolation.{IsPositive, IsRising, IsWithin};
 
 use crate::fractions::interp;
 
-/// The number of the table's interval in which `x` lies, by the column of its arguments, which rise; `None` outside
-/// of the table. An argument that ends one interval and begins the next belongs to the one below it. Found by binary
-/// search.
+/// The number of the table's interval in which `x` lies, by the column of its arguments, which
+/// rise; `None` outside of the table. An argument that ends one interval and begins the next
+/// belongs to the one below it. Found by binary search.
 pub fn enclosing(arguments: &[i128], x: i128) -> Option<usize>
     requires rows { 2 ≤ length arguments.now }
     requires rises { IsRising arguments.now }
@@ -50,8 +52,9 @@ fn is_in(arguments: &[i128], x: i128, i: usize) -> bool
     x <= arguments[i + 1]
 }
 
-/// The number of the interval in which `x` lies, as [`enclosing`] gives it, looked for first in the interval `near`, where the last
-/// reading was. `near` is then the interval found, and stays where there is none.
+/// The number of the interval in which `x` lies, as [`enclosing`] gives it, looked for first in the
+/// interval `near`, where the last reading was. `near` is then the interval found, and stays where
+/// there is none.
 pub fn enclosing_near(arguments: &[i128], x: i128, near: &mut usize) -> Option<usize>
     requires rows { 2 ≤ length arguments.now }
     requires rises { IsRising arguments.now }
@@ -69,8 +72,8 @@ pub fn enclosing_near(arguments: &[i128], x: i128, near: &mut usize) -> Option<u
     found
 }
 
-/// The reading of a column at `x`, which lies in the interval `i`, as the number whose quotient by the interval's length it is
-/// ([`gap`]): so the readings of a row have one divisor.
+/// The reading of a column at `x`, which lies in the interval `i`, as the number whose quotient by
+/// the interval's length it is ([`gap`]): so the readings of a row have one divisor.
 pub fn read(arguments: &[i128], column: &[i128], i: usize, x: i128) -> i128
     requires rows { length column.now ≡ length arguments.now }
     requires inside { Encloses arguments.now i x }

@@ -11,7 +11,7 @@ use Rattle.units_core.specs.declared.steps.Step.{Step}
 use Rattle.units_core.specs.Steps.{step_weighed}
 use Rattle.lift_sequence.specs.Follow.{AreReweighed, loaded_at, loaded_cell, moves, moves_in, next_cell, reweighed, steps_weighed, weighed_at, with_step}
 use Rattle.lift_sequence.proofs.FollowLemmas.{moves_few}
-use Rattle.ship_profile.specs.declared.frames.Frame.{Frame}
+use Rattle.units_core.specs.declared.frames.Frame.{Frame}
 use Rattle.std.specs.List.{AllByRecursion}
 use Rattle.bounded_sums.specs.Laws.{IsLight}
 use Rattle.moment_sums.specs.Kept.{Kept, none_kept, size_of}

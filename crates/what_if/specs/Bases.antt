@@ -1,9 +1,9 @@
--- A ship and what is aboard of her on arrival, from which lists of steps go on, and the sums and verdicts of a
--- list from there.
+-- A ship and what is aboard of her on arrival, from which lists of steps go on, and the sums and
+-- verdicts of a list from there.
 use Rattle.std.specs.Prelude.{ℕ, ◌^◌, ◌<◌, ◌≤◌, List, length, map, Option, MatchOption}
 use Rattle.std.specs.List.{AllByRecursion}
 use Rattle.stow_messages.specs.declared.items.Item.{Item}
-use Rattle.ship_profile.specs.declared.frames.Frame.{Frame}
+use Rattle.units_core.specs.declared.frames.Frame.{Frame}
 use Rattle.ship_profile.specs.Record.{ProfileRecord}
 use Rattle.lift_sequence.specs.declared.faults.SeqFault.{SeqFault}
 use Rattle.lift_sequence.specs.declared.operations.Op.{Op}
@@ -27,7 +27,8 @@ pub record Base : Type 0 where
   pub ship : ProfileRecord
   pub arrival : ArrivalRecord
 
--- the arrival was made with the profile, no container is too heavy for a sum, and all that is aboard is added up
+-- the arrival was made with the profile, no container is too heavy for a sum, and all that is
+-- aboard is added up
 pub record IsBase (ship : ProfileRecord) (arrival : ArrivalRecord) (total : Kept) : Type 0 where
   pub arrived : HasArrived ship arrival
   pub light : AllByRecursion (λ (item : Item). item.kg ≤ 10 ^ 9) arrival.items
@@ -61,4 +62,5 @@ assessment_at base ops k = assessment_of base.ship (sum_at base.ship (aboard_fir
 -- the verdict on it; none where the list has fewer steps
 abbrev pub IsJudgedAt : Option Verdict → Base → List Op → ℕ → Type 0
 IsJudgedAt result base ops k =
-    MatchOption result (length ops < k) (λ verdict. (k ≤ length ops) × IsVerdict verdict base.ship.ship (assessment_at base ops k))
+    MatchOption result (length ops < k)
+    (λ verdict. (k ≤ length ops) × IsVerdict verdict base.ship.ship (assessment_at base ops k))

@@ -1,4 +1,5 @@
--- Bookkeeping: lists of what steps change, before and after the steps that move one container were given bodies of another weight.
+-- Bookkeeping: lists of what steps change, before and after the steps that move one container were
+-- given bodies of another weight.
 use Rattle.std.specs.Prelude.{◌≡◌, ℕ, ⊤, ◌+◌, ◌≤◌, List, [], ◌∷◌, take, drop, false, Option}
 use Rattle.units_core.specs.declared.cells.Cell.{Cell}
 use Rattle.lift_sequence.specs.declared.operations.Op.{Op}
@@ -16,7 +17,8 @@ AreNear cell ops [] [] = ⊤
 AreNear cell ops [] (y ∷ ys) = ⊥
 AreNear cell ops (x ∷ xs) [] = ⊥
 AreNear cell [] (x ∷ xs) (y ∷ ys) = ⊥
-AreNear cell (op ∷ ops) (x ∷ xs) (y ∷ ys) = (moves cell op ≡ false → x ≡ y) × AreNear (next_cell cell op) ops xs ys
+AreNear cell (op ∷ ops) (x ∷ xs) (y ∷ ys) = (moves cell op ≡ false → x ≡ y)
+    × AreNear (next_cell cell op) ops xs ys
 
 -- and but at place i, where the container is loaded into the cell
 pub record IsNear (cell : Option Cell) (i : ℕ) (ops : List Op) (xs ys : List Kept) : Type 0 where

@@ -1,5 +1,7 @@
--- A session: a list of steps that is edited, and the lists that it was before, so that the last edits can be taken back.
-use Rattle.std.specs.Prelude.{◌≡◌, ⊤, ℕ, ◌+◌, ◌*◌, ◌^◌, ◌≤◌, List, [], ◌∷◌, length, drop, Option, None, option_map, Ok}
+-- A session: a list of steps that is edited, and the lists that it was before, so that the last
+-- edits can be taken back.
+use Rattle.std.specs.Prelude.{◌≡◌, ⊤, ℕ, ◌+◌, ◌*◌, ◌^◌, ◌≤◌, List, [], ◌∷◌, length, drop, Option}
+use Rattle.std.specs.Prelude.{None, option_map, Ok}
 use Rattle.std.specs.List.{AllByRecursion}
 use Rattle.std.specs.Option.{option_or}
 use Rattle.circular_buffer.specs.Buffer.{Buffer}
@@ -26,17 +28,21 @@ pub record AreTold (inputs : Inputs) (base : Base) (ops : List Op) : Type 0 wher
   pub orders : orders_in inputs ≡ Ok ops
   pub legal : list_fault base ops ≡ None
 
--- Why an edit of a list is refused: its numbers, or that it reweighs what is no load; and then the first step of the edited list that can't be done.
+-- Why an edit of a list is refused: its numbers, or that it reweighs what is no load; and then the
+-- first step of the edited list that can't be done.
 abbrev pub refusal : Base → List Op → Edit → Option EditFault
-refusal base ops edit = option_or (edit_fault ops edit) (option_map Sequence (list_fault base (edited ops edit)))
+refusal base ops edit =
+    option_or (edit_fault ops edit) (option_map Sequence (list_fault base (edited ops edit)))
 
--- a list of steps that can be done from a base, and how many joins were counted while its sums were kept
+-- a list of steps that can be done from a base, and how many joins were counted while its sums were
+-- kept
 pub record Summed : Type 0 where
   pub base : Base
   pub ops : List Op
   pub joins : ℕ
 
--- what is kept of a list: the sequence was made from the base, no container is too heavy for a sum, and the tree is over what each step changes
+-- what is kept of a list: the sequence was made from the base, no container is too heavy for a sum,
+-- and the tree is over what each step changes
 pub record IsSummed (base : Base) (sequence : SequenceRecord) (tree : Counted Kept) : Type 0 where
   pub legal : list_fault base sequence.ops ≡ None
   pub steps : sequence.steps ≡ steps_on base sequence.ops
@@ -47,11 +53,14 @@ pub record IsSummed (base : Base) (sequence : SequenceRecord) (tree : Counted Ke
 abbrev pub restows_behind : List Op → ℕ → ℕ
 restows_behind ops place = restows_in (loaded_at ops place) (drop (place + 1) ops)
 
--- Another weight of a load takes at most (r + 2) (l + 1) joins, where its container is restowed r times and there are at most 2^l steps, and an
--- exchange of two steps 2 (l + 1); any other edit takes none.
+-- Another weight of a load takes at most (r + 2) (l + 1) joins, where its container is restowed r
+-- times and there are at most 2^l steps, and an exchange of two steps 2 (l + 1); any other edit
+-- takes none.
 abbrev pub CostsLittle : Edit → List Op → ℕ → ℕ → Type 0
-CostsLittle (Reweigh at kg) ops old new = (levels : ℕ) → length ops ≤ 2 ^ levels → new ≤ old + (restows_behind ops (place_of at) + 2) * (levels + 1)
-CostsLittle (Swap a b) ops old new = (levels : ℕ) → length ops ≤ 2 ^ levels → new ≤ old + 2 * (levels + 1)
+CostsLittle (Reweigh at kg) ops old new = (levels : ℕ) → length ops ≤ 2 ^ levels
+    → new ≤ old + (restows_behind ops (place_of at) + 2) * (levels + 1)
+CostsLittle (Swap a b) ops old new = (levels : ℕ) → length ops ≤ 2 ^ levels
+    → new ≤ old + 2 * (levels + 1)
 CostsLittle edit ops old new = new ≡ old
 
 -- what a session is: besides the list, the earlier ones, newest first
@@ -69,7 +78,8 @@ past_of ops (edit ∷ more) = edited ops edit ∷ past_of (edited ops edit) more
 -- each of these edits can be made in its turn
 abbrev pub ArePast : Base → List Op → List Edit → Type 0
 ArePast base ops [] = ⊤
-ArePast base ops (edit ∷ more) = (refusal base ops edit ≡ None) × ArePast base (edited ops edit) more
+ArePast base ops (edit ∷ more) = (refusal base ops edit ≡ None)
+    × ArePast base (edited ops edit) more
 
 -- what is kept of the past: room for 64 edits, and edits that lead back
 pub record IsPast (base : Base) (ops : List Op) (past : Buffer Edit) : Type 0 where

@@ -1,4 +1,5 @@
-ghost use Rattle.std.specs.Prelude.{◌≡◌, ◌↔◌, IsTrue, ℕ, ◌+◌, ◌^◌, ◌<◌, ◌≤◌, length, take, false, OnOk, IfOk, IfErr, Some, None};
+ghost use Rattle.std.specs.Prelude.{◌≡◌, ◌↔◌, IsTrue, ℕ, ◌+◌, ◌^◌, ◌<◌, ◌≤◌, length, take, false};
+ghost use Rattle.std.specs.Prelude.{OnOk, IfOk, IfErr, Some, None};
 ghost use Rattle.std.specs.Io.KnownBytes.{Appends};
 ghost use Rattle.std.specs.List.{AllByRecursion};
 ghost use Rattle.prefix_scan.specs.Cut.{Divides};
@@ -21,13 +22,24 @@ use std::marker::Model;
 use std::sync::Wait;
 use std::thread::Threads;
 
-/// A ship and what is aboard of her on arrival: what the lists of a session and of a desk go on from. To contracts it is a `Base`.
-#[derive(Drop)]
+/// A ship and what is aboard of her on arrival: what the lists of a session and of a desk go on
+/// from. To contracts it is a `Base`.
 pub struct Ground {
     profile: Profile,
     arrival: Arrival,
     /// Everything that is aboard on arrival, added up.
     total: Totals,
+}
+
+impl Drop for Ground {
+    // Written out, since the crates above prove a derived one anew, field by field.
+    fn drop(self) {
+        let Ground {
+            profile: _profile,
+            arrival: _arrival,
+            total: _,
+        } = self;
+    }
 }
 
 impl Model for Ground {
@@ -41,7 +53,8 @@ impl Model for Ground {
 }
 
 impl Ground {
-    /// A ship and the arrival that was made with her profile, of at most 200 fills, each of another tank. Takes no memory.
+    /// A ship and the arrival that was made with her profile, of at most 200 fills, each of another
+    /// tank. Takes no memory.
     pub fn new(profile: Profile, arrival: Arrival) -> Ground
         requires { HasArrived profile arrival }
         ensures { result ≡ record { ship = profile; arrival = arrival } }
@@ -55,8 +68,8 @@ impl Ground {
         }
     }
 
-    /// Whether two grounds are equal: the same ship, with the same aboard on arrival. Takes no memory, and time in the length of her tables and in the
-    /// number of bodies.
+    /// Whether two grounds are equal: the same ship, with the same aboard on arrival. Takes no
+    /// memory, and time in the length of her tables and in the number of bodies.
     pub fn same(&self, other: &Ground) -> bool
         ensures { IsTrue result ↔ (self.now ≡ other.now) }
     {
@@ -106,7 +119,8 @@ impl Ground {
         first_fail_from(&self.profile, &self.arrival, sequence, &self.total)
     }
 
-    /// Writes the report on a sequence from here to a sink that has not failed, in these chunks, from the sums at their first lines.
+    /// Writes the report on a sequence from here to a sink that has not failed, in these chunks,
+    /// from the sums at their first lines.
     pub(crate) fn report<G: Gate, R: Threads + Wait + Sync, S: Sink>(
         &self,
         rt: &R,

@@ -11,13 +11,23 @@ use std::marker::Model;
 use std::sync::{Arc, Wait};
 use step_edits::copies;
 
-/// Lists of steps that planners publish to each other, all on one base. A list that is published stays as it is. Any thread may publish, open
-/// and find at any time; there is no lock.
-#[derive(Drop)]
+/// Lists of steps that planners publish to each other, all on one base. A list that is published
+/// stays as it is. Any thread may publish, open and find at any time; there is no lock.
 pub struct Desk {
     base: Arc<Ground, Global>,
     lists: boxcar::Vec<Vec<Op>>,
     alloc: Global,
+}
+
+impl Drop for Desk {
+    // Written out, since the crates above prove a derived one anew, field by field.
+    fn drop(self) {
+        let Desk {
+            base: _base,
+            lists: _lists,
+            alloc: _,
+        } = self;
+    }
 }
 
 impl Model for Desk {
@@ -38,8 +48,9 @@ impl Desk {
         Ok(Desk { base, lists, alloc })
     }
 
-    /// Publishes the list of a session whose base is equal to the desk's. The ticket that is answered opens to just this list. Out of memory every list that was
-    /// published before is as it was, and a number may be used up.
+    /// Publishes the list of a session whose base is equal to the desk's. The ticket that is
+    /// answered opens to just this list. Out of memory every list that was published before is as
+    /// it was, and a number may be used up.
     pub fn publish<R: Wait>(&self, rt: &R, session: &Session) -> Result<Ticket, AllocError>
         requires { session.now.base ≡ self.now.base }
         ensures { IfOk result (λ ticket. IsOf self.now ticket
@@ -52,7 +63,8 @@ impl Desk {
         }
     }
 
-    /// A session on the desk's base with the list of a ticket of this desk and nothing to take back. Out of memory nothing changes.
+    /// A session on the desk's base with the list of a ticket of this desk and nothing to take
+    /// back. Out of memory nothing changes.
     pub fn open(&self, ticket: &Ticket) -> Result<Session, AllocError>
         requires { IsOf self.now ticket.now }
         ensures { IfOk result (λ session. session ≡ record {
@@ -66,8 +78,8 @@ impl Desk {
         let base = Arc::try_clone(&self.base)?;
         match Session::new(self.alloc, base, list) {
             Ok(session) => Ok(session),
-            // A published list is one of a session on an equal base, so all its steps can be done: the only possible error is out
-            // of memory.
+            // A published list is one of a session on an equal base, so all its steps can be done:
+            // the only possible error is out of memory.
             Err(_) => Err(AllocError),
         }
     }

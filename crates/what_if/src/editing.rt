@@ -1,4 +1,5 @@
-ghost use Rattle.std.specs.Prelude.{◌≡◌, ◌≢◌, ℕ, ◌+◌, ◌*◌, ◌-◌, ◌^◌, ◌≤◌, length, OnOk, OnErr, IfOk, IfErr, Some, None};
+ghost use Rattle.std.specs.Prelude.{◌≡◌, ◌≢◌, ℕ, ◌+◌, ◌*◌, ◌-◌, ◌^◌, ◌≤◌, length, OnOk, OnErr};
+ghost use Rattle.std.specs.Prelude.{IfOk, IfErr, Some, None};
 ghost use Rattle.std.specs.List.{swap};
 ghost use Rattle.std.specs.Bool.{OnTrue, OnFalse};
 ghost use Rattle.lift_sequence.specs.Follow.{IsLoad, weighed_at};
@@ -29,8 +30,9 @@ fn list_refusal(fault: SeqFault) -> EditFault
 }
 
 impl SummedList {
-    /// Makes an edit. Where it is refused, or out of memory, everything is as it was. Another weight of a load checks no step and takes no
-    /// memory; nor does an exchange of two steps that are independent of each other and of all steps between. Any other edit makes the sequence
+    /// Makes an edit. Where it is refused, or out of memory, everything is as it was. Another
+    /// weight of a load checks no step and takes no memory; nor does an exchange of two steps that
+    /// are independent of each other and of all steps between. Any other edit makes the sequence
     /// and its sums anew.
     pub fn edit(&mut self, edit: &Edit) -> Result<(), EditFault>
         ensures legal { OnOk result (refusal self.old.base self.old.ops edit.now ≡ None) }
@@ -61,8 +63,8 @@ impl SummedList {
         }
     }
 
-    /// Exchanges two steps, where they are independent of each other and of all steps between. It returns whether it did; if
-    /// not, everything is as it was.
+    /// Exchanges two steps, where they are independent of each other and of all steps between. It
+    /// returns whether it did; if not, everything is as it was.
     fn exchange(&mut self, a: usize, b: usize) -> bool
         requires first { (1 ≤ a) × (1 ≤ b) }
         requires last { (a ≤ length self.old.ops) × (b ≤ length self.old.ops) }

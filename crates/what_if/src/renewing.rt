@@ -1,4 +1,5 @@
-ghost use Rattle.std.specs.Prelude.{◌≡◌, ℕ, ◌+◌, ◌*◌, ◌^◌, ◌<◌, ◌≤◌, length, map, drop, slice_set, slice_index_or, if◌then◌else◌};
+ghost use Rattle.std.specs.Prelude.{◌≡◌, ℕ, ◌+◌, ◌*◌, ◌^◌, ◌<◌, ◌≤◌, length, map, drop, slice_set};
+ghost use Rattle.std.specs.Prelude.{slice_index_or, if◌then◌else◌};
 ghost use Rattle.std.specs.List.{swap};
 ghost use Rattle.lift_sequence.specs.Follow.{loaded_at, moves_in};
 ghost use Rattle.moment_sums.specs.Kept.{none_kept};
@@ -10,8 +11,8 @@ use moment_sums::Totals;
 use prefix_scan::TotalsTree;
 use ship_profile::Frames;
 
-/// Sets what the step at a place changes. Out of line: room for a sum is cleared where this begins, and in the loop of [`renew`] that would be for each
-/// step, whether it is set or not.
+/// Sets what the step at a place changes. Out of line: room for a sum is cleared where this begins,
+/// and in the loop of [`renew`] that would be for each step, whether it is set or not.
 #[inline(never)]
 fn set_step(tree: &mut TotalsTree<Totals>, sequence: &Sequence, frames: &Frames, place: usize)
     requires within { place < length tree.old.values }
@@ -53,8 +54,8 @@ fn renew_step(
     }
 }
 
-/// Sets what the load at a place changes, and those steps behind it that move its container. The tree is over what the steps changed before the
-/// container was given another weight.
+/// Sets what the load at a place changes, and those steps behind it that move its container. The
+/// tree is over what the steps changed before the container was given another weight.
 pub fn renew(tree: &mut TotalsTree<Totals>, sequence: &Sequence, frames: &Frames, place: usize)
     requires within { place < length sequence.now.ops }
     requires steps { length sequence.now.steps ≡ length sequence.now.ops }
@@ -79,7 +80,8 @@ pub fn renew(tree: &mut TotalsTree<Totals>, sequence: &Sequence, frames: &Frames
     }
 }
 
-/// Sets what the steps at two places change that were exchanged. The tree is over what the steps changed before.
+/// Sets what the steps at two places change that were exchanged. The tree is over what the steps
+/// changed before.
 pub fn renew_both(
     tree: &mut TotalsTree<Totals>,
     sequence: &Sequence,

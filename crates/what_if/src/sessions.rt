@@ -1,4 +1,5 @@
-ghost use Rattle.std.specs.Prelude.{◌≡◌, ◌≢◌, ℕ, ◌^◌, ◌+◌, ◌<◌, ◌≤◌, [], ◌∷◌, length, take, false, true, OnOk, OnErr, IfOk, IfErr, Ok, Err, Some, None};
+ghost use Rattle.std.specs.Prelude.{◌≡◌, ◌≢◌, ℕ, ◌^◌, ◌+◌, ◌<◌, ◌≤◌, [], ◌∷◌, length, take, false};
+ghost use Rattle.std.specs.Prelude.{true, OnOk, OnErr, IfOk, IfErr, Ok, Err, Some, None};
 ghost use Rattle.std.specs.Arc.{arc_value};
 ghost use Rattle.std.specs.Io.KnownBytes.{Appends};
 ghost use Rattle.prefix_scan.specs.declared.divisions.CutFault.{CutFault as CutFaultValue};
@@ -27,14 +28,25 @@ use step_edits::{Edit, EditFault, inverse};
 /// How many of the last edits can be taken back.
 const KEPT: usize = 64;
 
-/// A list of steps that a planner edits. Each edit is made only where every step of the edited list can be done, and the last 64 can be taken back.
+/// A list of steps that a planner edits. Each edit is made only where every step of the edited list
+/// can be done, and the last 64 can be taken back.
 ///
-/// To contracts it is its base, its list, the earlier lists, newest first, and how many joins of sums were counted.
-#[derive(Drop)]
+/// To contracts it is its base, its list, the earlier lists, newest first, and how many joins of
+/// sums were counted.
 pub struct Session {
     list: SummedList,
     /// The edits that lead back, newest first.
     past: HeapCircularBuffer<Edit>,
+}
+
+impl Drop for Session {
+    // Written out, since the crates above prove a derived one anew, field by field.
+    fn drop(self) {
+        let Session {
+            list: _list,
+            past: _past,
+        } = self;
+    }
 }
 
 impl Model for Session {
@@ -42,14 +54,20 @@ impl Model for Session {
 
     ghost Value = { SessionRecord };
 
-    ghost view = { λ s. record { base = s.list.base; ops = s.list.ops; past = past_of s.list.ops s.past.items; joins = s.list.joins } };
+    ghost view = { λ s. record {
+      base = s.list.base;
+      ops = s.list.ops;
+      past = past_of s.list.ops s.past.items;
+      joins = s.list.joins;
+    } };
 
     ghost invariant = { λ s. IsPast s.list.base s.list.ops s.past };
 }
 
 impl Session {
-    /// A session on a base, with a list of steps and nothing to take back; or the first step that can't be done, with what
-    /// [`lift_sequence::Sequence::new`] says of it. Out of memory may stand for it.
+    /// A session on a base, with a list of steps and nothing to take back; or the first step that
+    /// can't be done, with what [`lift_sequence::Sequence::new`] says of it. Out of memory may
+    /// stand for it.
     pub fn new(alloc: Global, base: Arc<Ground, Global>, ops: Vec<Op>) -> Result<Session, SeqFault>
         ensures legal { OnOk result (list_fault (arc_value base) ops.items ≡ None) }
         ensures made { IfOk result
@@ -67,7 +85,8 @@ impl Session {
         Ok(Session { list, past })
     }
 
-    /// The session on the steps that inputs order from the condition on arrival, with nothing to take back; or the first refusal, as [`seq_report::report`] has it.
+    /// The session on the steps that inputs order from the condition on arrival, with nothing to
+    /// take back; or the first refusal, as [`seq_report::report`] has it.
     pub fn read(alloc: Global, inputs: &Inputs<'_>) -> Result<Session, RunFault>
         ensures read { IfOk result (λ s. AreTold inputs.now s.base s.ops) }
         ensures outcome { IfOk result (λ s. outcome_of inputs.now ≡ Ok (report_on s.base s.ops)) }
@@ -120,11 +139,14 @@ impl Session {
         self.list.ops()
     }
 
-    /// Makes an edit. It is refused where the list hasn't a step that it names (X1), where it reweighs a step that is no load (X2), and where a step of the edited
-    /// list can't be done (X3, with the first such step and why); out of memory (X4) may stand for that, and is never inside X3. Then everything is as before.
+    /// Makes an edit. It is refused where the list hasn't a step that it names (X1), where it
+    /// reweighs a step that is no load (X2), and where a step of the edited list can't be done (X3,
+    /// with the first such step and why); out of memory (X4) may stand for that, and is never
+    /// inside X3. Then everything is as before.
     ///
-    /// Another weight of a load whose container is restowed r times takes at most (r + 2) (l + 1) joins, where the list has at most 2^l steps; an
-    /// exchange of two steps takes at most 2 (l + 1).
+    /// Another weight of a load whose container is restowed r times takes at most (r + 2) (l + 1)
+    /// joins, where the list has at most 2^l steps; an exchange of two steps takes at most 2 (l +
+    /// 1).
     pub fn apply(&mut self, edit: Edit) -> Result<(), EditFault>
         ensures legal { OnOk result (refusal self.old.base self.old.ops edit ≡ None) }
         ensures base { self.new.base ≡ self.old.base }
@@ -163,8 +185,9 @@ impl Session {
         Ok(true)
     }
 
-    /// How the condition after the first `k` steps is judged, 0 being the one on arrival; `None` where the list has fewer steps. It takes at most l + 1 joins, where
-    /// the list has at most 2^l steps.
+    /// How the condition after the first `k` steps is judged, 0 being the one on arrival; `None`
+    /// where the list has fewer steps. It takes at most l + 1 joins, where the list has at most 2^l
+    /// steps.
     pub fn judge(&mut self, k: u32) -> Option<Verdict>
         ensures judged { IsJudgedAt result self.old.base self.old.ops k }
         ensures base { self.new.base ≡ self.old.base }
@@ -177,17 +200,19 @@ impl Session {
         self.list.judge(k)
     }
 
-    /// The first step that fails, 0 being the condition on arrival, with its first criterion; `None` where all steps pass. It is what a fresh run on the list names.
+    /// The first step that fails, 0 being the condition on arrival, with its first criterion;
+    /// `None` where all steps pass. It is what a fresh run on the list names.
     pub fn first_fail(&self) -> Option<(u32, Criterion)>
         ensures { result ≡ (report_on self.now.base self.now.ops).summary.first }
     {
         self.list.first_fail()
     }
 
-    /// Writes the report on the list to a sink that has not failed: the one that a fresh run on the list writes, whatever the number of workers, the gate and the cuts.
+    /// Writes the report on the list to a sink that has not failed: the one that a fresh run on the
+    /// list writes, whatever the number of workers, the gate and the cuts.
     ///
-    /// Cuts that don't fit the lines are refused (F6). Nothing is written then, nor out of memory (F7). Where the sink fails, it holds a prefix of the
-    /// report, of the length that F8 says.
+    /// Cuts that don't fit the lines are refused (F6). Nothing is written then, nor out of memory
+    /// (F7). Where the sink fails, it holds a prefix of the report, of the length that F8 says.
     pub fn report<G: Gate, R: Threads + Wait + Sync, S: Sink>(
         &self,
         rt: &R,

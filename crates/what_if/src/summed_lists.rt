@@ -1,4 +1,5 @@
-ghost use Rattle.std.specs.Prelude.{◌≡◌, ℕ, ◌+◌, ◌^◌, ◌<◌, ◌≤◌, length, take, false, true, OnOk, IfOk, IfErr, None};
+ghost use Rattle.std.specs.Prelude.{◌≡◌, ℕ, ◌+◌, ◌^◌, ◌<◌, ◌≤◌, length, take, false, true, OnOk};
+ghost use Rattle.std.specs.Prelude.{IfOk, IfErr, None};
 ghost use Rattle.std.specs.Arc.{arc_value};
 ghost use Rattle.std.specs.Io.KnownBytes.{Appends};
 ghost use Rattle.prefix_scan.specs.Cut.{Divides};
@@ -29,7 +30,8 @@ const NO_MEMORY: SeqFault = SeqFault {
     at: 0,
 };
 
-/// A list of steps that can be done from a base, kept so that the sum of what is aboard after any of them is at hand.
+/// A list of steps that can be done from a base, kept so that the sum of what is aboard after any
+/// of them is at hand.
 #[derive(Drop)]
 pub struct SummedList {
     pub(crate) base: Arc<Ground, Global>,
@@ -45,7 +47,11 @@ impl Model for SummedList {
 
     ghost Value = { Summed };
 
-    ghost view = { λ l. record { base = arc_value l.base; ops = l.sequence.ops; joins = l.tree.joins } };
+    ghost view = { λ l. record {
+      base = arc_value l.base;
+      ops = l.sequence.ops;
+      joins = l.tree.joins;
+    } };
 
     ghost invariant = { λ l. IsSummed (arc_value l.base) l.sequence l.tree };
 }
@@ -106,8 +112,8 @@ impl SummedList {
         self.sequence.ops()
     }
 
-    /// How the condition after the first `k` steps is judged, 0 being the one on arrival; `None` where the list has fewer
-    /// steps.
+    /// How the condition after the first `k` steps is judged, 0 being the one on arrival; `None`
+    /// where the list has fewer steps.
     pub fn judge(&mut self, k: u32) -> Option<Verdict>
         ensures judged { IsJudgedAt result self.old.base self.old.ops k }
         ensures base { self.new.base ≡ self.old.base }
@@ -136,7 +142,8 @@ impl SummedList {
     fn first_sums(&self, cuts: &Cuts) -> Result<Vec<Totals>, AllocError>
         requires { Divides cuts.now (length self.now.ops + 1) }
         ensures { IfOk result (λ sums. AreFirstSums self.now.base.ship.ship.frames
-            self.now.base.arrival.bodies (steps_on self.now.base self.now.ops) cuts.now sums.items) }
+            self.now.base.arrival.bodies (steps_on self.now.base self.now.ops) cuts.now
+            sums.items) }
     {
         let changes = offsets_tree(self.alloc, &self.tree, cuts)?;
         joined_to_arrival(self.alloc, self.base.total(), &changes)

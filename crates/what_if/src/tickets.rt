@@ -4,7 +4,8 @@ use boxcar::Pushed;
 use lift_sequence::Op;
 use std::marker::Model;
 
-/// What opens a list at the desk where it was published. It has no list itself: the list is at the desk.
+/// What opens a list at the desk where it was published. It has no list itself: the list is at the
+/// desk.
 #[derive(Drop)]
 pub struct Ticket {
     place: usize,

@@ -30,7 +30,8 @@ fn fault_of_arrival(
     Ok(Arrival::new(alloc, profile, items, &[TankFill { tank: 0, kg }]).err())
 }
 
-/// The masses of what is aboard on arrival with a container in each of these cells and this mass in the tank.
+/// The masses of what is aboard on arrival with a container in each of these cells and this mass in
+/// the tank.
 fn masses_on_arrival(
     alloc: Global,
     profile: &Profile,

@@ -12,7 +12,8 @@ use std::test::Fail;
 use stow_messages::Item;
 use units_core::{Cell, Kg};
 
-/// A condition: containers of this identification and mass in these cells, and this mass in the tank.
+/// A condition: containers of this identification and mass in these cells, and this mass in the
+/// tank.
 #[derive(Clone, Copy)]
 struct Condition {
     name: &'static str,
@@ -100,7 +101,8 @@ fn items(alloc: Global, condition: &Condition) -> Result<Vec<Item>, AllocError> 
     Ok(items)
 }
 
-/// What a look at what was made gives. What was made is of any type here, so that no proof has to take an arrival apart.
+/// What a look at what was made gives. What was made is of any type here, so that no proof has to
+/// take an arrival apart.
 fn seen<T: Drop, E: Debug + Drop, R, F: FnOnce(&T) -> R>(
     made: Result<T, E>,
     look: F,
@@ -137,7 +139,8 @@ fn is_of(
     })
 }
 
-/// Whether the arrival of a ship in the plain condition is equal to that of another ship in a condition.
+/// Whether the arrival of a ship in the plain condition is equal to that of another ship in a
+/// condition.
 fn are_same(
     alloc: Global,
     profile: &Profile,
@@ -178,7 +181,8 @@ fn with_ship<'a>(files: ProfileBytes<'a>, ship: &'a [u8]) -> ProfileBytes<'a> {
     ProfileBytes { ship, ..files }
 }
 
-/// Whether the arrival of a ship in the plain condition is equal to that of the box ship with a block of this mass.
+/// Whether the arrival of a ship in the plain condition is equal to that of the box ship with a
+/// block of this mass.
 fn is_same_with_block(alloc: Global, profile: &Profile, kg: u32) -> Result<bool, Fail> {
     let ship = format!(in alloc;
         "{LIMITS}[[blocks]]\nkg = {kg}\nx_mm = 50000\ny_mm = 0\nz_mm = 6000\nhalf_mm = 50000\n"

@@ -13,7 +13,8 @@ use std::process::Abort;
 use std::test::Fail;
 use units_core::Cell;
 
-/// The cells that are taken on arrival, the orders, two of them to be exchanged, whether they are, and the orders then.
+/// The cells that are taken on arrival, the orders, two of them to be exchanged, whether they are,
+/// and the orders then.
 struct Case {
     aboard: &'static [Cell],
     orders: &'static [Order],
@@ -254,7 +255,8 @@ fn shift(sequence: &mut Sequence, from: usize, to: usize) -> bool {
     sequence.shift(from, to)
 }
 
-/// Three loads, of which the first goes behind the others and back, and behind a discharge of its own container it can't go.
+/// Three loads, of which the first goes behind the others and back, and behind a discharge of its
+/// own container it can't go.
 fn check_shifts(
     rt: &(impl Abort + AllocGlobal),
     profile: &Profile,
@@ -315,8 +317,8 @@ fn step_is_shifted(rt: HostRuntime) -> Result<(), Fail> {
     on_box_ship(&rt, &Shifts)
 }
 
-/// Fillings of two tanks are independent of each other, and so are a filling and a lift; a restow depends on steps in
-/// both of its cells.
+/// Fillings of two tanks are independent of each other, and so are a filling and a lift; a restow
+/// depends on steps in both of its cells.
 #[test]
 fn independent_steps(rt: HostRuntime) {
     let filling = op(&Order::Fill("DB1", 500_000));

@@ -11,8 +11,8 @@ use std::process::Abort;
 use std::test::Fail;
 use units_core::{Body, Kg, Step};
 
-/// Four containers. The first is loaded, restowed twice and discharged; the third and the fourth come into cells that it left, and the
-/// third leaves the first of them for the second.
+/// Four containers. The first is loaded, restowed twice and discharged; the third and the fourth
+/// come into cells that it left, and the third leaves the first of them for the second.
 static LIST: [Order; 12] = [
     Order::Weighing(BESIDE, 20_500),
     Order::Weighing(MIDDLE, 11_000),
@@ -34,8 +34,9 @@ type Figures = [i64; 3];
 /// No body.
 const NOTHING: Figures = [0; 3];
 
-/// What each step takes out and puts in where the first container has 24,100 kg: the steps 1, 3, 6 and 8 are of that weight, the others of
-/// the weights above. The cells stand at x 75,000 (FORE), 50,000 (MIDDLE, BESIDE) and 25,000 (AFT), BESIDE 8,000 to starboard.
+/// What each step takes out and puts in where the first container has 24,100 kg: the steps 1, 3, 6
+/// and 8 are of that weight, the others of the weights above. The cells stand at x 75,000 (FORE),
+/// 50,000 (MIDDLE, BESIDE) and 25,000 (AFT), BESIDE 8,000 to starboard.
 static FOLLOWED: [(Figures, Figures); 12] = [
     (NOTHING, [24_100, 50_000, 8_000]),
     (NOTHING, [11_000, 50_000, 0]),

@@ -32,7 +32,8 @@ fn length_from(
     }
 }
 
-/// How many steps these orders are from an arrival with a container in each of these cells, or why they can't be carried out.
+/// How many steps these orders are from an arrival with a container in each of these cells, or why
+/// they can't be carried out.
 fn length_of(
     alloc: Global,
     profile: &Profile,
@@ -49,7 +50,8 @@ fn length_of(
     }
 }
 
-/// The cells that are taken on arrival, the orders, and how many steps they are, or why they can't be carried out.
+/// The cells that are taken on arrival, the orders, and how many steps they are, or why they can't
+/// be carried out.
 struct Case {
     aboard: &'static [Cell],
     orders: &'static [Order],
@@ -308,7 +310,8 @@ fn last_step_from(
     }
 }
 
-/// The last of these orders as a step where nothing is aboard on arrival, or why they can't be carried out.
+/// The last of these orders as a step where nothing is aboard on arrival, or why they can't be
+/// carried out.
 fn last_step_of(alloc: Global, profile: &Profile, orders: &[Order]) -> Result<Last, SeqFault> {
     // `?` is longer to prove
     match Arrival::new(alloc, profile, Vec::new(alloc), &[]) {

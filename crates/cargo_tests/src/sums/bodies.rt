@@ -9,8 +9,8 @@ use ship_profile::{Frames, Profile};
 use std::process::Abort;
 use std::test::Fail;
 
-/// Mass, moments along, across and up the ship, free surface moment; masses aft of both frames and of a third, which is not there; the
-/// three moments of these.
+/// Mass, moments along, across and up the ship, free surface moment; masses aft of both frames and
+/// of a third, which is not there; the three moments of these.
 pub type Values = [i128; 11];
 
 /// The values of a sum.
@@ -38,8 +38,8 @@ pub fn joined(one: &Totals, other: &Totals) -> Result<Totals, Fail> {
     Ok(one.join(other))
 }
 
-/// The container: 20,501 * 50,000, 20,501 * 1,200, 20,501 * 10,400; all of it lies before the frame at 25,000, and half of it aft of that at
-/// 50,000.
+/// The container: 20,501 * 50,000, 20,501 * 1,200, 20,501 * 10,400; all of it lies before the frame
+/// at 25,000, and half of it aft of that at 50,000.
 pub static OF_CONTAINER: Values = [
     20_501,
     1_025_050_000,
@@ -54,8 +54,9 @@ pub static OF_CONTAINER: Values = [
     0,
 ];
 
-/// The box: 900 * 26,000, 900 * -3,000, 900 * 2,000; aft of the frame at 25,000 lie 3,000 of its 8,000 mm, 900 * 3 / 8 = 337.5 with the
-/// moment 900 * 3,000 * 3,000 / 16,000 = 506,250; all of it lies aft of the frame at 50,000, and 900 * 24,000 = 21,600,000.
+/// The box: 900 * 26,000, 900 * -3,000, 900 * 2,000; aft of the frame at 25,000 lie 3,000 of its
+/// 8,000 mm, 900 * 3 / 8 = 337.5 with the moment 900 * 3,000 * 3,000 / 16,000 = 506,250; all of it
+/// lies aft of the frame at 50,000, and 900 * 24,000 = 21,600,000.
 static OF_BOX: Values = [
     900, 23_400_000, -2_700_000, 1_800_000, 11, 337, 900, 0, 506_250, 21_600_000, 0,
 ];

@@ -11,8 +11,8 @@ use std::process::Abort;
 use std::test::Fail;
 use units_core::Step;
 
-/// The container taken out again. The share aft is the one that was put in, -10,250: half of -20,501 rounded down would be -10,251. So is
-/// its moment, which would be -15,524,383.
+/// The container taken out again. The share aft is the one that was put in, -10,250: half of
+/// -20,501 rounded down would be -10,251. So is its moment, which would be -15,524,383.
 static TAKEN_OUT: Values = [
     -20_501,
     -1_025_050_000,
@@ -114,8 +114,9 @@ fn idle_step(rt: HostRuntime) -> Result<(), Fail> {
     on_two_frames(&rt, &Idle)
 }
 
-/// Two containers: 2 * 20,501, 2 * 1,025,050,000, 2 * 24,601,200, 2 * 213,210,400 and 2 * 7,000,003; aft of the frame at 50,000 twice the
-/// share that is rounded down, 2 * 10,250 with 2 * 15,524,382.
+/// Two containers: 2 * 20,501, 2 * 1,025,050,000, 2 * 24,601,200, 2 * 213,210,400 and 2 *
+/// 7,000,003; aft of the frame at 50,000 twice the share that is rounded down, 2 * 10,250 with 2 *
+/// 15,524,382.
 static TWO_CONTAINERS: Values = [
     41_002,
     2_050_100_000,

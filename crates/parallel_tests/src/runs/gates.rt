@@ -1,4 +1,5 @@
-// That the gate is called: once for each chunk that a worker takes, before its look and its work, by as many workers as asked for.
+// That the gate is called: once for each chunk that a worker takes, before its look and its work,
+// by as many workers as asked for.
 use crate::checks::holds;
 use crate::notes::{Notes, notes_of};
 use crate::runs::waits::Squares;
@@ -8,7 +9,8 @@ use std::sync::atomic::Ordering::SeqCst;
 use std::sync::atomic::{AtomicBool, AtomicU64};
 use std::test::Fail;
 
-/// Pieces and chunks that note where they are worked or looked at before the gate has let them pass. None fails.
+/// Pieces and chunks that note where they are worked or looked at before the gate has let them
+/// pass. None fails.
 #[derive(Drop)]
 struct BehindGate<'a> {
     gate: &'a Notes,
@@ -110,7 +112,8 @@ impl Gate for Sums {
     }
 }
 
-// 70,000 chunks, more than 16 bits count, whose numbers are 70,000 * 69,999 / 2 together; and the same once more.
+// 70,000 chunks, more than 16 bits count, whose numbers are 70,000 * 69,999 / 2 together; and the
+// same once more.
 #[test]
 fn calls_for_many_chunks(rt: HostRuntime) -> Result<(), Fail> {
     let Some(workers) = Workers::new(3) else {

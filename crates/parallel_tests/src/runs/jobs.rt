@@ -58,8 +58,9 @@ static SIXTEEN: [u64; 16] = [
     0, 1, 4, 9, 16, 25, 36, 49, 64, 81, 100, 121, 144, 169, 196, 225,
 ];
 
-// Two pieces of which the first is held until the second has passed, and sixteen that wait for each other. A body on one thread, or one lock
-// that is held from a draw to the chunk's end, gives up here and is caught.
+// Two pieces of which the first is held until the second has passed, and sixteen that wait for each
+// other. A body on one thread, or one lock that is held from a draw to the chunk's end, gives up
+// here and is caught.
 #[test]
 fn gated_workers(rt: HostRuntime) -> Result<(), Fail> {
     let gate = holds_until(0, 1);
@@ -90,7 +91,8 @@ fn values_in_order(rt: HostRuntime) -> Result<(), Fail> {
 /// How long a piece lasts at least, in looks at a number.
 const LOOKS: u32 = 3_000_000;
 
-/// A job whose piece 1 finds no memory, and whose other pieces last a while, with the pieces counted that have begun and ended.
+/// A job whose piece 1 finds no memory, and whose other pieces last a while, with the pieces
+/// counted that have begun and ended.
 #[derive(Drop)]
 struct NoMemoryAtOne {
     begun: AtomicU64,
@@ -122,7 +124,8 @@ impl Job for NoMemoryAtOne {
     }
 }
 
-/// Whether a run of three pieces answers an error, and no worker is left in a piece then: one that wasn't joined would still be in its own.
+/// Whether a run of three pieces answers an error, and no worker is left in a piece then: one that
+/// wasn't joined would still be in its own.
 fn refuses<R: Threads + Wait + Sync>(rt: &R, alloc: Global, n: u8) -> bool {
     let job = NoMemoryAtOne {
         begun: AtomicU64::new(0),

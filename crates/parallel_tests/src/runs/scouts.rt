@@ -28,8 +28,8 @@ fn least_by_two<S: Scout, G: Gate, R: Threads + Wait + Sync>(
     run_least(rt, alloc, gate, two, pieces, scout)
 }
 
-// The first chunk is held until the third has passed, so the third is skipped for the second's step 9, which was found first in time. The
-// answer is the least, 3.
+// The first chunk is held until the third has passed, so the third is skipped for the second's step
+// 9, which was found first in time. The answer is the least, 3.
 #[test]
 fn early_stop(rt: HostRuntime) -> Result<(), Fail> {
     let gate = holds_until(0, 2);
@@ -55,8 +55,8 @@ impl Gate for InTurn {
     }
 }
 
-// What is posted while a worker is held at the gate, it sees behind it: step 3 of the first chunk is there when the second is let through, and both the
-// second and the third are skipped.
+// What is posted while a worker is held at the gate, it sees behind it: step 3 of the first chunk
+// is there when the second is let through, and both the second and the third are skipped.
 #[test]
 fn posted_while_held(rt: HostRuntime) -> Result<(), Fail> {
     let gate = InTurn {
@@ -72,7 +72,8 @@ fn posted_while_held(rt: HostRuntime) -> Result<(), Fail> {
     Ok(())
 }
 
-/// The same chunks, of which the first is held until the look at the second has begun, and that look until the third has passed.
+/// The same chunks, of which the first is held until the look at the second has begun, and that
+/// look until the third has passed.
 #[derive(Drop)]
 struct LateSecond {
     first_came: AtomicBool,
@@ -154,8 +155,8 @@ fn no_failing_chunk(rt: HostRuntime) -> Result<(), Fail> {
     Ok(())
 }
 
-// The second hand works chunk 0 and posts 3; so the first skips chunk 1, which begins at 5, and the second chunk 2. Then each draws a number
-// past the last chunk, 3 and 4: next is 5.
+// The second hand works chunk 0 and posts 3; so the first skips chunk 1, which begins at 5, and the
+// second chunk 2. Then each draws a number past the last chunk, 3 and 4: next is 5.
 #[test]
 fn two_hands_one_thread(rt: HostRuntime) -> Result<(), Fail> {
     let scout = three_chunks();

@@ -1,12 +1,14 @@
-// Waits with a limit, gates that stop a worker until another has reached a place, and a job of squares.
+// Waits with a limit, gates that stop a worker until another has reached a place, and a job of
+// squares.
 use claim_run::{Gate, Job};
 use std::alloc::{AllocError, Global};
 use std::sync::atomic::AtomicBool;
 use std::sync::atomic::Ordering::SeqCst;
 use std::thread;
 
-/// How many turns a wait has; a turn is one load of a flag, and leave for other threads to go on. Without that leave, sixteen threads that wait on two
-/// processors may use up their turns before the last of them is started.
+/// How many turns a wait has; a turn is one load of a flag, and leave for other threads to go on.
+/// Without that leave, sixteen threads that wait on two processors may use up their turns before
+/// the last of them is started.
 const TURNS: u32 = 2_000_000;
 
 /// Waits for the flag, and notes where it gives up.

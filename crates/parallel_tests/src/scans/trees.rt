@@ -12,8 +12,9 @@ const FIVE: Last = Last {
     parts: 1,
 };
 
-// Of 1, none, 3 the first two are joined to 1, and all three to 3. With 5 in the place of none the first two are joined to 5. Before the
-// chunk from 0 to 2 is nothing, and before the one from 2 to 3 are the first two.
+// Of 1, none, 3 the first two are joined to 1, and all three to 3. With 5 in the place of none the
+// first two are joined to 5. Before the chunk from 0 to 2 is nothing, and before the one from 2 to
+// 3 are the first two.
 #[test]
 fn scan_and_cuts(rt: HostRuntime) -> Result<(), Fail> {
     let mut tree = TotalsTree::build(rt.alloc(), &VALUES)?;
@@ -39,7 +40,8 @@ fn flat_prefixes(rt: HostRuntime) -> Result<(), Fail> {
     Ok(())
 }
 
-// The lines of three steps are the numbers from 0 to 3: cuts of 4 numbers, the last chunk of which begins behind all values.
+// The lines of three steps are the numbers from 0 to 3: cuts of 4 numbers, the last chunk of which
+// begins behind all values.
 #[test]
 fn cuts_one_past_the_end(rt: HostRuntime) -> Result<(), Fail> {
     let tree = TotalsTree::build(rt.alloc(), &VALUES)?;
@@ -50,8 +52,9 @@ fn cuts_one_past_the_end(rt: HostRuntime) -> Result<(), Fail> {
     Ok(())
 }
 
-// Over three values there is one row above, with the join of the first two. So a new first value makes one join, a new last one none, and the
-// prefix of three makes two: the third value and the unit, and the value above with that.
+// Over three values there is one row above, with the join of the first two. So a new first value
+// makes one join, a new last one none, and the prefix of three makes two: the third value and the
+// unit, and the value above with that.
 #[test]
 fn joins_over_three_values(rt: HostRuntime) -> Result<(), Fail> {
     let mut tree = TotalsTree::build(rt.alloc(), &VALUES)?;
@@ -76,7 +79,8 @@ fn an_empty_tree(rt: HostRuntime) -> Result<(), Fail> {
     Ok(())
 }
 
-/// How far a new value in the place of the `i`-th raises the count of joins, and how far the prefix that ends behind it does.
+/// How far a new value in the place of the `i`-th raises the count of joins, and how far the prefix
+/// that ends behind it does.
 fn rises(tree: &mut TotalsTree<Last>, i: usize) -> (u64, u64)
     requires within { i < length tree.old.values }
     requires few { length tree.old.values ≤ 60000 }
@@ -133,8 +137,8 @@ fn agree<A: Prefixes<Last>, B: Prefixes<Last>>(left: &mut A, right: &mut B) -> b
     left.prefix(n) == right.prefix(n)
 }
 
-/// Whether a tree over this number of values agrees with the plain form after each of them was replaced
-/// in turn.
+/// Whether a tree over this number of values agrees with the plain form after each of them was
+/// replaced in turn.
 fn agrees_after_each_set(alloc: Global, n: u32) -> Result<bool, AllocError>
     requires { n ≤ 20 }
 {
@@ -160,8 +164,8 @@ fn a_tree_as_the_plain_form(rt: HostRuntime) -> Result<(), Fail> {
     Ok(())
 }
 
-// Three values made four by 5 before them: the prefixes are those of the new list, the first three being 5, 1 and none, and the count goes on from
-// the one join that the set made.
+// Three values made four by 5 before them: the prefixes are those of the new list, the first three
+// being 5, 1 and none, and the count goes on from the one join that the set made.
 #[test]
 fn a_tree_rebuilt(rt: HostRuntime) -> Result<(), Fail> {
     let mut tree = TotalsTree::build(rt.alloc(), &VALUES)?;

@@ -9,7 +9,8 @@ use std::sync::atomic::{AtomicBool, AtomicU64};
 use std::test::Fail;
 use std::thread;
 
-/// The container of 20,500 kg to starboard, and then one of 20,500 kg on deck amidships: two steps, and so three lines.
+/// The container of 20,500 kg to starboard, and then one of 20,500 kg on deck amidships: two steps,
+/// and so three lines.
 const TWO_LOADS: &[u8] =
     b"UNB+UNOA:2+PLAN+SHIP+250101:1200+8'UNH+1+MOVINS:D:95B:UN'HAN+LOA'LOC+147+0030782::5'MEA+WT++KGM:20500'EQD+CN+ABCU1234560'HAN+LOA'LOC+147+0050082::5'MEA+WT++KGM:20500'EQD+CN+ABCU7654321'UNT+10+1'UNZ+1+8'";
 
@@ -43,11 +44,13 @@ fn two_loads(rt: HostRuntime) {
     }
 }
 
-/// How often a worker that is held looks at most whether it may go on; between two looks other threads may.
+/// How often a worker that is held looks at most whether it may go on; between two looks other
+/// threads may.
 const TURNS: u32 = 2_000_000;
 
-/// A gate that holds each run's chunk 0 until its chunk 1 has passed, and notes where it gave up waiting. A report on one thread, or under
-/// one lock from a draw to the chunk's end, would never let it through.
+/// A gate that holds each run's chunk 0 until its chunk 1 has passed, and notes where it gave up
+/// waiting. A report on one thread, or under one lock from a draw to the chunk's end, would never
+/// let it through.
 #[derive(Drop)]
 struct SecondFirst {
     zeros: AtomicU64,
@@ -98,7 +101,8 @@ fn gated_workers(rt: HostRuntime) {
     holds(&rt, !gate.gave_up.load(SeqCst));
 }
 
-/// A container comes aboard eight times, and goes ashore between: fifteen lifts, and so sixteen lines.
+/// A container comes aboard eight times, and goes ashore between: fifteen lifts, and so sixteen
+/// lines.
 fn fifteen_lifts(alloc: Global) -> Result<Vec<u8>, AllocError> {
     let load = b"HAN+LOA'LOC+147+0030082'MEA+WT++KGM:20500'";
     let mut text = Vec::new(alloc);
@@ -115,8 +119,8 @@ fn fifteen_lifts(alloc: Global) -> Result<Vec<u8>, AllocError> {
 /// So many workers, and the length of as many chunks of sixteen lines.
 static STAFFS: [(u8, u32); 3] = [(2, 8), (3, 6), (16, 1)];
 
-// A report has two runs, one for the sums and one for the lines; so has the search for the first step that fails. In each the gate is called for each
-// chunk, by each of the workers.
+// A report has two runs, one for the sums and one for the lines; so has the search for the first
+// step that fails. In each the gate is called for each chunk, by each of the workers.
 #[test]
 fn calls_of_the_gate(rt: HostRuntime) -> Result<(), Fail> {
     let lifts = fifteen_lifts(rt.alloc())?;

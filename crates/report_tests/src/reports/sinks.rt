@@ -142,7 +142,8 @@ fn there_and_back(alloc: Global) -> Result<String, AllocError> {
     Ok(text)
 }
 
-/// The report on it: the lines of one such lift and of the empty ship again and again, 92 KB in all.
+/// The report on it: the lines of one such lift and of the empty ship again and again, 92 KB in
+/// all.
 fn report_on_them(alloc: Global) -> Result<String, AllocError> {
     let mut text = String::new(alloc);
     text.push_str(

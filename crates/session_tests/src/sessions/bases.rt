@@ -16,7 +16,8 @@ fn loaded(alloc: Global) -> Result<Session, RunFault> {
     Session::read(alloc, &inputs(ONE_ABOARD, NO_MOVES))
 }
 
-// Bases are equal whatever is ordered from there, and where they were read from the same files twice.
+// Bases are equal whatever is ordered from there, and where they were read from the same files
+// twice.
 #[test]
 fn same_bases(rt: HostRuntime) -> Result<(), Fail> {
     let alloc = rt.alloc();

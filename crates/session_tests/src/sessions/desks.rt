@@ -63,7 +63,8 @@ fn finds(desk: &Desk, place: usize, session: &Session) -> Result<bool, AllocErro
     }
 }
 
-/// Whether each of two lists that two threads publish opens in the other thread, opens again, and is found by its number.
+/// Whether each of two lists that two threads publish opens in the other thread, opens again, and
+/// is found by its number.
 fn is_shared(
     rt: &(impl Threads + Wait + Sync),
     desk: &Desk,

@@ -1,5 +1,6 @@
-//! Edits of a short list of the box ship, with every figure from the worked reports of the same loads. What else edits do, and which are refused,
-//! is tested by runs of the program (`tests/program.d/trials`).
+//! Edits of a short list of the box ship, with every figure from the worked reports of the same
+//! loads. What else edits do, and which are refused, is tested by runs of the program
+//! (`tests/program.d/trials`).
 use super::{AFT, BOTH, STARBOARD, TWO_LOADS, check_report, report_of, session};
 use crate::checks::{holds, same};
 use criteria::{Figures, Verdict};
@@ -12,7 +13,8 @@ use step_edits::{EditFault, copies};
 use units_core::Kg;
 use what_if::{Edit, Session};
 
-/// Both loads are swapped, and swapped back. The session is lent: its owner lets go of it at each `?`, which the proof pays for.
+/// Both loads are swapped, and swapped back. The session is lent: its owner lets go of it at each
+/// `?`, which the proof pays for.
 fn swap_and_undo(
     rt: &(impl Abort + AllocGlobal + Threads + Wait + Sync),
     session: &mut Session,
@@ -38,7 +40,8 @@ fn session_edits(rt: HostRuntime) -> Result<(), Fail> {
 const IN_AND_ASHORE: &[u8] =
     b"UNB+UNOA:2+PLAN+SHIP+250101:1200+8'UNH+1+MOVINS:D:95B:UN'HAN+LOA'LOC+147+0030782::5'MEA+WT++KGM:20500'EQD+CN+ABCU1234560'HAN+DIS'LOC+147+0030782::5'EQD+CN+ABCU1234560'UNT+9+1'UNZ+1+8'";
 
-/// An edit is refused so, and leaves the list and its report as they were, with nothing to take back.
+/// An edit is refused so, and leaves the list and its report as they were, with nothing to take
+/// back.
 fn check_refused(
     rt: &(impl Abort + AllocGlobal + Threads + Wait + Sync),
     session: &mut Session,
@@ -54,7 +57,8 @@ fn check_refused(
     Ok(())
 }
 
-// There are two steps, of which the second has no weight of its own, and can't be done without the first.
+// There are two steps, of which the second has no weight of its own, and can't be done without the
+// first.
 #[test]
 fn refused_edits(rt: HostRuntime) -> Result<(), Fail> {
     let mut session = session(rt.alloc(), IN_AND_ASHORE)?;

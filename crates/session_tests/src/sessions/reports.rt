@@ -27,7 +27,8 @@ static CUTS: [(u8, CutPlan<'static>, u64); 4] = [
     (2, CutPlan::At(&[1, 3]), 2),
 ];
 
-// The sums are there before, so the report has one run: the gate is called once for each chunk of the lines.
+// The sums are there before, so the report has one run: the gate is called once for each chunk of
+// the lines.
 #[test]
 fn gates_and_cuts(rt: HostRuntime) -> Result<(), Fail> {
     let session = session(rt.alloc(), TWO_LOADS)?;

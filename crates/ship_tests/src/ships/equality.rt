@@ -1,4 +1,5 @@
-//! Which profiles are equal: those of the same files, and none of which one value differs. The ship is that of unlike numbers.
+//! Which profiles are equal: those of the same files, and none of which one value differs. The ship
+//! is that of unlike numbers.
 use super::files::seen;
 use super::profiles::with_text;
 use super::values::unlike_ship;

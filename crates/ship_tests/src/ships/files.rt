@@ -115,7 +115,8 @@ fn write_keys(text: &mut String, count: usize, key: &str, value: &str) -> Result
     Ok(())
 }
 
-/// The first `count` keys of a box ship, one of them with another value; an empty value leaves the key out.
+/// The first `count` keys of a box ship, one of them with another value; an empty value leaves the
+/// key out.
 pub fn first_keys(alloc: Global, count: usize, key: &str, value: &str) -> Result<String, Fail> {
     let mut text = String::new(alloc);
     write_keys(&mut text, count, key, value)?;
@@ -148,7 +149,8 @@ pub fn box_files<'a>(
     }
 }
 
-/// What a look at what was read gives. What was read is of any type here, so that no proof has to take a profile apart.
+/// What a look at what was read gives. What was read is of any type here, so that no proof has to
+/// take a profile apart.
 pub fn seen<T: Drop, R, F: FnOnce(&T) -> R>(
     read: Result<T, ProfileFault>,
     look: F,

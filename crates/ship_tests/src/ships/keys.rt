@@ -1,9 +1,11 @@
-//! The keys of `ship.toml`: each missing, of another type, out of its limits, and what is asked of it besides.
+//! The keys of `ship.toml`: each missing, of another type, out of its limits, and what is asked of
+//! it besides.
 use super::files::{check_ship, check_value, check_values, first_keys};
 use std::process::Abort;
 use std::test::Fail;
 
-/// A `ship.toml`: how many of the box ship's keys it begins with, another value of one of them, what follows, and the words of its fault.
+/// A `ship.toml`: how many of the box ship's keys it begins with, another value of one of them,
+/// what follows, and the words of its fault.
 static SHIPS: [(usize, &str, &str, &str, &str); 28] = [
     // no document, and one of another key
     (0, "", "", "lbp_mm = ", "P1"),
@@ -116,7 +118,8 @@ fn values_of_another_type(rt: HostRuntime) -> Result<(), Fail> {
     Ok(())
 }
 
-/// A key of a number or the stations, a value of it, and the words of its fault; none for one that is taken.
+/// A key of a number or the stations, a value of it, and the words of its fault; none for one that
+/// is taken.
 static NUMBERS: [(&str, &str, &str); 29] = [
     // an array for a number, a number for an array
     ("lbp_mm", "[1]", "P3 lbp_mm"),
@@ -164,7 +167,8 @@ fn values_of_numbers_and_stations(rt: HostRuntime) -> Result<(), Fail> {
 
 /// The same of the blocks.
 static BLOCKS: [(&str, &str, &str); 23] = [
-    // blocks: each a table, its keys in order, within the stations, each block whole before the next; then too few
+    // blocks: each a table, its keys in order, within the stations, each block whole before the
+    // next; then too few
     ("blocks", "[]", "P13 ship.toml"),
     ("blocks", "[5]", "P3 blocks"),
     ("blocks", "[[]]", "P3 blocks"),
@@ -422,8 +426,8 @@ fn values_of_fills(rt: HostRuntime) -> Result<(), Fail> {
     check_values(&rt, &FILLS)
 }
 
-/// A number in a key's value: the key, what stands before the number and behind it, both ends of its range, and the words of what is
-/// below and of what is above.
+/// A number in a key's value: the key, what stands before the number and behind it, both ends of
+/// its range, and the words of what is below and of what is above.
 static RANGES: [(&str, &str, &str, i64, i64, &str, &str); 13] = [
     (
         "lbp_mm",
@@ -544,7 +548,8 @@ static RANGES: [(&str, &str, &str, i64, i64, &str, &str); 13] = [
     ),
 ];
 
-/// Reads a number in a key's value, with what stands before it and behind it there, and compares the words of its fault.
+/// Reads a number in a key's value, with what stands before it and behind it there, and compares
+/// the words of its fault.
 fn check_number(
     rt: &(impl Abort + AllocGlobal),
     key: &str,
@@ -578,8 +583,9 @@ fn write_elements(text: &mut String, before: &str, count: u32, after: &str) -> R
     Ok(())
 }
 
-/// How many keys stand before an array, its head, an element as it stands before and behind its number, how many there are, and the words
-/// of the fault; for an array that is taken that of what comes next. One too many is found before the first element is read.
+/// How many keys stand before an array, its head, an element as it stands before and behind its
+/// number, how many there are, and the words of the fault; for an array that is taken that of what
+/// comes next. One too many is found before the first element is read.
 static ARRAYS: [(usize, &str, &str, u32, &str, &str); 10] = [
     (6, "stations_mm = [", "", 64, ", ", "P2 blocks"),
     (6, "stations_mm = [", "", 65, ", ", "P6 ship.toml 0"),

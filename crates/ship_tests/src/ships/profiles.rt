@@ -62,8 +62,9 @@ fn first_file_with_a_fault(rt: HostRuntime) -> Result<(), Fail> {
     Ok(())
 }
 
-/// Fills, a file with a fault, and the words of the fault that is found. The fills are read with the other keys of `ship.toml`, before
-/// any table; their tanks are looked for when the last table is read.
+/// Fills, a file with a fault, and the words of the fault that is found. The fills are read with
+/// the other keys of `ship.toml`, before any table; their tanks are looked for when the last table
+/// is read.
 static FILLS_AND_TABLES: [(&str, File, &[u8], &str); 6] = [
     ("5", File::Cells, b"", "P3 fills"),
     ("[{tank = 5, kg = 1}]", File::Cells, b"", "P3 fills"),
@@ -125,8 +126,9 @@ fn places_reach_from_the_first_station_to_the_last(rt: HostRuntime) -> Result<()
     Ok(())
 }
 
-/// The prefixes of `ship.toml`, from one length to before another, and the words of their faults; the last go to its end. One that ends in
-/// a key or before a value is no document; one that ends in a value or after it has the fault of what comes next.
+/// The prefixes of `ship.toml`, from one length to before another, and the words of their faults;
+/// the last go to its end. One that ends in a key or before a value is no document; one that ends
+/// in a value or after it has the fault of what comes next.
 static PREFIXES: [(usize, usize, &str); 78] = [
     // no text at all
     (0, 1, "P2 lbp_mm"),
@@ -236,7 +238,8 @@ fn every_prefix_of_ship_toml(rt: HostRuntime) -> Result<(), Fail> {
     Ok(())
 }
 
-/// Comments before the text of `ship.toml`, and the words of their faults: one in UTF-8, and one that isn't.
+/// Comments before the text of `ship.toml`, and the words of their faults: one in UTF-8, and one
+/// that isn't.
 static COMMENTS: [(&[u8], &str); 2] = [(b"# caf\xc3\xa9\n", ""), (b"# caf\xe9\n", "P1")];
 
 /// Reads the box ship with a comment before her `ship.toml`.

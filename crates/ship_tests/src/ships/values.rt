@@ -1,5 +1,5 @@
-//! What a profile gives, compared with the numbers that stand in its files. The ship is one of which no two numbers are equal, so
-//! that one in the place of another shows.
+//! What a profile gives, compared with the numbers that stand in its files. The ship is one of
+//! which no two numbers are equal, so that one in the place of another shows.
 use super::files::{check_words, seen};
 use ship_profile::{Curves, Hydro, Profile, ProfileBytes, one_array, one_profile};
 use std::alloc::Global;
@@ -93,7 +93,8 @@ pub fn unlike_ship() -> ProfileBytes<'static> {
 /// What is asked of a profile.
 #[derive(Clone, Copy)]
 enum Asked {
-    /// The angle of down-flooding; length, greatest draught and trim; greatest list and closing error.
+    /// The angle of down-flooding; length, greatest draught and trim; greatest list and closing
+    /// error.
     Limits,
     Stations,
     Blocks,
@@ -187,7 +188,8 @@ fn check_answer(
     Ok(())
 }
 
-/// Each number as its file has it; a filling on the straight line between two rows, each figure rounded down.
+/// Each number as its file has it; a filling on the straight line between two rows, each figure
+/// rounded down.
 static UNLIKE: [(Asked, &str); 23] = [
     (
         Asked::Limits,
@@ -220,7 +222,8 @@ Frame { x: Mm { mm: 51009 }, shear_max: 24024, hog_max: 25025025, sag_max: 26026
     (
         Asked::Levers,
         "[1000051, 2000052] Some([100, 150]) Some([200, 250]) Some([300, 350]) Some([400, 450]) \
-Some([500, 550]) Some([600, 650]) Some([700, 750]) Some([800, 850]) Some([900, 950]) Some([1000, 1050]) \
+Some([500, 550]) Some([600, 650]) Some([700, 750]) Some([800, 850]) Some([900, 950]) \
+Some([1000, 1050]) \
 Some([1100, 1150]) Some([1200, 1250]) Some([1300, 1350]) None",
     ),
     (

@@ -1,5 +1,5 @@
-//! The loads of the box ship, empty and with a container of 20,500 kg. One millimetre of draught is 200 cm2 of each section, and 512.5 kg of an
-//! interval of 25 m.
+//! The loads of the box ship, empty and with a container of 20,500 kg. One millimetre of draught is
+//! 200 cm2 of each section, and 512.5 kg of an interval of 25 m.
 use super::cargo::{Container, floating, loaded};
 use crate::checks::same;
 use box_ship::{Check, on_box_ship};
@@ -26,10 +26,11 @@ static EMPTY: Condition = Condition {
     closing: 0,
 };
 
-/// She floats at 4,010 mm everywhere, 10 * 512.5 = 5,125 kg more in each interval, centred 12,500 mm aft of its fore end: 5,125 * 12,500 =
-/// 64,062,500. Aft of the frame at 50,000 are half of the container, 10,250 kg, and its moment 10,250 * 3,029 / 2 = 15,523,625, less
-/// 10,250 * 25,000 = 256,250,000 of buoyancy; aft of that at 75,000 are 20,500 * 25,000 = 512,500,000, less 15,375 * 37,500 = 576,562,500;
-/// aft of that at 100,000 20,500 * 50,000, less the same.
+/// She floats at 4,010 mm everywhere, 10 * 512.5 = 5,125 kg more in each interval, centred 12,500
+/// mm aft of its fore end: 5,125 * 12,500 = 64,062,500. Aft of the frame at 50,000 are half of the
+/// container, 10,250 kg, and its moment 10,250 * 3,029 / 2 = 15,523,625, less 10,250 * 25,000 =
+/// 256,250,000 of buoyancy; aft of that at 75,000 are 20,500 * 25,000 = 512,500,000, less 15,375 *
+/// 37,500 = 576,562,500; aft of that at 100,000 20,500 * 50,000, less the same.
 static AMIDSHIPS: Condition = Condition {
     container: Container {
         kg: 20_500,
@@ -40,11 +41,13 @@ static AMIDSHIPS: Condition = Condition {
     closing: 0,
 };
 
-/// The trim is 20,500 * 25,000 / 17,000,000 = 30.1 mm by the stern, so the draughts at the stations are 4,025, 4,017, 4,010, 4,002 and 3,994
-/// mm, rounded down, and the buoyancies of the intervals 2,060,762.5, 2,056,918.75, 2,053,075 and 2,048,975 kg, 8,219,731.25 in all. The
-/// weights aft of the frames are 0, 2,050,000 + 10,250, 4,120,500, 6,170,500 and 8,220,500 kg; their moments about the frames are 0,
-/// 2,050,000 * 12,500 + 15,523,625 = 25,640,523,625, 103,012,500,000, 231,650,000,000 and 411,537,500,000 kg mm, and those of the buoyancy,
-/// rounded down, 0, 25,768,072,916, 103,006,093,750, 231,620,104,166 and 411,509,739,583.
+/// The trim is 20,500 * 25,000 / 17,000,000 = 30.1 mm by the stern, so the draughts at the stations
+/// are 4,025, 4,017, 4,010, 4,002 and 3,994 mm, rounded down, and the buoyancies of the intervals
+/// 2,060,762.5, 2,056,918.75, 2,053,075 and 2,048,975 kg, 8,219,731.25 in all. The weights aft of
+/// the frames are 0, 2,050,000 + 10,250, 4,120,500, 6,170,500 and 8,220,500 kg; their moments about
+/// the frames are 0, 2,050,000 * 12,500 + 15,523,625 = 25,640,523,625, 103,012,500,000,
+/// 231,650,000,000 and 411,537,500,000 kg mm, and those of the buoyancy, rounded down, 0,
+/// 25,768,072,916, 103,006,093,750, 231,620,104,166 and 411,509,739,583.
 static AFT: Condition = Condition {
     container: Container {
         kg: 20_500,

@@ -1,6 +1,6 @@
 use Rattle.std.proofs.Common.{◌∙◌, List, ap, sym}
 use Rattle.units_core.specs.Interpolation.{at}
-use Rattle.ship_profile.specs.declared.frames.Frame.{Frame}
+use Rattle.units_core.specs.declared.frames.Frame.{Frame}
 use Rattle.righting.specs.Levers.{simpson}
 use Rattle.criteria.specs.declared.criterion.Criterion.{Criterion}
 use Rattle.criteria.specs.Criteria.{bending_holds, every, holds, shear_holds}

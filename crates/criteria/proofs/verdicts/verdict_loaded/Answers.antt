@@ -1,7 +1,7 @@
 use Rattle.std.proofs.Common.{◌∙◌, List, length, Option, ap, subst, sym}
 use Rattle.units_core.specs.Interpolation.{at}
 use Rattle.units_core.specs.Ratio.{Ratio}
-use Rattle.ship_profile.specs.declared.frames.Frame.{Frame}
+use Rattle.units_core.specs.declared.frames.Frame.{Frame}
 use Rattle.hydrostat.specs.Floating.{load, water}
 use Rattle.strength.specs.Loads.{AreLoadsAt}
 use Rattle.criteria.specs.Assessment.{assessed, with_least}

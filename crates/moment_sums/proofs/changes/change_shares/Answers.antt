@@ -1,7 +1,7 @@
 use Rattle.std.proofs.Common.{rules, ◌≡◌, ◌^◌, ◌*◌, ◌<◌, ◌+ℤ◌, ◌∙◌, ℕ, length, arith, ap, sym, slice_get, Option, length-set, ℤ, pos, refl, FitsSigned}
 use Rattle.std.specs.Int.{w64, w128}
 use Rattle.std.proofs.lemmas.Option.{slice_get-get_or}
-use Rattle.ship_profile.specs.declared.frames.Frame.{Frame}
+use Rattle.units_core.specs.declared.frames.Frame.{Frame}
 use Rattle.units_core.specs.Interpolation.{at}
 use Rattle.units_core.proofs.Signed.{fits_within}
 use Rattle.moment_sums.specs.Changes.{signed}

@@ -1,14 +1,14 @@
 use Rattle.std.proofs.Common.{◌≡◌, ◌∙◌, ◌-◌, suc, length, map, ap, arith}
 use Rattle.std.specs.List.{range_with_len}
 use Rattle.moment_sums.specs.Kept.{size_of}
-use Rattle.seq_report.specs.Cases.{line_in, seen}
+use Rattle.seq_report.specs.Cases.{line_in, case_in_view}
 use Rattle.seq_report.specs.Report.{first_of}
 use Rattle.seq_report.proofs.SumLemmas.{room_behind}
 use Rattle.seq_report.proofs.failures.first_of_case.Goals as goal
 
 pub first_failing-requires-clause-chunk : goal.first_failing-requires-clause-chunk
 first_failing-requires-clause-chunk c =
-    let case = seen c.args.case in
+    let case = case_in_view c.args.case in
     let ready = c.requires.ready in
     record {
       some = omega (arith, c.lines.ensures);
@@ -20,4 +20,4 @@ first_failing-requires-clause-chunk c =
 pub returns : goal.returns
 returns c =
     let all : c.lines.result - 0 ≡ suc (length c.args.case.sequence.now.ops) = omega (arith, c.lines.ensures) in
-    c.first_failing.ensures ∙ ap (λ n. first_of (map (line_in (seen c.args.case)) (range_with_len 0 n))) all
+    c.first_failing.ensures ∙ ap (λ n. first_of (map (line_in (case_in_view c.args.case)) (range_with_len 0 n))) all

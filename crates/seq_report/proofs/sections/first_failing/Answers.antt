@@ -3,7 +3,7 @@ use Rattle.std.specs.List.{range_with_len}
 use Rattle.std.specs.Option.{option_or}
 use Rattle.moment_sums.specs.Bounded.{IsBounded}
 use Rattle.moment_sums.specs.Kept.{values}
-use Rattle.seq_report.specs.Cases.{line_in, seen}
+use Rattle.seq_report.specs.Cases.{line_in, case_in_view}
 use Rattle.seq_report.specs.Chunks.{change_behind}
 use Rattle.seq_report.specs.Report.{first_of}
 use Rattle.seq_report.proofs.ChunkLemmas.{first_here, or_other, or_some}
@@ -12,19 +12,19 @@ use Rattle.seq_report.proofs.sections.first_failing.Goals as goal
 
 pub judge-requires-clause-bounded : goal.judge-requires-clause-bounded
 judge-requires-clause-bounded c =
-    let case = seen c.args.case in
+    let case = case_in_view c.args.case in
     let ready = c.requires.ready in
     let k = c.loop-k.k in
     subst IsBounded (sym (c.loop-k.invariant.sum ∙ sum_here case ready k)) (ready.bounded k)
 
 pub pass_line-requires-clause-room : goal.pass_line-requires-clause-room
 pass_line-requires-clause-room c =
-    let split = parts_split (seen c.args.case).sequence.steps c.loop-k.k in
+    let split = parts_split (case_in_view c.args.case).sequence.steps c.loop-k.k in
     omega (arith, split, c.loop-k.invariant.size)
 
 pub returns-then-is_some : goal.returns-then-is_some
 returns-then-is_some c =
-    let case = seen c.args.case in
+    let case = case_in_view c.args.case in
     let k = c.loop-k.k in
     let e = c.args.chunk.now.end in
     let told = line_told case c.requires.ready k (values c.loop-k.sum) _ _ c.loop-k.invariant.sum c.judge.ensures c.failure-failure.ensures in
@@ -34,7 +34,7 @@ returns-then-is_some c =
 
 pub loop-k-preserved : goal.loop-k-preserved
 loop-k-preserved c =
-    let case = seen c.args.case in
+    let case = case_in_view c.args.case in
     let ready = c.requires.ready in
     let k = c.loop-k.k in
     let e = c.args.chunk.now.end in

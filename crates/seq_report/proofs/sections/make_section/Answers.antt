@@ -4,28 +4,28 @@ use Rattle.std.specs.Option.{option_or}
 use Rattle.std.proofs.lemmas.List.FromFn.{map-range_with_len_more}
 use Rattle.moment_sums.specs.Bounded.{IsBounded}
 use Rattle.moment_sums.specs.Kept.{values}
-use Rattle.seq_report.specs.Cases.{line_in, seen}
+use Rattle.seq_report.specs.Cases.{line_in, case_in_view}
 use Rattle.seq_report.specs.Chunks.{Part, change_behind, part_of}
-use Rattle.seq_report.specs.Report.{Line, Said, failure_of, lift_to, line_of, step_line, text_of}
+use Rattle.seq_report.specs.Report.{Line, Statement, failure_of, lift_to, line_of, step_line, text_of}
 use Rattle.seq_report.proofs.ChunkLemmas.{part_more}
 use Rattle.seq_report.proofs.SumLemmas.{line_here, next_size, next_sum, parts_split, sum_here}
 use Rattle.seq_report.proofs.sections.make_section.Goals as goal
 
 pub judge-requires-clause-bounded : goal.judge-requires-clause-bounded
 judge-requires-clause-bounded c =
-    let case = seen c.args.case in
+    let case = case_in_view c.args.case in
     let ready = c.requires.ready in
     let k = c.loop-k.k in
     subst IsBounded (sym (c.loop-k.invariant.sum ∙ sum_here case ready k)) (ready.bounded k)
 
 pub pass_line-requires-clause-room : goal.pass_line-requires-clause-room
 pass_line-requires-clause-room c =
-    let split = parts_split (seen c.args.case).sequence.steps c.loop-k.k in
+    let split = parts_split (case_in_view c.args.case).sequence.steps c.loop-k.k in
     omega (arith, split, c.loop-k.invariant.size)
 
 pub loop-k-preserved : goal.loop-k-preserved
 loop-k-preserved c =
-    let case = seen c.args.case in
+    let case = case_in_view c.args.case in
     let ready = c.requires.ready in
     let ops = case.sequence.ops in
     let k = c.loop-k.k in
@@ -35,7 +35,7 @@ loop-k-preserved c =
     let lines = map (line_in case) (range_with_len start n) in
     let here : start + n ≡ k = omega arith in
     let more : n + 1 ≡ k + 1 - start = omega arith in
-    let s : Said = step_line case.profile k (values c.loop-k.sum) in
+    let s : Statement = step_line case.profile k (values c.loop-k.sum) in
     let line : Line = record { lift = lift_to ops k; step = s } in
     record {
       lines = c.in_ok-add.ensures

@@ -2,7 +2,7 @@ use Rattle.std.proofs.Common.{◌≡◌, ◌∙◌, ℕ, ℤ, Bool, true, false,
 use Rattle.std.specs.List.{range_with_len}
 use Rattle.units_core.specs.Interpolation.{at}
 use Rattle.ship_profile.specs.Ship.{ShipRecord}
-use Rattle.ship_profile.specs.declared.frames.Frame.{Frame}
+use Rattle.units_core.specs.declared.frames.Frame.{Frame}
 use Rattle.moment_sums.specs.Kept.{values}
 use Rattle.moment_sums.specs.Sum.{Sum}
 use Rattle.hydrostat.specs.Floating.{load, water}

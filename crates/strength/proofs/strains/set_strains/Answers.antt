@@ -5,7 +5,7 @@ use Rattle.std.proofs.lemmas.Option.{slice_get-get_or, slice_get_past}
 use Rattle.units_core.specs.Interpolation.{at}
 use Rattle.units_core.specs.Ratio.{floor_of}
 use Rattle.units_core.proofs.Signed.{signed_arith, one_part}
-use Rattle.ship_profile.specs.declared.frames.Frame.{Frame}
+use Rattle.units_core.specs.declared.frames.Frame.{Frame}
 use Rattle.moment_sums.specs.Kept.{values}
 use Rattle.moment_sums.specs.Sum.{Weight}
 use Rattle.moment_sums.proofs.Bounds.{set_done, set_rest}

@@ -1,11 +1,11 @@
 use Rattle.std.proofs.Common.{◌∙◌, ap, sym, arith}
-use Rattle.seq_report.specs.Cases.{seen, sum_in}
+use Rattle.seq_report.specs.Cases.{case_in_view, sum_in}
 use Rattle.seq_report.specs.Chunks.{parts_behind}
 use Rattle.seq_report.proofs.jobs.Lines.chunk.Goals as goal
 
 pub returns-clause-chunk : goal.returns-clause-chunk
 returns-clause-chunk c =
-    let case = seen c.args.self.now.case in
+    let case = case_in_view c.args.self.now.case in
     let sums = c.args.self.now.sum in
     let start = c.lines_of-lines.ensures.start in
     let at = c.index-self-k.result in
