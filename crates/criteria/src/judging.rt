@@ -28,10 +28,10 @@ use strength::{Hull, Walk, closes, strains_into};
 /// step, is looked for there first; the answer doesn't depend on it.
 #[derive(Clone, Copy, Default)]
 pub struct Nearby {
-    hydro: usize,
-    levers: usize,
-    walk: Walk,
-    least_gm: usize,
+    pub(crate) hydro: usize,
+    pub(crate) levers: usize,
+    pub(crate) walk: Walk,
+    pub(crate) least_gm: usize,
 }
 
 /// How the ship is judged, once the loads are known and in the figures.

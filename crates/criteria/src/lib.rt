@@ -5,6 +5,7 @@
 
 mod criterion;
 mod decisions;
+mod failing;
 mod figures;
 mod frames;
 mod holding;
@@ -19,6 +20,7 @@ mod rounding;
 mod verdicts;
 
 pub use criterion::Criterion;
+pub use failing::first_failed;
 pub use figures::Figures;
 pub use judging::{Nearby, judge_into};
 pub use laws::judges_in_order;

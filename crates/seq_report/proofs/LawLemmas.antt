@@ -1,6 +1,6 @@
 -- The sum at each step is a fold of what is aboard on arrival and of what the steps change.
-use Rattle.std.proofs.Common.{◌≡◌, ◌∙◌, ℕ, zero, suc, ◌+◌, ◌-◌, ◌≤◌, List, [], ◌∷◌, length, map, take, slice_get, ℤ, pos, ◌+ℤ◌, refl, sym, ap, arith}
-use Rattle.std.specs.List.{fold, range_with_len}
+use Rattle.std.proofs.Common.{◌≡◌, ◌∙◌, ℕ, zero, suc, ◌+◌, ◌≤◌, List, [], ◌∷◌, length, map, take, slice_get, ℤ, pos, ◌+ℤ◌, refl, sym, ap, arith}
+use Rattle.std.specs.List.{fold}
 use Rattle.std.proofs.lemmas.Int.{ints}
 use Rattle.std.proofs.lemmas.Option.{slice_get_past}
 use Rattle.units_core.specs.Bodies.{Mass}
@@ -14,9 +14,8 @@ use Rattle.moment_sums.specs.Kept.{Kept, both_kept, none_kept, values}
 use Rattle.moment_sums.proofs.Bounds.{values_both, values_nothing}
 use Rattle.moment_sums.proofs.KeptLemmas.{kept_values}
 use Rattle.seq_report.specs.declared.cases.Case.{Case}
-use Rattle.seq_report.specs.Cases.{IsReady, aboard_first}
+use Rattle.seq_report.specs.Cases.{IsReady}
 use Rattle.seq_report.specs.Laws.{OffsetsAreSums, SumsAreFolds, arrival_fold, body_kept, step_kept, steps_prefix}
-use Rattle.seq_report.specs.Report.{sum_at}
 use Rattle.seq_report.proofs.OffsetLemmas.{offset_sum}
 use Rattle.seq_report.proofs.SumLemmas.{at_none, change_values, joined_assoc, joined_nothing, sum_here}
 

@@ -8,6 +8,7 @@ mod causes;
 mod chunks;
 mod columns;
 mod complete;
+mod deciding;
 mod failures;
 mod jobs;
 mod laws;

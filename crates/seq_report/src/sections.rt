@@ -7,6 +7,7 @@ ghost use Rattle.seq_report.specs.Report.{failure_of, first_of, line_of, stateme
 
 use crate::cases::CaseView;
 use crate::chunks::pass_line;
+use crate::deciding::failure_at;
 use crate::lines::write_line;
 use crate::step_lines::StepLine;
 use criteria::{Criterion, Nearby};
@@ -16,7 +17,7 @@ use moment_sums::Totals;
 use ship_profile::Profile;
 use std::alloc::{AllocError, Global};
 use std::marker::Model;
-use strength::Hull;
+use strength::{Hull, Strains};
 
 /// The text of some lines, and the first of them that fails, with its first criterion.
 #[derive(Debug, Drop)]
@@ -132,10 +133,9 @@ pub fn first_failing(case: CaseView<'_>, hull: &Hull, chunk: &Chunk) -> Option<(
 {
     let mut sum = chunk.first;
     let mut near = Nearby::default();
-    let mut line = StepLine::new();
+    let mut strains = Strains::default();
     for k in chunk.start..chunk.end {
-        line.judge(case.profile, hull, k, &sum, &mut near);
-        let failure = line.failure();
+        let failure = failure_at(case.profile, hull, k, &sum, &mut near, &mut strains);
         if failure.is_some() {
             return failure;
         }

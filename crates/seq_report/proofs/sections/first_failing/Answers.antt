@@ -1,17 +1,17 @@
-use Rattle.std.proofs.Common.{◌∙◌, ◌+◌, ◌-◌, ◌≤◌, map, ap, refl, sym, subst, arith}
+use Rattle.std.proofs.Common.{◌∙◌, ◌+◌, ◌-◌, map, ap, refl, sym, subst, arith}
 use Rattle.std.specs.List.{range_with_len}
 use Rattle.std.specs.Option.{option_or}
 use Rattle.moment_sums.specs.Bounded.{IsBounded}
 use Rattle.moment_sums.specs.Kept.{values}
 use Rattle.seq_report.specs.Cases.{line_in, case_in_view}
 use Rattle.seq_report.specs.Chunks.{change_behind}
-use Rattle.seq_report.specs.Report.{first_of}
+use Rattle.seq_report.specs.Report.{first_of, step_line}
 use Rattle.seq_report.proofs.ChunkLemmas.{first_here, or_other, or_some}
 use Rattle.seq_report.proofs.SumLemmas.{line_told, next_size, next_sum, parts_split, sum_here}
 use Rattle.seq_report.proofs.sections.first_failing.Goals as goal
 
-pub judge-requires-clause-bounded : goal.judge-requires-clause-bounded
-judge-requires-clause-bounded c =
+pub failure_at-failure-requires-clause-bounded : goal.failure_at-failure-requires-clause-bounded
+failure_at-failure-requires-clause-bounded c =
     let case = case_in_view c.args.case in
     let ready = c.requires.ready in
     let k = c.loop-k.k in
@@ -27,10 +27,10 @@ returns-then-is_some c =
     let case = case_in_view c.args.case in
     let k = c.loop-k.k in
     let e = c.args.chunk.now.end in
-    let told = line_told case c.requires.ready k (values c.loop-k.sum) _ _ c.loop-k.invariant.sum c.judge.ensures c.failure-failure.ensures in
+    let told = line_told case c.requires.ready k (values c.loop-k.sum) (step_line case.profile k (values c.loop-k.sum)) c.failure_at-failure.result c.loop-k.invariant.sum refl c.failure_at-failure.ensures in
     sym (c.loop-k.invariant.first ∙ first_here case k e c.loop-k-test.true
     ∙ ap (λ o. option_or o (first_of (map (line_in case) (range_with_len (k + 1) (e - (k + 1)))))) (sym told)
-    ∙ or_some c.failure-failure.result _ (sym c.is_some.ensures ∙ c.if-is_some.true))
+    ∙ or_some c.failure_at-failure.result _ (sym c.is_some.ensures ∙ c.if-is_some.true))
 
 pub loop-k-preserved : goal.loop-k-preserved
 loop-k-preserved c =
@@ -39,11 +39,11 @@ loop-k-preserved c =
     let k = c.loop-k.k in
     let e = c.args.chunk.now.end in
     let inv = c.loop-k.invariant in
-    let told = line_told case ready k (values c.loop-k.sum) _ _ inv.sum c.judge.ensures c.failure-failure.ensures in
+    let told = line_told case ready k (values c.loop-k.sum) (step_line case.profile k (values c.loop-k.sum)) c.failure_at-failure.result inv.sum refl c.failure_at-failure.ensures in
     record {
       first = inv.first ∙ first_here case k e c.loop-k-test.true
           ∙ ap (λ o. option_or o (first_of (map (line_in case) (range_with_len (k + 1) (e - (k + 1)))))) (sym told)
-          ∙ or_other c.failure-failure.result _ (sym c.is_some.ensures ∙ c.if-is_some.false);
+          ∙ or_other c.failure_at-failure.result _ (sym c.is_some.ensures ∙ c.if-is_some.false);
       sum = next_sum case ready k c.loop-k.sum (change_behind case.profile.ship.frames case.sequence.steps k) c.pass_line.new.sum inv.sum refl c.pass_line.ensures;
       size = next_size case ready k c.loop-k.sum (change_behind case.profile.ship.frames case.sequence.steps k) c.pass_line.new.sum inv.size refl c.pass_line.ensures;
     }
