@@ -6,7 +6,7 @@ ghost use Rattle.prefix_scan.specs.Laws.{most_parts};
 
 use crate::monoids::Monoid;
 use crate::prefixes::Prefixes;
-use crate::tree_rows::{join_first, replace, rows_over};
+use crate::tree_rows::{join_first, replace, rows_of, rows_over};
 use std::alloc::{AllocError, Global};
 use std::marker::Model;
 
@@ -53,6 +53,28 @@ impl<M: Monoid + Drop> TotalsTree<M> {
         ensures { IfOk result (λ t. (t.values ≡ values.now) × (t.joins ≡ self.now.joins)) }
     {
         let rows = rows_over(alloc, values)?;
+        Ok(TotalsTree {
+            rows,
+            count: self.count,
+        })
+    }
+
+    /// A tree over the values, as [`TotalsTree::build`] makes it, which keeps them without a copy.
+    pub fn of(alloc: Global, values: Vec<M>) -> Result<TotalsTree<M>, AllocError>
+        requires { sum_by M.weight values.items ≤ most_parts }
+        ensures { IfOk result (λ t. (t.values ≡ values.items) × (t.joins ≡ 0)) }
+    {
+        let rows = rows_of(alloc, values)?;
+        Ok(TotalsTree { rows, count: 0 })
+    }
+
+    /// A tree over other values, as [`TotalsTree::rebuilt`] makes it, which keeps them without a
+    /// copy.
+    pub fn renewed(&self, alloc: Global, values: Vec<M>) -> Result<TotalsTree<M>, AllocError>
+        requires { sum_by M.weight values.items ≤ most_parts }
+        ensures { IfOk result (λ t. (t.values ≡ values.items) × (t.joins ≡ self.now.joins)) }
+    {
+        let rows = rows_of(alloc, values)?;
         Ok(TotalsTree {
             rows,
             count: self.count,

@@ -33,19 +33,29 @@ pub fn copied<M: Monoid + Drop>(alloc: Global, values: &[M]) -> Result<Vec<M>, A
     Ok(copy)
 }
 
-/// All rows over a list, the list itself first. None for the empty list. The joins aren't counted.
-pub fn rows_over<M: Monoid + Drop>(alloc: Global, values: &[M]) -> Result<Vec<Vec<M>>, AllocError>
-    requires { sum_by M.weight values.now ≤ most_parts }
-    ensures { IfOk result (λ v. AreRows M.op v.items × (first_row v.items ≡ values.now)) }
+/// All rows over a list, which is the first of them. None for the empty list. The joins aren't
+/// counted.
+pub fn rows_of<M: Monoid + Drop>(alloc: Global, values: Vec<M>) -> Result<Vec<Vec<M>>, AllocError>
+    requires { sum_by M.weight values.items ≤ most_parts }
+    ensures { IfOk result (λ v. AreRows M.op v.items × (first_row v.items ≡ values.items)) }
 {
     let mut rows = Vec::new(alloc);
-    let mut row = copied(alloc, values)?;
+    let mut row = values;
     'up: while !row.is_empty() {
         let next = row_above(alloc, &row)?;
         rows.push(row)?;
         row = next;
     }
     Ok(rows)
+}
+
+/// All rows over a copy of a list, as [`rows_of`] gives them.
+pub fn rows_over<M: Monoid + Drop>(alloc: Global, values: &[M]) -> Result<Vec<Vec<M>>, AllocError>
+    requires { sum_by M.weight values.now ≤ most_parts }
+    ensures { IfOk result (λ v. AreRows M.op v.items × (first_row v.items ≡ values.now)) }
+{
+    let copy = copied(alloc, values)?;
+    rows_of(alloc, copy)
 }
 
 /// The first `i` values of the list joined in their order, with at most one join for each row:

@@ -45,5 +45,5 @@ pub fn tree_over(
         (λ t. (t.values ≡ changes_on base.now sequence.now.ops) × (t.joins ≡ 0)) }
 {
     let values = changes_of(alloc, base, sequence)?;
-    TotalsTree::build(alloc, &values)
+    TotalsTree::of(alloc, values)
 }

@@ -133,7 +133,7 @@ impl SummedList {
         let Ok(changes) = changes_of(self.alloc, &self.base, &sequence) else {
             return Err(EditFault::NoMemory);
         };
-        match self.tree.rebuilt(self.alloc, &changes) {
+        match self.tree.renewed(self.alloc, changes) {
             Ok(tree) => Ok((sequence, tree)),
             Err(_) => Err(EditFault::NoMemory),
         }

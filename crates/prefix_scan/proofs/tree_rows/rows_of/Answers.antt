@@ -6,26 +6,26 @@ use Rattle.prefix_scan.specs.Rows.{paired, lifted, row_at, first_row}
 use Rattle.prefix_scan.proofs.PairLemmas.{lifted-weight, length-paired}
 use Rattle.prefix_scan.proofs.RowLemmas.{row_at-more, row_at-before, first_is}
 use Rattle.prefix_scan.proofs.HeightLemmas.{grow_tall, grow_low}
-use Rattle.prefix_scan.proofs.tree_rows.rows_over.Goals as goal
+use Rattle.prefix_scan.proofs.tree_rows.rows_of.Goals as goal
 
 pub up-init : goal.up-init
 up-init g c =
     let none : length c.new-rows.result.items ≡ 0 = ap length c.new-rows.ensures.items in
     let m = g.M.Monoid in
-    let n = length c.args.values.now in
+    let n = length c.args.values.items in
     let one : 2 ^ length c.new-rows.result.items ≡ 1 = ap (λ k. 2 ^ k) none in
     record {
       each = λ k low. absurd (omega arith);
-      next = c.in_ok-row.ensures ∙ sym (ap (λ k. lifted m.op k c.args.values.now) none);
+      next = sym (ap (λ k. lifted m.op k c.args.values.items) none);
       tall = omega arith;
-      low = omega (arith, ap (λ k. k * length c.in_ok-row.row.items) one, ap length c.in_ok-row.ensures);
+      low = omega (arith, ap (λ k. k * length c.args.values.items) one);
     }
 
 pub row_above-requires : goal.row_above-requires
 row_above-requires g c =
     let m = g.M.Monoid in
     let is = c.deref.ensures.value ∙ c.up.invariant.next in
-    omega (arith, lifted-weight g.met.M.Monoid.laws (length c.up.rows.items) c.args.values.now c.requires, ap (sum_by m.weight) is)
+    omega (arith, lifted-weight g.met.M.Monoid.laws (length c.up.rows.items) c.args.values.items c.requires, ap (sum_by m.weight) is)
 
 pub up-smaller : goal.up-smaller
 up-smaller g c =
@@ -37,7 +37,7 @@ up-smaller g c =
 pub up-preserved : goal.up-preserved
 up-preserved g c =
     let m = g.M.Monoid in
-    let xs = c.args.values.now in
+    let xs = c.args.values.items in
     let row = c.up.row in
     let rows = c.up.rows.items in
     let n = length rows in
@@ -61,7 +61,7 @@ up-preserved g c =
 pub returns : goal.returns
 returns g c =
     let m = g.M.Monoid in
-    let xs = c.args.values.now in
+    let xs = c.args.values.items in
     let row = c.up.row in
     let rows = c.up.rows.items in
     let inv = c.up.invariant in
