@@ -4,14 +4,15 @@ use super::masses::{BLOCK, Mass, sum_of};
 use crate::checks::same;
 use box_ship::{Check, on_box_ship};
 use criteria::{
-    Criterion, Figures, Nearby, RoundedFigures, Verdict, judge, judge_into, judges_in_order,
+    Criterion, Figures, Nearby, RoundedFigures, Verdict, first_failed, judge, judge_into,
+    judges_in_order,
 };
 use hydrostat::Outside;
 use righting::{Levers, area_over_pairs, best_from_30, greatest_number};
 use ship_profile::Profile;
 use std::process::Abort;
 use std::test::Fail;
-use strength::Hull;
+use strength::{Hull, Strains};
 use units_core::{Frac, floor};
 
 /// What is said of a condition: the table outside of which it lies; or the metacentric height and
@@ -104,6 +105,16 @@ fn numbers(figures: &RoundedFigures) -> ([i128; 11], Option<i128>) {
     (numbers, figures.list)
 }
 
+impl Said {
+    /// The first criterion that fails, which is C0 outside of the tables.
+    fn first_failed(self) -> Option<Criterion> {
+        match self {
+            Said::Lies(_) => Some(Criterion::C0),
+            Said::Figures(_, criterion) => criterion,
+        }
+    }
+}
+
 /// Masses aboard, and what is said of them.
 struct Row {
     masses: &'static [Mass],
@@ -146,7 +157,7 @@ fn same_verdict(
 }
 
 /// Compares the verdict on a row alone with what it says, and with what is found of it behind the
-/// rows before it.
+/// rows before it, with its figures and without.
 fn check_row(
     rt: &impl Abort,
     profile: &Profile,
@@ -161,7 +172,10 @@ fn check_row(
     same(rt, told(&verdict)?, row.said);
     let mut figures = RoundedFigures::default();
     let found = judge_into(profile, hull, &sum, near, &mut figures);
-    same_verdict(rt, &verdict, found, &figures)
+    same_verdict(rt, &verdict, found, &figures)?;
+    let failed = first_failed(profile, hull, &sum, near, &mut Strains::default());
+    same(rt, failed, row.said.first_failed());
+    Ok(())
 }
 
 impl<R: Abort + AllocGlobal> Check<R> for Rows {

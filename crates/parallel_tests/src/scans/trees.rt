@@ -179,3 +179,19 @@ fn a_tree_rebuilt(rt: HostRuntime) -> Result<(), Fail> {
     same(&rt, tree.peek(4), joined(Some(3), 4));
     Ok(())
 }
+
+// The same values, handed over: the prefixes are those of a tree that copies them.
+#[test]
+fn a_tree_of_its_values(rt: HostRuntime) -> Result<(), Fail> {
+    let values = VALUES.to_vec(rt.alloc())?;
+    let mut tree = TotalsTree::of(rt.alloc(), values)?;
+    tree.set(0, FIVE);
+    same(&rt, tree.joins(), 1);
+    let longer = [FIVE, VALUES[0], VALUES[1], VALUES[2]].to_vec(rt.alloc())?;
+    let tree = tree.renewed(rt.alloc(), longer)?;
+    same(&rt, tree.len(), 4);
+    same(&rt, tree.joins(), 1);
+    same(&rt, tree.peek(3), joined(Some(1), 3));
+    same(&rt, tree.peek(4), joined(Some(3), 4));
+    Ok(())
+}
