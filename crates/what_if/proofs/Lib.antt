@@ -1,4 +1,5 @@
 mod ChangeLemmas
+mod MoveLemmas
 mod PastLemmas
 mod RenewLemmas
 mod SwapLemmas
