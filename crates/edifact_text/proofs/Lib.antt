@@ -19,3 +19,5 @@ pub mod FarLemmas
 pub mod VectorLemmas
 pub mod RawLemmas
 pub mod TagLemmas
+pub mod FitLemmas
+pub mod OrdinaryLemmas

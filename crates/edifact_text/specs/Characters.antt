@@ -1,7 +1,7 @@
 -- The characters with a meaning of their own: the service characters, which an interchange may set,
 -- and the blanks.
 use Rattle.std.specs.Prelude.{ℕ, Option, Some, None, Bool, false, nat_le, nat_eq, ◌==◌, ◌&&◌, ◌||◌}
-use Rattle.std.specs.Prelude.{if◌then◌else◌}
+use Rattle.std.specs.Prelude.{if◌then◌else◌, not}
 use Rattle.edifact_text.specs.declared.service.Service.{Service}
 
 -- Carriage return, line feed, tab and space.
@@ -43,3 +43,7 @@ is_bad_service sv =
     is_unfit sv.component || is_unfit sv.element || is_unfit sv.terminator
     || sv.component == sv.element || sv.component == sv.terminator || sv.element == sv.terminator
     || is_bad_release sv sv.release
+
+-- The characters can serve.
+unfoldable pub serves : Service → Bool
+serves sv = not (is_bad_service sv)

@@ -1,7 +1,7 @@
 -- Bookkeeping: the reading stage by stage, as the functions of this crate share it out.
 use Rattle.std.specs.Prelude.{◌≡◌, ℕ, ◌+◌, ◌-◌, List, [], ◌∷◌, length, take, map, Result}
-use Rattle.std.specs.Prelude.{Ok, Err, Bool, nat_lt, ◌&&◌, ◌||◌, not, if◌then◌else◌, codes, ⊤}
-use Rattle.std.specs.Prelude.{slice_index_or}
+use Rattle.std.specs.Prelude.{Ok, Err, Bool, false, nat_lt, ◌&&◌, ◌||◌, not, if◌then◌else◌, codes}
+use Rattle.std.specs.Prelude.{⊤, slice_index_or}
 use Rattle.std.specs.List.{list_any}
 use Rattle.edifact_text.specs.declared.faults.EdiFault.{EdiFault}
 use Rattle.edifact_text.specs.declared.faults.EdiCode.TheVariants.{Truncated, NoUnb, Groups, NoUnh}
@@ -49,6 +49,11 @@ abbrev pub whole : Service → Stretch → Result ⊤ EdiFault
 whole sv s = do
   _ ← row (is_text (part sv s.bytes 0 0) []) EmptySegment s.place
   row (is_too_large sv s.bytes) TooManyElements s.place
+
+-- It has none of the faults of any segment, and is no trailer.
+abbrev pub IsOrdinary : Service → Stretch → Type 0
+IsOrdinary sv s = (whole sv s ≡ Ok tt) × (has_tag sv s (codes "UNT") ≡ false)
+    × (has_tag sv s (codes "UNZ") ≡ false)
 
 -- The next segment, and what is behind it. The last piece has no terminator.
 abbrev pub next_of : Service → ℕ → List Stretch → Result (Stretch × List Stretch) EdiFault

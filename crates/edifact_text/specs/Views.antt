@@ -1,6 +1,6 @@
 -- Bookkeeping: the code's values, as contracts see them.
 use Rattle.std.specs.Prelude.{ℕ, ◌-◌, List, [], ◌∷◌, length, take, Option, Some, None, Bool, false}
-use Rattle.std.specs.Prelude.{◌==◌, ◌||◌, slice_index_or}
+use Rattle.std.specs.Prelude.{◌==◌, ◌||◌, ◌&&◌, nat_le, slice_index_or}
 use Rattle.edifact_text.specs.declared.raw.Raw.{Raw}
 use Rattle.edifact_text.specs.declared.segment_text.SegmentText.{SegmentText}
 use Rattle.edifact_text.specs.declared.cursor.Cursor.{Cursor}
@@ -39,6 +39,10 @@ stretch_of text = record { place = text.place; bytes = text.bytes.now }
 abbrev pub ahead : Cursor → List Stretch
 ahead c = stretches (c.len - length c.rest.now)
     (pieces c.service.release c.service.terminator c.rest.now)
+
+-- The byte is a capital letter: no interchange has one as a service character.
+abbrev pub is_capital : ℕ → Bool
+is_capital b = nat_le 65 b && nat_le b 90
 
 -- The letters of a tag.
 abbrev pub letters_of : Tag → List ℕ

@@ -1,6 +1,6 @@
-ghost use Rattle.std.specs.Prelude.{◌≡◌, ◌≤◌, length, IfOk};
+ghost use Rattle.std.specs.Prelude.{◌≡◌, ◌≤◌, length, IfOk, true};
 ghost use Rattle.edifact_text.specs.Characters.{is_plain, is_unfit, release_of, is_bad_release};
-ghost use Rattle.edifact_text.specs.Characters.{is_bad_service, default_service};
+ghost use Rattle.edifact_text.specs.Characters.{is_bad_service, default_service, serves};
 ghost use Rattle.edifact_text.specs.Reading.{start_of, advised, Start, unadvised};
 ghost use Rattle.edifact_text.specs.Stages.{Gives};
 
@@ -54,8 +54,10 @@ fn is_bad_service(service: Service) -> bool
 }
 
 /// What UNA sets, from the bytes behind its three letters, and the bytes behind it.
+#[tactic(auto, unfolding(crate::specs::Characters::serves))]
 fn advised(len: usize, place: usize, bytes: &[u8]) -> Result<(Service, &[u8]), EdiFault>
     ensures less { IfOk result (λ p. length p.1.now ≤ length bytes.now) }
+    ensures fit { IfOk result (λ p. serves p.0 ≡ true) }
     ensures value { Gives (λ p. record { service = p.0; bytes = p.1.now }) result
         (advised len place bytes.now) }
 {
@@ -85,8 +87,10 @@ fn advised(len: usize, place: usize, bytes: &[u8]) -> Result<(Service, &[u8]), E
 }
 
 /// The service characters, by UNA where the bytes begin with it, and the bytes of the segments.
+#[tactic(auto, unfolding(crate::specs::Characters::serves))]
 pub(crate) fn start_of(len: usize, place: usize, bytes: &[u8]) -> Result<(Service, &[u8]), EdiFault>
     ensures less { IfOk result (λ p. length p.1.now ≤ length bytes.now) }
+    ensures fit { IfOk result (λ p. serves p.0 ≡ true) }
     ensures value { Gives (λ p. record { service = p.0; bytes = p.1.now }) result
         (start_of len place bytes.now) }
 {

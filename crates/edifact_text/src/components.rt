@@ -1,10 +1,11 @@
 //! The components of a segment, found where they are asked for.
 ghost use Rattle.std.specs.Prelude.{◌≡◌, ◌∷◌, [], IfSome, drop, slice_index_or, take, true};
+ghost use Rattle.edifact_text.specs.Characters.{serves};
 ghost use Rattle.edifact_text.specs.Pieces.{literal, pieces};
 ghost use Rattle.edifact_text.specs.Reading.{segment_of};
 ghost use Rattle.edifact_text.specs.Spelling.{is_service};
 ghost use Rattle.edifact_text.specs.Stages.{part};
-ghost use Rattle.edifact_text.specs.Views.{letters_of, meaning_of};
+ghost use Rattle.edifact_text.specs.Views.{is_capital, letters_of, meaning_of};
 
 use crate::pieces::{cut, from_piece, is_release};
 use crate::raw::Raw;
@@ -49,9 +50,33 @@ pub(crate) fn plain_tag(bytes: &[u8], service: Service) -> Option<Tag>
     }
 }
 
-/// It was seen that the segment begins with such a tag.
+/// The byte is a capital letter, as the bytes of tags are.
+#[inline(always)]
+pub(crate) fn is_capital(byte: u8) -> bool
+    ensures { result ≡ is_capital byte }
+{
+    byte.is_ascii_uppercase()
+}
+
+/// It was seen that the segment begins with three ordinary bytes and an element separator. Capital
+/// letters are ordinary whatever the service characters are.
 #[inline(always)]
 pub(crate) fn is_plain(bytes: &[u8], service: Service) -> bool
+    requires { serves service ≡ true }
+    ensures { result ≡ true → segment_of service bytes.now
+        ≡ (take 3 bytes.now ∷ []) ∷ segment_of service (drop 4 bytes.now) }
+{
+    match bytes {
+        [a, b, c, d, ..] if is_capital(*a) && is_capital(*b) && is_capital(*c) => {
+            *d == service.element
+        }
+        _ => is_seen_plain(bytes, service),
+    }
+}
+
+/// It was seen that the segment begins so, by a test of each byte.
+#[inline(never)]
+fn is_seen_plain(bytes: &[u8], service: Service) -> bool
     ensures { result ≡ true → segment_of service bytes.now
         ≡ (take 3 bytes.now ∷ []) ∷ segment_of service (drop 4 bytes.now) }
 {

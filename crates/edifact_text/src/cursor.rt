@@ -1,9 +1,10 @@
 //! Going through the text, a segment at a time.
 ghost use Rattle.std.specs.Prelude.{◌≡◌, ◌<◌, ◌≤◌, length, MatchResult, MatchOption, IfOk, IfSome};
-ghost use Rattle.std.specs.Prelude.{[], ◌∷◌};
+ghost use Rattle.std.specs.Prelude.{[], ◌∷◌, true};
+ghost use Rattle.edifact_text.specs.Characters.{serves};
 
 use crate::faults::{EdiCode, EdiFault};
-use crate::pieces::{far_cut, skip_blanks};
+use crate::pieces::{far_cut, near_cut, skip_blanks};
 use crate::segment_text::SegmentText;
 use crate::service::Service;
 
@@ -15,6 +16,7 @@ pub(crate) struct Cursor<'a> {
     pub(crate) rest: &'a [u8],
     pub(crate) service: Service,
     ghost within: { length rest.now ≤ len },
+    ghost fit: { serves service ≡ true },
 }
 
 impl<'a> Cursor<'a> {
@@ -23,6 +25,7 @@ impl<'a> Cursor<'a> {
 
     /// The text before the next terminator, and the text behind it; without one, all that is left.
     #[inline(always)]
+    #[tactic(auto, using(crate::proofs::FitLemmas::ends_apart))]
     pub(crate) fn take(self) -> (SegmentText<'a>, Option<Cursor<'a>>)
         ensures first { MatchOption result.1 (ahead self.entry ≡ stretch_of result.0 ∷ [])
             (λ rest. (ahead self.entry ≡ stretch_of result.0 ∷ ahead rest)
@@ -52,6 +55,36 @@ impl<'a> Cursor<'a> {
             ),
             None => (text, None),
         }
+    }
+
+    /// The next segment and what is behind it, where its terminator is near.
+    #[inline(always)]
+    #[tactic(auto, using(crate::proofs::FitLemmas::ends_apart))]
+    pub(crate) fn near(self) -> Option<(SegmentText<'a>, Cursor<'a>)>
+        ensures first { IfSome result
+            (λ p. (ahead self.entry ≡ stretch_of p.0 ∷ ahead p.1) × (0 < length (ahead p.1))) }
+        ensures same { IfSome result
+            (λ p. (p.0.service ≡ self.entry.service) × (p.1.service ≡ self.entry.service)
+            × (p.1.len ≡ self.entry.len)) }
+        ensures less { IfSome result
+            (λ p. length p.1.rest.now < length self.entry.rest.now) }
+        ensures short { IfSome result (λ p. length p.0.bytes.now < 64) }
+    {
+        let service = self.service;
+        let (front, rest) = near_cut(self.rest, service.release, service.terminator)?;
+        let bytes = skip_blanks(front);
+        let place = self.len - self.rest.len() + (front.len() - bytes.len());
+        let text = SegmentText {
+            bytes,
+            place,
+            service,
+        };
+        let behind = Cursor {
+            len: self.len,
+            rest,
+            service,
+        };
+        Some((text, behind))
     }
 
     /// The next segment that has a terminator, and what is behind it.

@@ -1,5 +1,6 @@
 //! The envelope round a message: headers before it, trailers behind it, and nothing behind those.
-ghost use Rattle.std.specs.Prelude.{◌≡◌, ◌≤◌, ◌+◌, length, IfOk, IfErr, take, MatchResult};
+ghost use Rattle.std.specs.Prelude.{◌≡◌, ◌≤◌, ◌<◌, ◌+◌, ◌^◌, length, IfOk, IfErr, take};
+ghost use Rattle.std.specs.Prelude.{MatchResult};
 ghost use Rattle.edifact_text.specs.Faults.{IsMessage, IsFault};
 ghost use Rattle.edifact_text.specs.Reading.{opened};
 ghost use Rattle.edifact_text.specs.Stages.{Gives, ended_ones, headers_of, trailer_of, ends_of};
@@ -74,6 +75,41 @@ struct Ended<'a> {
     behind: Cursor<'a>,
 }
 
+/// What is left behind some segments of a message, and the number of the next of them.
+#[derive(Clone, Copy)]
+struct Place<'a> {
+    left: Cursor<'a>,
+    number: u64,
+}
+
+/// The place behind the ordinary segments that are next, where each has its terminator near. It is
+/// a loop of its own, so that nothing but what it needs is at hand in it.
+#[inline(never)]
+fn behind_ordinary(from: Place<'_>) -> Place<'_>
+    requires { from.number + length from.left.rest.now < 2 ^ 64 }
+    ensures value { trailer_of from.entry.left.service from.entry.left.len result.number
+        (ahead result.left)
+        ≡ trailer_of from.entry.left.service from.entry.left.len from.entry.number
+        (ahead from.entry.left) }
+    ensures same { (result.left.service ≡ from.entry.left.service)
+        × (result.left.len ≡ from.entry.left.len) }
+    ensures less { length result.left.rest.now ≤ length from.entry.left.rest.now }
+    ensures fits { result.number + length result.left.rest.now
+        ≤ from.entry.number + length from.entry.left.rest.now }
+    ensures least { from.entry.number ≤ result.number }
+{
+    let mut left = from.left;
+    let mut number = from.number;
+    while let Some((text, behind)) = left.near() {
+        if !text.is_ordinary() {
+            return Place { left, number };
+        }
+        left = behind;
+        number += 1;
+    }
+    Place { left, number }
+}
+
 /// The segments up to the message trailer, each checked.
 fn trailer<'a>(cursor: Cursor<'a>) -> Result<Ended<'a>, EdiFault>
     ensures value { Gives (λ e.
@@ -91,18 +127,19 @@ fn trailer<'a>(cursor: Cursor<'a>) -> Result<Ended<'a>, EdiFault>
     let mut left = cursor;
     let mut number: u64 = 2;
     'segments: loop {
-        let (text, behind) = left.next()?;
+        let place = behind_ordinary(Place { left, number });
+        let (text, behind) = place.left.next()?;
         let trailers = text.trailers();
         if trailers.message {
             return Ok(Ended {
                 trailer: text,
-                number,
+                number: place.number,
                 behind,
             });
         }
         text.fault(trailers.interchange, EdiCode::SegmentCount)?;
         left = behind;
-        number += 1;
+        number = place.number + 1;
     }
 }
 

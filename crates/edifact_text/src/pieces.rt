@@ -78,6 +78,7 @@ fn near_length(bytes: &[u8], release: Option<u8>, separator: u8) -> Option<usize
     ensures quiet { IfSome result (λ n. end_from release separator false bytes.now ≡ option_map
         (λ k. n + k) (end_from release separator false (drop n bytes.now))) }
     ensures within { IfSome result (λ n. n < length bytes.now) }
+    ensures near { IfSome result (λ n. n < 32) }
 {
     if bytes.len() < 32 {
         return None;
@@ -95,11 +96,12 @@ fn near_length(bytes: &[u8], release: Option<u8>, separator: u8) -> Option<usize
 #[inline(always)]
 #[tactic(auto, using(crate::proofs::FarLemmas::ends_at))]
 pub(crate) fn far_end_of(bytes: &[u8], release: Option<u8>, separator: u8) -> Option<usize>
+    requires { is_release release separator ≡ false }
     ensures value { result ≡ end_from release separator false bytes.now }
     ensures within { IfSome result (λ n. n < length bytes.now) }
 {
     if let Some(start) = near_length(bytes, release, separator) {
-        if bytes[start] == separator && !is_release(release, separator) {
+        if bytes[start] == separator {
             return Some(start);
         }
     }
@@ -164,6 +166,7 @@ pub(crate) fn cut(bytes: &[u8], release: Option<u8>, separator: u8) -> (&[u8], O
 /// Cuts as `cut` does, where the separator may be far off.
 #[inline(always)]
 pub(crate) fn far_cut(bytes: &[u8], release: Option<u8>, separator: u8) -> (&[u8], Option<&[u8]>)
+    requires { is_release release separator ≡ false }
     ensures first { MatchOption result.1 (pieces release separator bytes.now ≡ result.0.now ∷ [])
         (λ rest. pieces release separator bytes.now
         ≡ result.0.now ∷ pieces release separator rest.now) }
@@ -177,6 +180,28 @@ pub(crate) fn far_cut(bytes: &[u8], release: Option<u8>, separator: u8) -> (&[u8
         separator,
         far_end_of(bytes, release, separator),
     )
+}
+
+/// The bytes up to the first separator and those behind it, where it is near and cuts. The bytes
+/// are looked at together; nothing is said of a separator that is farther off, or behind a release
+/// character.
+#[inline(always)]
+pub(crate) fn near_cut(bytes: &[u8], release: Option<u8>, separator: u8) -> Option<(&[u8], &[u8])>
+    requires { is_release release separator ≡ false }
+    ensures first { IfSome result (λ p. pieces release separator bytes.now
+        ≡ p.0.now ∷ pieces release separator p.1.now) }
+    ensures len { IfSome result (λ p. length p.0.now + 1 + length p.1.now ≡ length bytes.now) }
+    ensures near { IfSome result (λ p. length p.0.now < 32) }
+{
+    let end = near_length(bytes, release, separator)?;
+    if bytes[end] != separator {
+        return None;
+    }
+    let (front, behind) = bytes.split_at(end);
+    match behind {
+        [] => None,
+        [_, rest @ ..] => Some((front, rest)),
+    }
 }
 
 /// The bytes from the piece of this index on, or nothing past the last piece.
@@ -226,6 +251,20 @@ pub(crate) fn is_blank(byte: u8) -> bool
 /// The bytes from the first that is no blank.
 #[inline(always)]
 pub(crate) fn skip_blanks(bytes: &[u8]) -> &[u8]
+    ensures value { result.now ≡ trimmed bytes.now }
+    ensures less { length result.now ≤ length bytes.now }
+{
+    // Nearly every segment is at the beginning of a line, or right behind the one before it.
+    match bytes {
+        [b'\n', first, ..] if *first > b' ' => &bytes[1..],
+        [first, ..] if *first > b' ' => bytes,
+        _ => skip_any_blanks(bytes),
+    }
+}
+
+/// The bytes from the first that is no blank, each looked at.
+#[inline(never)]
+fn skip_any_blanks(bytes: &[u8]) -> &[u8]
     ensures value { result.now ≡ trimmed bytes.now }
     ensures less { length result.now ≤ length bytes.now }
 {

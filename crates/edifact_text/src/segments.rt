@@ -1,13 +1,16 @@
 //! What a caller reads of a message.
-ghost use Rattle.std.specs.Prelude.{◌≡◌, IfSome, drop};
+ghost use Rattle.std.specs.Prelude.{◌≡◌, IfSome, drop, true};
 ghost use Rattle.std.specs.Iterator.{YieldsFirstBy, item_count};
+ghost use Rattle.edifact_text.specs.Characters.{serves};
 ghost use Rattle.edifact_text.specs.Interchange.{component};
+ghost use Rattle.edifact_text.specs.Reading.{segment_of};
 ghost use Rattle.edifact_text.specs.Views.{letters_of, meaning_of, message_view, numbered_view};
 ghost use Rattle.edifact_text.specs.Views.{left_of};
 
 use crate::components::{component_of, is_plain};
 use crate::message::{Message, Segment, Segments};
 use crate::raw::Raw;
+use crate::segment_text::SegmentText;
 use crate::tag::Tag;
 
 impl<'a> Message<'a> {
@@ -34,6 +37,24 @@ impl<'a> Message<'a> {
 }
 
 impl<'a> Segment<'a> {
+    /// This segment of the text, which has this number in its message.
+    #[inline(always)]
+    #[tactic(auto, unfolding(crate::specs::Views::numbered_view))]
+    fn of(text: SegmentText<'a>, number: u64) -> Segment<'a>
+        requires { serves text.service ≡ true }
+        ensures { numbered_view result ≡ record {
+          number = number;
+          parts = segment_of text.entry.service text.entry.bytes.now;
+        } }
+    {
+        Segment {
+            bytes: text.bytes,
+            is_plain: is_plain(text.bytes, text.service),
+            service: text.service,
+            number,
+        }
+    }
+
     /// The segment's number in its message, the message header being 1.
     #[tactic(auto, unfolding(crate::specs::Views::numbered_view))]
     #[inline(always)]
@@ -98,8 +119,8 @@ impl<'a> Segment<'a> {
     /// Component `j` of element `i`, read from the segment's first byte on.
     #[inline(never)]
     #[tactic(auto, using(crate::proofs::ReadingLemmas::part_is), unfolding(crate::specs::Views::numbered_view))]
-    fn seen_component(&self, i: usize, j: usize) -> Raw<'a>
-        ensures { meaning_of result ≡ component (numbered_view self.now).parts i j }
+    fn seen_component(self, i: usize, j: usize) -> Raw<'a>
+        ensures { meaning_of result ≡ component (numbered_view self.entry).parts i j }
     {
         component_of(self.bytes, self.service, i, j)
     }
@@ -113,7 +134,7 @@ impl<'a> Iterator for Segments<'a> {
     ghost remaining = { item_count left_of };
 
     #[inline(always)]
-    #[tactic(auto, unfolding(crate::specs::Views::numbered_view, crate::specs::Views::left_of, crate::specs::Reading::segment_of))]
+    #[tactic(auto, unfolding(crate::specs::Views::left_of))]
     fn next(&mut self) -> Option<Segment<'a>> {
         if self.count == 0 {
             return None;
@@ -123,11 +144,6 @@ impl<'a> Iterator for Segments<'a> {
         self.left = behind;
         self.count -= 1;
         self.first += 1;
-        Some(Segment {
-            bytes: text.bytes,
-            is_plain: is_plain(text.bytes, text.service),
-            service: text.service,
-            number,
-        })
+        Some(Segment::of(text, number))
     }
 }
