@@ -8,6 +8,7 @@ use Rattle.edifact_text.specs.declared.message.Message.{Message}
 use Rattle.edifact_text.specs.declared.message.Segment.{Segment}
 use Rattle.edifact_text.specs.declared.message.Segments.{Segments}
 use Rattle.edifact_text.specs.declared.service.Ends.{Ends}
+use Rattle.edifact_text.specs.declared.service.Service.{Service}
 use Rattle.edifact_text.specs.declared.tag.Tag.{Tag}
 use Rattle.edifact_text.specs.Interchange.{Numbered, numbered, Opened}
 use Rattle.edifact_text.specs.Pieces.{pieces, literal}
@@ -22,6 +23,11 @@ front release separator bytes = slice_index_or (pieces release separator bytes) 
 abbrev pub up_to : Option ℕ → Option Ends → List ℕ → List ℕ
 up_to release None bytes = bytes
 up_to release (Some ends) bytes = front release ends.component (front release ends.element bytes)
+
+-- Component j of the element with which some bytes begin.
+abbrev pub leading_component : Service → ℕ → List ℕ → List ℕ
+leading_component sv j bytes =
+    slice_index_or (pieces sv.release sv.component (front sv.release sv.element bytes)) j []
 
 -- The byte is one of the separators.
 abbrev pub is_end : Option Ends → ℕ → Bool

@@ -5,7 +5,8 @@ ghost use Rattle.edifact_text.specs.Pieces.{literal, pieces};
 ghost use Rattle.edifact_text.specs.Reading.{segment_of};
 ghost use Rattle.edifact_text.specs.Spelling.{is_service};
 ghost use Rattle.edifact_text.specs.Stages.{part};
-ghost use Rattle.edifact_text.specs.Views.{is_capital, letters_of, meaning_of};
+ghost use Rattle.edifact_text.specs.Views.{is_capital, leading_component, letters_of};
+ghost use Rattle.edifact_text.specs.Views.{meaning_of};
 
 use crate::pieces::{cut, from_piece, is_release};
 use crate::raw::Raw;
@@ -102,6 +103,58 @@ pub(crate) fn component_of(bytes: &[u8], service: Service, i: usize, j: usize) -
     }
     let element = cut(rest, service.release, service.element).0;
     inner_of(element, service, j)
+}
+
+/// Components 0 and 1 of element `i` of a segment, or nothing where there is none. The element is
+/// looked for once.
+#[inline(always)]
+#[tactic(auto, unfolding(crate::specs::Stages::part))]
+pub(crate) fn first_two_of(bytes: &[u8], service: Service, i: usize) -> (Raw<'_>, Raw<'_>)
+    ensures first { meaning_of result.0 ≡ part service bytes.now i 0 }
+    ensures second { meaning_of result.1 ≡ part service bytes.now i 1 }
+{
+    match from_piece(bytes, service.release, service.element, i) {
+        Some(rest) => leading_two(rest, service),
+        None => (
+            Raw::new(&[], service.release),
+            Raw::new(&[], service.release),
+        ),
+    }
+}
+
+/// Components 0 and 1 of the element with which these bytes begin, or nothing where there is none.
+/// Neither is cut twice where the first ends with an ordinary separator.
+#[inline(always)]
+fn leading_two(bytes: &[u8], service: Service) -> (Raw<'_>, Raw<'_>)
+    ensures first { meaning_of result.0 ≡ literal service.release
+        (leading_component service 0 bytes.now) }
+    ensures second { meaning_of result.1 ≡ literal service.release
+        (leading_component service 1 bytes.now) }
+{
+    for (at, byte) in bytes.iter().enumerate() {
+        if is_release(service.release, *byte) || *byte == service.element {
+            return seen_two(bytes, service);
+        }
+        if *byte == service.component {
+            return (
+                Raw::new(&bytes[..at], service.release),
+                Raw::leading(&bytes[at + 1..], service),
+            );
+        }
+    }
+    seen_two(bytes, service)
+}
+
+/// Components 0 and 1 of the element with which these bytes begin, each looked for by itself.
+#[inline(never)]
+fn seen_two(bytes: &[u8], service: Service) -> (Raw<'_>, Raw<'_>)
+    ensures first { meaning_of result.0 ≡ literal service.release
+        (leading_component service 0 bytes.now) }
+    ensures second { meaning_of result.1 ≡ literal service.release
+        (leading_component service 1 bytes.now) }
+{
+    let element = cut(bytes, service.release, service.element).0;
+    (Raw::leading(bytes, service), inner_of(element, service, 1))
 }
 
 /// Component `j` of an element, or nothing where there is none.

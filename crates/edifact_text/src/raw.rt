@@ -97,10 +97,10 @@ impl<'a> Raw<'a> {
         }
     }
 
-    /// The literal, unchanged from the text, where no byte of it is released.
+    /// The literal, unchanged from the text, where no byte of it is released. Nothing is copied.
     #[inline(always)]
     #[tactic(auto, unfolding(crate::specs::Views::meaning_of))]
-    fn unreleased(self) -> Option<&'a [u8]>
+    pub fn unreleased(self) -> Option<&'a [u8]>
         ensures { IfSome result (λ text. meaning_of self.entry ≡ text.now) }
     {
         for (at, byte) in self.bytes.iter().enumerate() {

@@ -7,7 +7,7 @@ ghost use Rattle.edifact_text.specs.Reading.{segment_of};
 ghost use Rattle.edifact_text.specs.Views.{letters_of, meaning_of, message_view, numbered_view};
 ghost use Rattle.edifact_text.specs.Views.{left_of};
 
-use crate::components::{component_of, is_plain};
+use crate::components::{component_of, first_two_of, is_plain};
 use crate::message::{Message, Segment, Segments};
 use crate::raw::Raw;
 use crate::segment_text::SegmentText;
@@ -114,6 +114,20 @@ impl<'a> Segment<'a> {
             return component_of(self.behind_tag(), self.service, i - 1, j);
         }
         self.seen_component(i, j)
+    }
+
+    /// Components 0 and 1 of element `i`, as [`Segment::component`] gives them. The element is
+    /// looked for once.
+    #[inline(always)]
+    #[tactic(auto, using(crate::proofs::ReadingLemmas::part_is), unfolding(crate::specs::Views::numbered_view, crate::specs::Interchange::component))]
+    pub fn first_two(&self, i: usize) -> (Raw<'a>, Raw<'a>)
+        ensures first { meaning_of result.0 ≡ component (numbered_view self.now).parts i 0 }
+        ensures second { meaning_of result.1 ≡ component (numbered_view self.now).parts i 1 }
+    {
+        if self.is_plain && i > 0 {
+            return first_two_of(self.behind_tag(), self.service, i - 1);
+        }
+        (self.seen_component(i, 0), self.seen_component(i, 1))
     }
 
     /// Component `j` of element `i`, read from the segment's first byte on.
