@@ -1,9 +1,10 @@
 ghost use Rattle.std.specs.Prelude.{◌≡◌, ◌≢◌, Ok, Err, IfErr, OnOk, ◌∷◌, [], codes, if◌then◌else◌};
 ghost use Rattle.std.specs.Str.{bytes_eq};
+ghost use Rattle.units_core.specs.Cells.{cell_in};
 ghost use Rattle.edifact_text.specs.Interchange.{component};
 ghost use Rattle.edifact_text.specs.Views.{letters_of, meaning_of, numbered_view};
 ghost use Rattle.stow_messages.specs.Entries.{IsFaultOf, cell_at, fault_at, id_at, id_of, kg_at};
-ghost use Rattle.stow_messages.specs.Entries.{item_of, with_entry};
+ghost use Rattle.stow_messages.specs.Entries.{item_of, or_fault_at, with_entry};
 ghost use Rattle.stow_messages.specs.Groups.{found_at, names_a_container, with_segment};
 ghost use Rattle.stow_messages.specs.Kinds.{has, kind_of, measurement_of};
 ghost use Rattle.stow_messages.specs.Views.{found_view};
@@ -97,18 +98,18 @@ pub fn kind_of(segment: &Segment<'_>) -> SegmentKind
 {
     match segment.plain_tag() {
         Some(tag) => kind_under(tag, segment),
-        None => kind_spelt(segment),
+        None => kind_spelt(*segment),
     }
 }
 
 /// What the segment is, by the tag's literal.
 #[inline(never)]
-fn kind_spelt(segment: &Segment<'_>) -> SegmentKind
-    ensures { result ≡ kind_of (numbered_view segment.now) }
+fn kind_spelt(segment: Segment<'_>) -> SegmentKind
+    ensures { result ≡ kind_of (numbered_view segment.entry) }
 {
     let tag = segment.tag();
     if reads(tag, b"LOC") {
-        return location_of(segment);
+        return location_of(&segment);
     }
     if reads(tag, b"HAN") {
         return SegmentKind::Handling;
@@ -117,7 +118,7 @@ fn kind_spelt(segment: &Segment<'_>) -> SegmentKind
         return SegmentKind::Equipment;
     }
     if reads(tag, b"MEA") {
-        return measurement_of(segment);
+        return measurement_of(&segment);
     }
     SegmentKind::Other
 }
@@ -160,17 +161,37 @@ pub fn fault_at(code: StowCode, segment: &Segment<'_>) -> StowFault
     }
 }
 
-/// The cell of a location.
-fn cell_at(segment: &Segment<'_>) -> Result<Cell, StowFault>
-    ensures { result ≡ cell_at (numbered_view segment.now) }
+/// The cell that this text of a location names.
+#[inline(always)]
+fn cell_named(segment: &Segment<'_>, text: &[u8]) -> Result<Cell, StowFault>
+    ensures { result ≡ or_fault_at StowCode.BadCell (numbered_view segment.now) (cell_in text.now) }
+{
+    match Cell::read(text) {
+        Some(cell) => Ok(cell),
+        None => Err(fault_at(StowCode::BadCell, segment)),
+    }
+}
+
+/// The cell of a location some byte of which is released: the literal is copied first.
+#[inline(never)]
+fn cell_spelt(segment: Segment<'_>) -> Result<Cell, StowFault>
+    ensures { result ≡ cell_at (numbered_view segment.entry) }
 {
     let mut digits: ArrayVec<u8, 7> = ArrayVec::new();
     if !segment.component(2, 0).literal_into(&mut digits) {
-        return Err(fault_at(StowCode::BadCell, segment));
+        return Err(fault_at(StowCode::BadCell, &segment));
     }
-    match Cell::read(digits.as_slice()) {
-        Some(cell) => Ok(cell),
-        None => Err(fault_at(StowCode::BadCell, segment)),
+    cell_named(&segment, digits.as_slice())
+}
+
+/// The cell of a location.
+#[inline(always)]
+fn cell_at(segment: &Segment<'_>) -> Result<Cell, StowFault>
+    ensures { result ≡ cell_at (numbered_view segment.now) }
+{
+    match segment.component(2, 0).unreleased() {
+        Some(text) => cell_named(segment, text),
+        None => cell_spelt(*segment),
     }
 }
 
@@ -189,10 +210,11 @@ fn id_at(segment: &Segment<'_>) -> Result<ArrayVec<u8, 17>, StowFault>
 fn kg_at(segment: &Segment<'_>, mark: u8) -> Result<Kg, StowFault>
     ensures { result ≡ kg_at mark (numbered_view segment.now) }
 {
-    if !has(segment, 3, 0, b"KGM") {
+    let (unit, value) = segment.first_two(3);
+    if !reads(unit, b"KGM") {
         return Err(fault_at(StowCode::WrongUnit, segment));
     }
-    match kilograms(segment.component(3, 1), mark) {
+    match kilograms(value, mark) {
         Some(kg) => Ok(kg),
         None => Err(fault_at(StowCode::BadWeight, segment)),
     }

@@ -78,14 +78,17 @@ impl<'a> Parts<'a> {
         ensures left { parts_left self.new ≡ parts_of self.old.handles (left_of self.old.left) }
     {
         let mut group = Group::at(location);
-        while let Some(segment) = self.left.next() {
+        let mut left = self.left;
+        while let Some(segment) = left.next() {
             let kind = kind_of(&segment);
             if self.is_begun_by(kind, &segment) {
+                self.left = left;
                 self.ahead = Some(segment);
                 return group;
             }
             group.note(kind, &segment);
         }
+        self.left = left;
         group
     }
 }

@@ -10,8 +10,44 @@ use arrayvec::ArrayVec;
 use edifact_text::Raw;
 use units_core::Kg;
 
+/// The number that the digits in front of a short text write, and what is behind them: 64 bits hold
+/// it.
+#[inline(always)]
+fn short_number(text: &[u8]) -> (u64, &[u8])
+    requires { length text.now ≤ 18 }
+    ensures number { result.0 ≡ digits_value 10 (digits_of text.now) }
+    ensures behind { result.1.now ≡ behind_digits text.now }
+    ensures small { result.0 < 10 ^ 18 }
+{
+    let mut number: u64 = 0;
+    for (at, byte) in text.iter().enumerate() {
+        if !byte.is_ascii_digit() {
+            return (number, &text[at..]);
+        }
+        number = 10 * number + u64::from(*byte - b'0');
+    }
+    (number, &[])
+}
+
 /// The number that the digits in front write, and what is behind them.
+#[inline(always)]
 fn leading_number(text: &[u8]) -> (u128, &[u8])
+    requires { length text.now ≤ 35 }
+    ensures number { result.0 ≡ digits_value 10 (digits_of text.now) }
+    ensures behind { result.1.now ≡ behind_digits text.now }
+    ensures small { result.0 < 10 ^ 35 }
+{
+    if text.len() > 18 {
+        return long_number(text);
+    }
+    let (number, behind) = short_number(text);
+    (u128::from(number), behind)
+}
+
+/// The number that the digits in front of a text write, however many they are, and what is behind
+/// them.
+#[inline(never)]
+fn long_number(text: &[u8]) -> (u128, &[u8])
     requires { length text.now ≤ 35 }
     ensures number { result.0 ≡ digits_value 10 (digits_of text.now) }
     ensures behind { result.1.now ≡ behind_digits text.now }
@@ -84,9 +120,20 @@ fn kilograms_of(text: &[u8], mark: u8) -> Option<Kg>
     Kg::new(u32::try_from(rounded).ok()?)
 }
 
-/// The mass in kg that a value writes, a fraction rounded up by its digits alone; `None` for what
-/// is no number, over 35 bytes long, or above 999,999 kg. `mark` is the interchange's decimal mark.
-pub fn kilograms(value: Raw<'_>, mark: u8) -> Option<Kg>
+/// The mass that a text writes; `None` for what is over 35 bytes long, too.
+#[inline(always)]
+fn kilograms_in(text: &[u8], mark: u8) -> Option<Kg>
+    ensures { result ≡ kg_in mark text.now }
+{
+    if text.len() > 35 {
+        return None;
+    }
+    kilograms_of(text, mark)
+}
+
+/// The mass that a value writes some byte of which is released: its literal is copied first.
+#[inline(never)]
+fn kilograms_spelt(value: Raw<'_>, mark: u8) -> Option<Kg>
     ensures { result ≡ kg_in mark (meaning_of value.entry) }
 {
     let mut text: ArrayVec<u8, 35> = ArrayVec::new();
@@ -94,4 +141,16 @@ pub fn kilograms(value: Raw<'_>, mark: u8) -> Option<Kg>
         return None;
     }
     kilograms_of(text.as_slice(), mark)
+}
+
+/// The mass in kg that a value writes, a fraction rounded up by its digits alone; `None` for what
+/// is no number, over 35 bytes long, or above 999,999 kg. `mark` is the interchange's decimal mark.
+#[inline(always)]
+pub fn kilograms(value: Raw<'_>, mark: u8) -> Option<Kg>
+    ensures { result ≡ kg_in mark (meaning_of value.entry) }
+{
+    match value.unreleased() {
+        Some(text) => kilograms_in(text, mark),
+        None => kilograms_spelt(value, mark),
+    }
 }
