@@ -76,6 +76,7 @@ pub(crate) fn is_plain(bytes: &[u8], service: Service) -> bool
 }
 
 /// It was seen that the segment begins so, by a test of each byte.
+#[cold]
 #[inline(never)]
 fn is_seen_plain(bytes: &[u8], service: Service) -> bool
     ensures { result ≡ true → segment_of service bytes.now
@@ -146,6 +147,7 @@ fn leading_two(bytes: &[u8], service: Service) -> (Raw<'_>, Raw<'_>)
 }
 
 /// Components 0 and 1 of the element with which these bytes begin, each looked for by itself.
+#[cold]
 #[inline(never)]
 fn seen_two(bytes: &[u8], service: Service) -> (Raw<'_>, Raw<'_>)
     ensures first { meaning_of result.0 ≡ literal service.release
@@ -158,6 +160,7 @@ fn seen_two(bytes: &[u8], service: Service) -> (Raw<'_>, Raw<'_>)
 }
 
 /// Component `j` of an element, or nothing where there is none.
+#[cold]
 #[inline(never)]
 fn inner_of(element: &[u8], service: Service, j: usize) -> Raw<'_>
     ensures { meaning_of result ≡ literal service.release

@@ -25,7 +25,6 @@ impl<'a> Cursor<'a> {
 
     /// The text before the next terminator, and the text behind it; without one, all that is left.
     #[inline(always)]
-    #[tactic(auto, using(crate::proofs::FitLemmas::ends_apart))]
     pub(crate) fn take(self) -> (SegmentText<'a>, Option<Cursor<'a>>)
         ensures first { MatchOption result.1 (ahead self.entry ≡ stretch_of result.0 ∷ [])
             (λ rest. (ahead self.entry ≡ stretch_of result.0 ∷ ahead rest)
@@ -95,6 +94,9 @@ impl<'a> Cursor<'a> {
         ensures same { IfSome result
             (λ p. (p.0.service ≡ self.entry.service) × (p.1.service ≡ self.entry.service)) }
     {
+        if let Some(found) = self.near() {
+            return Some(found);
+        }
         let (text, behind) = self.take();
         Some((text, behind?))
     }

@@ -40,6 +40,7 @@ pub(crate) fn end_of(bytes: &[u8], release: Option<u8>, separator: u8) -> Option
 }
 
 /// How many bytes in front neither cut nor release. They are passed over by vectors.
+#[cold]
 #[inline(never)]
 fn quiet_length(bytes: &[u8], release: Option<u8>, separator: u8) -> usize
     ensures quiet { end_from release separator false bytes.now ≡ option_map
@@ -93,22 +94,7 @@ fn near_length(bytes: &[u8], release: Option<u8>, separator: u8) -> Option<usize
 
 /// The index of the first separator that cuts, where it may be far off. Only from a release
 /// character on is each byte looked at.
-#[inline(always)]
-#[tactic(auto, using(crate::proofs::FarLemmas::ends_at))]
-pub(crate) fn far_end_of(bytes: &[u8], release: Option<u8>, separator: u8) -> Option<usize>
-    requires { is_release release separator ≡ false }
-    ensures value { result ≡ end_from release separator false bytes.now }
-    ensures within { IfSome result (λ n. n < length bytes.now) }
-{
-    if let Some(start) = near_length(bytes, release, separator) {
-        if bytes[start] == separator {
-            return Some(start);
-        }
-    }
-    end_behind(bytes, release, separator)
-}
-
-/// The index of the first separator that cuts, without a look at the nearest bytes first.
+#[cold]
 #[inline(never)]
 fn end_behind(bytes: &[u8], release: Option<u8>, separator: u8) -> Option<usize>
     ensures value { result ≡ end_from release separator false bytes.now }
@@ -166,7 +152,6 @@ pub(crate) fn cut(bytes: &[u8], release: Option<u8>, separator: u8) -> (&[u8], O
 /// Cuts as `cut` does, where the separator may be far off.
 #[inline(always)]
 pub(crate) fn far_cut(bytes: &[u8], release: Option<u8>, separator: u8) -> (&[u8], Option<&[u8]>)
-    requires { is_release release separator ≡ false }
     ensures first { MatchOption result.1 (pieces release separator bytes.now ≡ result.0.now ∷ [])
         (λ rest. pieces release separator bytes.now
         ≡ result.0.now ∷ pieces release separator rest.now) }
@@ -178,7 +163,7 @@ pub(crate) fn far_cut(bytes: &[u8], release: Option<u8>, separator: u8) -> (&[u8
         bytes,
         release,
         separator,
-        far_end_of(bytes, release, separator),
+        end_behind(bytes, release, separator),
     )
 }
 
@@ -263,6 +248,7 @@ pub(crate) fn skip_blanks(bytes: &[u8]) -> &[u8]
 }
 
 /// The bytes from the first that is no blank, each looked at.
+#[cold]
 #[inline(never)]
 fn skip_any_blanks(bytes: &[u8]) -> &[u8]
     ensures value { result.now ≡ trimmed bytes.now }

@@ -130,6 +130,7 @@ impl<'a> Raw<'a> {
     }
 
     /// Writes the literal to `out` as `literal_into` does, byte by byte.
+    #[cold]
     #[inline(never)]
     fn spelt_into<const MOST: usize>(self, out: &mut ArrayVec<u8, MOST>) -> bool
         ensures fits { IsTrue result ↔ (length (meaning_of self.entry) ≤ MOST) }

@@ -38,6 +38,7 @@ impl SegmentText<'_> {
     }
 
     /// Whether it is a trailer, by the tag's literal.
+    #[cold]
     #[inline(never)]
     fn seen_trailers(self) -> Trailers
         ensures message { result.message

@@ -101,6 +101,7 @@ impl<'a> SegmentText<'a> {
     }
 
     /// Whether it is too large, by counting.
+    #[cold]
     #[inline(never)]
     fn is_seen_too_large(self) -> bool
         ensures { result ≡ is_too_large self.entry.service self.entry.bytes.now }

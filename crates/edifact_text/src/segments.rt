@@ -131,6 +131,7 @@ impl<'a> Segment<'a> {
     }
 
     /// Component `j` of element `i`, read from the segment's first byte on.
+    #[cold]
     #[inline(never)]
     #[tactic(auto, using(crate::proofs::ReadingLemmas::part_is), unfolding(crate::specs::Views::numbered_view))]
     fn seen_component(self, i: usize, j: usize) -> Raw<'a>

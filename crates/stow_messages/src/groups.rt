@@ -103,6 +103,7 @@ pub fn kind_of(segment: &Segment<'_>) -> SegmentKind
 }
 
 /// What the segment is, by the tag's literal.
+#[cold]
 #[inline(never)]
 fn kind_spelt(segment: Segment<'_>) -> SegmentKind
     ensures { result ≡ kind_of (numbered_view segment.entry) }
@@ -173,6 +174,7 @@ fn cell_named(segment: &Segment<'_>, text: &[u8]) -> Result<Cell, StowFault>
 }
 
 /// The cell of a location some byte of which is released: the literal is copied first.
+#[cold]
 #[inline(never)]
 fn cell_spelt(segment: Segment<'_>) -> Result<Cell, StowFault>
     ensures { result ≡ cell_at (numbered_view segment.entry) }

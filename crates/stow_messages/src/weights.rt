@@ -46,6 +46,7 @@ fn leading_number(text: &[u8]) -> (u128, &[u8])
 
 /// The number that the digits in front of a text write, however many they are, and what is behind
 /// them.
+#[cold]
 #[inline(never)]
 fn long_number(text: &[u8]) -> (u128, &[u8])
     requires { length text.now ≤ 35 }
@@ -132,6 +133,7 @@ fn kilograms_in(text: &[u8], mark: u8) -> Option<Kg>
 }
 
 /// The mass that a value writes some byte of which is released: its literal is copied first.
+#[cold]
 #[inline(never)]
 fn kilograms_spelt(value: Raw<'_>, mark: u8) -> Option<Kg>
     ensures { result ≡ kg_in mark (meaning_of value.entry) }
