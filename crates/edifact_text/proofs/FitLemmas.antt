@@ -48,6 +48,12 @@ parted sv fit =
     let c = or_off (is_unfit sv.component) (is_unfit sv.element) t.0 in
     record { component = c.0; element = c.1; terminator = t.1; release = g.1 }
 
+pub plain_apart_of : (sv : Service) (b : ℕ) → serves sv ≡ true → is_plain b ≡ true →
+    (is_release sv.release b ≡ false) × ((b == sv.element) ≡ false) × ((b == sv.component) ≡ false)
+plain_apart_of sv b h k =
+    let p = parted sv h in
+    (release_apart sv sv.release b k p.release, unfit_apart sv.element b k p.element, unfit_apart sv.component b k p.component)
+
 pub plain_ordinary : (sv : Service) (b : ℕ) → serves sv ≡ true → is_plain b ≡ true → is_service sv b ≡ false
 plain_ordinary sv b h k =
     let p = parted sv h in

@@ -21,3 +21,4 @@ pub mod RawLemmas
 pub mod TagLemmas
 pub mod FitLemmas
 pub mod OrdinaryLemmas
+pub mod QualifierLemmas

@@ -29,6 +29,10 @@ abbrev pub leading_component : Service → ℕ → List ℕ → List ℕ
 leading_component sv j bytes =
     slice_index_or (pieces sv.release sv.component (front sv.release sv.element bytes)) j []
 
+-- The literal of the component with which some bytes begin.
+abbrev pub leading_literal : Service → List ℕ → List ℕ
+leading_literal sv bytes = literal sv.release (leading_component sv 0 bytes)
+
 -- The byte is one of the separators.
 abbrev pub is_end : Option Ends → ℕ → Bool
 is_end None byte = false

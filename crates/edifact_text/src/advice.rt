@@ -8,7 +8,8 @@ use crate::faults::{EdiCode, EdiFault};
 use crate::service::Service;
 
 /// An ASCII letter or digit, CR, LF or tab: neither separates nor releases.
-fn is_plain(byte: u8) -> bool
+#[inline(always)]
+pub(crate) fn is_plain(byte: u8) -> bool
     ensures { result ≡ is_plain byte }
 {
     byte.is_ascii_alphanumeric() || byte == b'\r' || byte == b'\n' || byte == b'\t'

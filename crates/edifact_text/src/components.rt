@@ -110,9 +110,9 @@ pub(crate) fn component_of(bytes: &[u8], service: Service, i: usize, j: usize) -
 /// looked for once.
 #[inline(always)]
 #[tactic(auto, unfolding(crate::specs::Stages::part))]
-pub(crate) fn first_two_of(bytes: &[u8], service: Service, i: usize) -> (Raw<'_>, Raw<'_>)
-    ensures first { meaning_of result.0 ≡ part service bytes.now i 0 }
-    ensures second { meaning_of result.1 ≡ part service bytes.now i 1 }
+pub(crate) fn first_two_of<'a>(bytes: &'a [u8], service: &Service, i: usize) -> (Raw<'a>, Raw<'a>)
+    ensures first { meaning_of result.0 ≡ part service.now bytes.now i 0 }
+    ensures second { meaning_of result.1 ≡ part service.now bytes.now i 1 }
 {
     match from_piece(bytes, service.release, service.element, i) {
         Some(rest) => leading_two(rest, service),
@@ -126,24 +126,24 @@ pub(crate) fn first_two_of(bytes: &[u8], service: Service, i: usize) -> (Raw<'_>
 /// Components 0 and 1 of the element with which these bytes begin, or nothing where there is none.
 /// Neither is cut twice where the first ends with an ordinary separator.
 #[inline(always)]
-fn leading_two(bytes: &[u8], service: Service) -> (Raw<'_>, Raw<'_>)
-    ensures first { meaning_of result.0 ≡ literal service.release
-        (leading_component service 0 bytes.now) }
-    ensures second { meaning_of result.1 ≡ literal service.release
-        (leading_component service 1 bytes.now) }
+fn leading_two<'a>(bytes: &'a [u8], service: &Service) -> (Raw<'a>, Raw<'a>)
+    ensures first { meaning_of result.0 ≡ literal service.now.release
+        (leading_component service.now 0 bytes.now) }
+    ensures second { meaning_of result.1 ≡ literal service.now.release
+        (leading_component service.now 1 bytes.now) }
 {
     for (at, byte) in bytes.iter().enumerate() {
         if is_release(service.release, *byte) || *byte == service.element {
-            return seen_two(bytes, service);
+            return seen_two(bytes, *service);
         }
         if *byte == service.component {
             return (
                 Raw::new(&bytes[..at], service.release),
-                Raw::leading(&bytes[at + 1..], service),
+                Raw::leading(&bytes[at + 1..], *service),
             );
         }
     }
-    seen_two(bytes, service)
+    seen_two(bytes, *service)
 }
 
 /// Components 0 and 1 of the element with which these bytes begin, each looked for by itself.

@@ -19,6 +19,7 @@ mod laws;
 mod message;
 mod numbers;
 mod pieces;
+mod qualifiers;
 mod raw;
 mod rows;
 mod segment_text;

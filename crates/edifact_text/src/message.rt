@@ -1,4 +1,5 @@
 ghost use Rattle.std.specs.Prelude.{◌≡◌, ◌<◌, ◌+◌, ◌^◌, true, ◌∷◌, [], take, drop};
+ghost use Rattle.edifact_text.specs.Characters.{serves};
 ghost use Rattle.edifact_text.specs.Reading.{segment_of};
 
 use crate::cursor::Cursor;
@@ -25,6 +26,7 @@ pub struct Segment<'a> {
     pub(crate) number: u64,
     ghost plain: { is_plain ≡ true → segment_of service bytes.now
         ≡ (take 3 bytes.now ∷ []) ∷ segment_of service (drop 4 bytes.now) },
+    ghost fit: { serves service ≡ true },
 }
 
 /// The segments of a message that are left, in their order.

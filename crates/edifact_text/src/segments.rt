@@ -1,5 +1,5 @@
 //! What a caller reads of a message.
-ghost use Rattle.std.specs.Prelude.{◌≡◌, IfSome, drop, true};
+ghost use Rattle.std.specs.Prelude.{◌≡◌, ◌↔◌, IfSome, IsTrue, drop, true};
 ghost use Rattle.std.specs.Iterator.{YieldsFirstBy, item_count};
 ghost use Rattle.edifact_text.specs.Characters.{serves};
 ghost use Rattle.edifact_text.specs.Interchange.{component};
@@ -9,6 +9,7 @@ ghost use Rattle.edifact_text.specs.Views.{left_of};
 
 use crate::components::{component_of, first_two_of, is_plain};
 use crate::message::{Message, Segment, Segments};
+use crate::qualifiers::leads_with;
 use crate::raw::Raw;
 use crate::segment_text::SegmentText;
 use crate::tag::Tag;
@@ -116,6 +117,29 @@ impl<'a> Segment<'a> {
         self.seen_component(i, j)
     }
 
+    /// Component 0 of element 1 is this text. It is where qualifiers are, and compared in place.
+    #[inline(always)]
+    #[tactic(auto, using(crate::proofs::ReadingLemmas::part_is), unfolding(crate::specs::Views::numbered_view, crate::specs::Interchange::component, crate::specs::Stages::part))]
+    pub fn has_qualifier(&self, text: &[u8]) -> bool
+        ensures { IsTrue result ↔ (component (numbered_view self.now).parts 1 0 ≡ text.now) }
+    {
+        if self.is_plain {
+            if let Some(leads) = leads_with(self.behind_tag(), self.service, text) {
+                return leads;
+            }
+        }
+        self.has_spelt_qualifier(text)
+    }
+
+    /// Component 0 of element 1 is this text, read from the segment's first byte on.
+    #[cold]
+    #[inline(never)]
+    fn has_spelt_qualifier(self, text: &[u8]) -> bool
+        ensures { IsTrue result ↔ (component (numbered_view self.entry).parts 1 0 ≡ text.now) }
+    {
+        self.seen_component(1, 0).is(text)
+    }
+
     /// Components 0 and 1 of element `i`, as [`Segment::component`] gives them. The element is
     /// looked for once.
     #[inline(always)]
@@ -125,7 +149,7 @@ impl<'a> Segment<'a> {
         ensures second { meaning_of result.1 ≡ component (numbered_view self.now).parts i 1 }
     {
         if self.is_plain && i > 0 {
-            return first_two_of(self.behind_tag(), self.service, i - 1);
+            return first_two_of(self.behind_tag(), &self.service, i - 1);
         }
         (self.seen_component(i, 0), self.seen_component(i, 1))
     }
