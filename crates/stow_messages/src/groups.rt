@@ -26,13 +26,13 @@ pub struct Group<'a> {
     pub gross: Option<Segment<'a>>,
 }
 
-/// Component `j` of element `i` of the segment is this text.
+/// The segment's qualifier, component 0 of element 1, is this text.
 #[inline(always)]
 #[tactic(auto, using(crate::proofs::Texts::told))]
-pub fn has(segment: &Segment<'_>, i: usize, j: usize, text: &[u8]) -> bool
-    ensures { result ≡ has (numbered_view segment.now) i j text.now }
+pub fn has_qualifier(segment: &Segment<'_>, text: &[u8]) -> bool
+    ensures { result ≡ has (numbered_view segment.now) 1 0 text.now }
 {
-    segment.component(i, j).is(text)
+    segment.has_qualifier(text)
 }
 
 /// What a segment is in a message.
@@ -130,7 +130,7 @@ fn location_of(segment: &Segment<'_>) -> SegmentKind
     ensures { result ≡ (if has (numbered_view segment.now) 1 0 (codes "147")
         then SegmentKind.Location else SegmentKind.Other) }
 {
-    if has(segment, 1, 0, b"147") {
+    if has_qualifier(segment, b"147") {
         SegmentKind::Location
     } else {
         SegmentKind::Other
@@ -142,10 +142,9 @@ fn location_of(segment: &Segment<'_>) -> SegmentKind
 fn measurement_of(segment: &Segment<'_>) -> SegmentKind
     ensures { result ≡ measurement_of (numbered_view segment.now) }
 {
-    let qualifier = segment.component(1, 0);
-    if reads(qualifier, b"VGM") {
+    if has_qualifier(segment, b"VGM") {
         SegmentKind::Verified
-    } else if reads(qualifier, b"WT") {
+    } else if has_qualifier(segment, b"WT") {
         SegmentKind::Gross
     } else {
         SegmentKind::Other
@@ -198,6 +197,7 @@ fn cell_at(segment: &Segment<'_>) -> Result<Cell, StowFault>
 }
 
 /// The identification of a container.
+#[inline(always)]
 fn id_at(segment: &Segment<'_>) -> Result<ArrayVec<u8, 17>, StowFault>
     ensures { result ≡ id_at (numbered_view segment.now) }
 {
@@ -209,6 +209,7 @@ fn id_at(segment: &Segment<'_>) -> Result<ArrayVec<u8, 17>, StowFault>
 }
 
 /// The mass of a measurement.
+#[inline(always)]
 fn kg_at(segment: &Segment<'_>, mark: u8) -> Result<Kg, StowFault>
     ensures { result ≡ kg_at mark (numbered_view segment.now) }
 {
@@ -251,6 +252,7 @@ pub fn put<X: Drop>(
 
 impl<'a> Group<'a> {
     /// The group that a location begins.
+    #[inline(always)]
     pub fn at(location: &Segment<'a>) -> Group<'a>
         ensures { found_view result ≡ found_at (numbered_view location.now) }
     {
@@ -278,6 +280,7 @@ impl<'a> Group<'a> {
     }
 
     /// The cell of the group.
+    #[inline(always)]
     pub fn cell(&self) -> Result<Cell, StowFault>
         ensures { result ≡ cell_at (found_view self.now).location }
     {
@@ -285,6 +288,7 @@ impl<'a> Group<'a> {
     }
 
     /// The identification of the group's container, which is empty where there is none.
+    #[inline(always)]
     pub fn id(&self) -> Result<ArrayVec<u8, 17>, StowFault>
         ensures { result ≡ id_of (found_view self.now).equipment }
     {
@@ -295,6 +299,7 @@ impl<'a> Group<'a> {
     }
 
     /// The group has a container or a mass.
+    #[inline(always)]
     pub fn names_a_container(&self) -> bool
         ensures { result ≡ names_a_container (found_view self.now) }
     {
@@ -303,6 +308,7 @@ impl<'a> Group<'a> {
 
     /// The item of the group's cell and identification, nothing where the group has neither a
     /// container nor a mass, or its first fault.
+    #[inline(always)]
     pub fn item(
         &self,
         cell: Cell,

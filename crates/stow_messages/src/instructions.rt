@@ -7,7 +7,7 @@ ghost use Rattle.stow_messages.specs.Lifts.{movement_instruction, with_lift_of};
 ghost use Rattle.stow_messages.specs.Views.{found_view, parts_left};
 
 use crate::faults::{StowCode, StowFault};
-use crate::groups::{Group, fault_at, has, put};
+use crate::groups::{Group, fault_at, has_qualifier, put};
 use crate::lifts::{Handling, Lift};
 use crate::parts::{Part, Parts};
 use arrayvec::ArrayVec;
@@ -22,9 +22,9 @@ const MAX_LIFTS: usize = 200_000;
 fn handling_at(segment: &Segment<'_>) -> Result<Handling, StowFault>
     ensures { result ≡ handling_at (numbered_view segment.now) }
 {
-    if has(segment, 1, 0, b"LOA") {
+    if has_qualifier(segment, b"LOA") {
         Ok(Handling::Loading)
-    } else if has(segment, 1, 0, b"DIS") {
+    } else if has_qualifier(segment, b"DIS") {
         Ok(Handling::Discharging)
     } else {
         Err(fault_at(StowCode::UnknownHandling, segment))

@@ -71,6 +71,7 @@ impl<'a> Parts<'a> {
 
     /// The group that a location begins. It is filled in place, and the segment that ends it is
     /// left.
+    #[inline(always)]
     fn group_at(&mut self, location: &Segment<'a>) -> Group<'a>
         requires { self.old.ahead ≡ None }
         ensures found { found_view result ≡ found_in (numbered_view location.now)
@@ -100,6 +101,7 @@ impl<'a> Iterator for Parts<'a> {
 
     ghost remaining = { item_count parts_left };
 
+    #[inline(always)]
     fn next(&mut self) -> Option<Part<'a>> {
         while let Some(segment) = self.next_segment() {
             match kind_of(&segment) {

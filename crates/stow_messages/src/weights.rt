@@ -101,6 +101,7 @@ fn is_above_zero(text: &[u8]) -> bool
 }
 
 /// The mass that a text of at most 35 bytes writes.
+#[inline(always)]
 fn kilograms_of(text: &[u8], mark: u8) -> Option<Kg>
     requires { length text.now ≤ 35 }
     ensures { result ≡ kg_of mark text.now }
