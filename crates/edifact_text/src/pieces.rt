@@ -22,6 +22,8 @@ pub(crate) fn is_release(release: Option<u8>, byte: u8) -> bool
 }
 
 /// The index of the first separator that cuts.
+#[cold]
+#[inline(never)]
 pub(crate) fn end_of(bytes: &[u8], release: Option<u8>, separator: u8) -> Option<usize>
     ensures value { result ≡ end_from release separator false bytes.now }
     ensures within { IfSome result (λ n. n < length bytes.now) }
@@ -33,6 +35,27 @@ pub(crate) fn end_of(bytes: &[u8], release: Option<u8>, separator: u8) -> Option
         } else if is_release(release, *byte) {
             held = true;
         } else if *byte == separator {
+            return Some(at);
+        }
+    }
+    None
+}
+
+/// The index of the first separator that cuts, where it is likely to be before any release
+/// character: up to that, no byte needs to be known to be released.
+#[inline(always)]
+fn end_nearby(bytes: &[u8], release: Option<u8>, separator: u8) -> Option<usize>
+    ensures value { result ≡ end_from release separator false bytes.now }
+    ensures within { IfSome result (λ n. n < length bytes.now) }
+{
+    for (at, byte) in bytes.iter().enumerate() {
+        if is_release(release, *byte) {
+            return match end_of(&bytes[at..], release, separator) {
+                Some(end) => Some(at + end),
+                None => None,
+            };
+        }
+        if *byte == separator {
             return Some(at);
         }
     }
@@ -146,7 +169,12 @@ pub(crate) fn cut(bytes: &[u8], release: Option<u8>, separator: u8) -> (&[u8], O
     ensures len { IfSome result.1
         (λ rest. length result.0.now + 1 + length rest.now ≡ length bytes.now) }
 {
-    parted(bytes, release, separator, end_of(bytes, release, separator))
+    parted(
+        bytes,
+        release,
+        separator,
+        end_nearby(bytes, release, separator),
+    )
 }
 
 /// Cuts as `cut` does, where the separator may be far off.
