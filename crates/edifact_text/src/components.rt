@@ -71,7 +71,8 @@ pub(crate) fn is_plain(bytes: &[u8], service: Service) -> bool
         [a, b, c, d, ..] if is_capital(*a) && is_capital(*b) && is_capital(*c) => {
             *d == service.element
         }
-        _ => is_seen_plain(bytes, service),
+        // It is passed a copy, so that the others need no place in memory.
+        _ => is_seen_plain(bytes, Service { ..service }),
     }
 }
 
