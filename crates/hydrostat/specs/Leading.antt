@@ -1,6 +1,6 @@
 -- Bookkeeping: the draught along a ship is a straight line, (base - step x) / divisor; and its
 -- numbers in whole units.
-use Rattle.std.specs.Prelude.{◌^◌, ◌≤◌, ℤ, pos, unsigned_abs, ◌+ℤ◌, ◌-ℤ◌, ◌*ℤ◌, ◌≤ℤ◌, ◌<ℤ◌}
+use Rattle.std.specs.Prelude.{◌^◌, ◌≤◌, ℤ, pos, neg_ℤ, unsigned_abs, ◌+ℤ◌, ◌-ℤ◌, ◌*ℤ◌, ◌≤ℤ◌, ◌<ℤ◌}
 use Rattle.hydrostat.specs.declared.particulars.Afloat.{Afloat}
 
 abbrev pub trim_top : Afloat → ℤ
@@ -26,10 +26,22 @@ pub record IsLedBy (unit base step divisor : ℤ) (a : Afloat) : Type 0 where
   pub is_step : IsInUnits step unit (line_step a)
   pub is_divisor : IsInUnits divisor unit (line_divisor a)
 
+-- a guess of number / divisor in parts of 2^40, at most so many parts off
+pub record IsNear (guess number divisor most : ℤ) : Type 0 where
+  pub low : neg_ℤ (most *ℤ divisor) ≤ℤ ((guess *ℤ divisor) -ℤ (number *ℤ pos (2 ^ 40)))
+  pub high : ((guess *ℤ divisor) -ℤ (number *ℤ pos (2 ^ 40))) ≤ℤ (most *ℤ divisor)
+
+-- the line in parts of 2^40, about start - slope x
+pub record IsScaled (start slope base step divisor : ℤ) : Type 0 where
+  pub start_within : unsigned_abs start ≤ 2 ^ 58
+  pub slope_within : unsigned_abs slope ≤ 2 ^ 38
+  pub divisor_low : pos (2 ^ 39) ≤ℤ divisor
+  pub is_start : IsNear start base divisor (pos 128)
+  pub is_slope : IsNear slope step divisor (pos 2)
+
 -- q is the whole part of top / divisor, and so far from the whole numbers on both sides that
 -- rounding to units, of the base and of a million times the step and the divisor, changes nothing
 pub record IsSure (q top divisor : ℤ) : Type 0 where
-  pub low : pos 0 ≤ℤ q
   pub within : unsigned_abs q ≤ 10 ^ 6
   pub above : pos 2000002 ≤ℤ (top -ℤ (q *ℤ divisor))
   pub below : ((top -ℤ (q *ℤ divisor)) +ℤ pos 2000002) ≤ℤ divisor

@@ -1,33 +1,36 @@
 ghost use Rattle.std.specs.Prelude.{◌≡◌, ◌*◌, ◌^◌, ◌<◌, ◌≤◌, pos, ◌+ℤ◌, ◌-ℤ◌, ◌*ℤ◌, ◌≤ℤ◌, ◌<ℤ◌};
-ghost use Rattle.std.specs.Prelude.{unsigned_abs, true, IfSome};
+ghost use Rattle.std.specs.Prelude.{neg_ℤ, unsigned_abs, true, IfSome};
 ghost use Rattle.std.specs.Option.{ForSome};
 ghost use Rattle.units_core.specs.Ratio.{floor_of};
 ghost use Rattle.hydrostat.specs.Floating.{draught_at, load, water};
-ghost use Rattle.hydrostat.specs.Leading.{IsInUnits, IsLedBy, IsSure, line_step};
+ghost use Rattle.hydrostat.specs.Leading.{IsInUnits, IsLedBy, IsNear, IsScaled, IsSure, line_step};
 
 use crate::draughts::{draught, draught_by};
 use crate::numerators::trim_top;
 use crate::particulars::Afloat;
-use units_core::{Mm, floor, is_rest, reciprocal_near, upper_half};
+use std::num::{nearest_i64_to_f64, saturating_f64_to_i64};
+use units_core::{Mm, floor, is_rest};
 
-/// Upper bound, in units, on the total rounding error of base, 10^6 * step and 10^6 * divisor.
-const SLACK: i64 = 2_000_002;
+/// The parts of a millimetre in which draughts are read along the line.
+const PARTS: i64 = 1 << 40;
+
+/// How many parts a draught has to be away from the whole numbers on both sides to be sure: at
+/// least 2,000,002 units, of at most 2 parts, by which rounding to units can change it, and
+/// 2,000,128 parts, by which rounding to parts can.
+const MARGIN: i64 = 6_000_132;
 
 /// The draught along a ship, (base - step x) / divisor, each of base, step and divisor in 64 bits:
-/// in whole units, rounded down.
+/// in whole units, rounded down. The same line is kept in parts of a millimetre, about start -
+/// slope x, so that reading it takes one product and no division.
 #[derive(Clone, Copy)]
 struct Leading {
     unit: i128,
     base: i64,
     step: i64,
     divisor: i64,
-    /// About 2^64 over the divisor. Quotients are guessed by it, and then tested: any number would
-    /// do.
-    reciprocal: u64,
-    ghost base_within: { unsigned_abs base ≤ 2 ^ 61 },
-    ghost step_within: { unsigned_abs step ≤ 2 ^ 40 },
-    ghost divisor_low: { pos 0 ≤ℤ divisor },
-    ghost divisor_within: { unsigned_abs divisor ≤ 2 ^ 41 },
+    start: i64,
+    slope: i64,
+    ghost scaled: { IsScaled start slope base step divisor },
 }
 
 /// The draughts along a ship afloat, for many places one after another.
@@ -68,23 +71,88 @@ fn step_by(a: &Afloat, trim: i128) -> i128
     trim * a.gap
 }
 
-/// The numbers of 64 bits, where they are so small that their products fit too.
+/// A product, which takes more than 64 bits.
+#[inline(always)]
+fn product(a: i64, b: i64) -> i128
+    ensures value { result ≡ a *ℤ b }
+    ensures within { unsigned_abs result ≤ 2 ^ 126 }
+{
+    i128::from(a) * i128::from(b)
+}
+
+/// A number in parts.
+#[inline(always)]
+fn in_parts(number: i64) -> i128
+    ensures value { result ≡ number *ℤ pos (2 ^ 40) }
+    ensures within { unsigned_abs result ≤ 2 ^ 103 }
+{
+    i128::from(number) * i128::from(PARTS)
+}
+
+/// A difference.
+#[inline(always)]
+fn minus(one: i128, other: i128) -> i128
+    requires one { unsigned_abs one ≤ 2 ^ 126 }
+    requires other { unsigned_abs other ≤ 2 ^ 103 }
+    ensures { result ≡ one -ℤ other }
+{
+    one - other
+}
+
+/// By how much a guess of a quotient in parts, times the divisor, is too great.
+#[inline(always)]
+fn error_of(guess: i64, number: i64, divisor: i64) -> i128
+    ensures { result ≡ (guess *ℤ divisor) -ℤ (number *ℤ pos (2 ^ 40)) }
+{
+    minus(product(guess, divisor), in_parts(number))
+}
+
+/// Whether a number is within a bound either way.
+#[inline(always)]
+fn is_either_way(error: i128, bound: i128) -> bool
+    requires { unsigned_abs bound ≤ 2 ^ 126 }
+    ensures low { result ≡ true → neg_ℤ bound ≤ℤ error }
+    ensures high { result ≡ true → error ≤ℤ bound }
+{
+    if error < -bound {
+        return false;
+    }
+    error <= bound
+}
+
+/// Whether a guess of a quotient in parts is at most so many parts off.
+#[inline(always)]
+fn is_near(guess: i64, number: i64, divisor: i64, most: i64) -> bool
+    ensures { result ≡ true → IsNear guess number divisor most }
+{
+    is_either_way(error_of(guess, number, divisor), product(most, divisor))
+}
+
+/// The numbers of 64 bits, with the line in parts: it is guessed in floating point and then tested.
+/// `None` where the numbers are too great, or where the guess is too far off.
 fn fitted(unit: i128, base: i64, step: i64, divisor: i64) -> Option<Leading>
     ensures unit { IfSome result (λ l. l.unit ≡ unit) }
     ensures base { IfSome result (λ l. l.base ≡ base) }
     ensures step { IfSome result (λ l. l.step ≡ step) }
     ensures divisor { IfSome result (λ l. l.divisor ≡ divisor) }
 {
-    if base.unsigned_abs() > 1 << 61 {
+    if divisor < 1 << 39 {
         return None;
     }
-    if step.unsigned_abs() > 1 << 40 {
+    // 2^40
+    let parts = 1_099_511_627_776.0 / nearest_i64_to_f64(divisor);
+    let start = saturating_f64_to_i64(nearest_i64_to_f64(base) * parts);
+    let slope = saturating_f64_to_i64(nearest_i64_to_f64(step) * parts);
+    if start.unsigned_abs() > 1 << 58 {
         return None;
     }
-    if divisor <= 0 {
+    if slope.unsigned_abs() > 1 << 38 {
         return None;
     }
-    if divisor > 1 << 41 {
+    if !is_near(start, base, divisor, 128) {
+        return None;
+    }
+    if !is_near(slope, step, divisor, 2) {
         return None;
     }
     Some(Leading {
@@ -92,7 +160,8 @@ fn fitted(unit: i128, base: i64, step: i64, divisor: i64) -> Option<Leading>
         base,
         step,
         divisor,
-        reciprocal: reciprocal_near(divisor),
+        start,
+        slope,
     })
 }
 
@@ -114,67 +183,60 @@ fn leading_of(a: &Afloat) -> Option<Leading>
     Some(leading)
 }
 
-/// The numerator at `x`, in units.
+/// The draught at `x`, in parts.
 #[inline(always)]
-fn top_at(base: i64, step: i64, x: i64) -> i64
-    requires base { unsigned_abs base ≤ 2 ^ 61 }
-    requires step { unsigned_abs step ≤ 2 ^ 40 }
+fn parts_at(start: i64, slope: i64, x: i64) -> i64
+    requires start { unsigned_abs start ≤ 2 ^ 58 }
+    requires slope { unsigned_abs slope ≤ 2 ^ 38 }
     requires x { unsigned_abs x ≤ 10 ^ 6 }
-    ensures value { result ≡ base -ℤ (step *ℤ x) }
-    ensures within { unsigned_abs result ≤ 2 ^ 62 }
+    ensures value { result ≡ start -ℤ (slope *ℤ x) }
+    ensures within { unsigned_abs result ≤ 2 ^ 59 }
 {
-    base - step * x
+    start - slope * x
 }
 
-/// The remainder of a numerator over a quotient.
+/// The whole millimetres of a draught in parts.
 #[inline(always)]
-fn rest_of(top: i64, quotient: i64, divisor: i64) -> i64
-    requires top { unsigned_abs top ≤ 2 ^ 62 }
-    requires quotient { unsigned_abs quotient ≤ 10 ^ 6 }
-    requires divisor { unsigned_abs divisor ≤ 2 ^ 41 }
-    ensures { result ≡ top -ℤ (quotient *ℤ divisor) }
+fn whole(parts: i64) -> i64
+    requires { unsigned_abs parts ≤ 2 ^ 59 }
+    ensures { unsigned_abs result ≤ 10 ^ 6 }
 {
-    top - quotient * divisor
+    parts >> 40
 }
 
-/// A number up to a million.
+/// What a draught in parts leaves over whole millimetres.
 #[inline(always)]
-fn signed(n: u64) -> i64
-    requires { n ≤ 10 ^ 6 }
-    ensures value { result ≡ pos n }
-    ensures within { unsigned_abs result ≤ 10 ^ 6 }
+fn rest_of(parts: i64, whole: i64) -> i64
+    requires parts { unsigned_abs parts ≤ 2 ^ 59 }
+    requires whole { unsigned_abs whole ≤ 10 ^ 6 }
+    ensures { result ≡ parts -ℤ (whole *ℤ pos (2 ^ 40)) }
 {
-    n as i64
+    parts - whole * PARTS
 }
 
-/// Whether the remainder of a quotient is far from 0 and from the divisor.
+/// Whether what whole millimetres leave is far from 0 and from one more.
 #[inline(always)]
-fn is_sure(rest: i64, divisor: i64) -> bool
-    requires { unsigned_abs divisor ≤ 2 ^ 41 }
-    ensures low { result ≡ true → pos 2000002 ≤ℤ rest }
-    ensures high { result ≡ true → (rest +ℤ pos 2000002) ≤ℤ divisor }
+fn is_sure(rest: i64) -> bool
+    ensures low { result ≡ true → pos 6000132 ≤ℤ rest }
+    ensures high { result ≡ true → (rest +ℤ pos 6000132) ≤ℤ pos (2 ^ 40) }
 {
-    if rest < SLACK {
+    if rest < MARGIN {
         return false;
     }
-    rest <= divisor - SLACK
+    rest <= PARTS - MARGIN
 }
 
 impl Leading {
-    /// The draught at `x`, rounded down, where the units leave no doubt.
+    /// The draught at `x`, rounded down, where the parts leave no doubt.
     #[inline(always)]
     fn draught_down(&self, x: i64) -> Option<i64>
         requires { unsigned_abs x ≤ 10 ^ 6 }
         ensures { IfSome result
             (λ q. IsSure q (self.now.base -ℤ (self.now.step *ℤ x)) self.now.divisor) }
     {
-        let top = top_at(self.base, self.step, x);
-        let quotient = upper_half(top.unsigned_abs(), self.reciprocal);
-        if quotient > 1_000_000 {
-            return None;
-        }
-        let draught = signed(quotient);
-        if is_sure(rest_of(top, draught, self.divisor), self.divisor) {
+        let parts = parts_at(self.start, self.slope, x);
+        let draught = whole(parts);
+        if is_sure(rest_of(parts, draught)) {
             return Some(draught);
         }
         None
