@@ -1,5 +1,5 @@
-ghost use Rattle.std.specs.Prelude.{◌≡◌, ℕ, pos, ◌+ℤ◌, ◌-ℤ◌, ◌*ℤ◌, ◌+◌, ◌*◌, ◌^◌, ◌<◌, ◌≤◌, ◌≤ℤ◌};
-ghost use Rattle.std.specs.Prelude.{◌<ℤ◌, true, unsigned_abs, length};
+ghost use Rattle.std.specs.Prelude.{◌≡◌, ℕ, pos, ◌+ℤ◌, ◌-ℤ◌, ◌*ℤ◌, ◌+◌, ◌*◌, ◌/◌, ◌^◌, ◌<◌, ◌≤◌};
+ghost use Rattle.std.specs.Prelude.{◌≤ℤ◌, ◌<ℤ◌, true, unsigned_abs, length};
 ghost use Rattle.std.specs.Int.{int_div_euclid};
 ghost use Rattle.units_core.specs.Interpolation.{at, IsWithin};
 ghost use Rattle.strength.specs.Buoyancy.{IsBuoyancy, IsMoment, arm_top, force_top, tops};
@@ -142,17 +142,60 @@ fn divided(top: i128) -> i128
     top.div_euclid(PARTS)
 }
 
-/// 41 times the moment about `f`, of twice a volume and of six times its moment about the after
+/// A 2,400,000th of 41 times a number, rounded down. Its whole 2,400,000s and the rest are taken
+/// apart, so that all products fit 64 bits.
+#[inline(always)]
+fn short_moment(top: u64) -> u64
+    ensures value { result ≡ top * 41 / 2400000 }
+    ensures within { result ≤ 2 ^ 60 }
+{
+    let rest = top % 2_400_000;
+    top / 2_400_000 * 41 + rest * 41 / 2_400_000
+}
+
+/// 41 times a number.
+#[inline(always)]
+fn times_41(top: i128) -> i128
+    requires { unsigned_abs top ≤ 10 ^ 24 }
+    ensures value { result ≡ top *ℤ pos 41 }
+    ensures within { unsigned_abs result ≤ 10 ^ 26 }
+{
+    top * 41
+}
+
+/// The same of a number that is below 0 or doesn't fit 64 bits, which is rare.
+#[cold]
+#[inline(never)]
+fn long_moment(top: i128) -> i128
+    requires { unsigned_abs top ≤ 10 ^ 24 }
+    ensures { result ≡ int_div_euclid (top *ℤ pos 41) (pos 2400000) }
+{
+    divided(times_41(top))
+}
+
+/// A 2,400,000th of 41 times a number, rounded down.
+#[inline(always)]
+fn moment_of(top: i128) -> i128
+    requires { unsigned_abs top ≤ 10 ^ 24 }
+    ensures { result ≡ int_div_euclid (top *ℤ pos 41) (pos 2400000) }
+{
+    match u64::try_from(top) {
+        Ok(top) => i128::from(short_moment(top)),
+        Err(_) => long_moment(top),
+    }
+}
+
+/// The moment about `f`, of twice a volume and of six times its moment about the after
 /// perpendicular.
 #[inline(always)]
 fn moment_top(f: i64, volume: i64, arm: i128) -> i128
     requires f_near { unsigned_abs f ≤ 10 ^ 6 }
     requires within { unsigned_abs volume ≤ 3 * 10 ^ 16 }
     requires arm_within { unsigned_abs arm ≤ 10 ^ 23 }
-    ensures value { result ≡ (((pos 3 *ℤ f) *ℤ volume) -ℤ arm) *ℤ pos 41 }
-    ensures size { unsigned_abs result ≤ 10 ^ 25 }
+    ensures value { result ≡ ((pos 3 *ℤ f) *ℤ volume) -ℤ arm }
+    ensures size { unsigned_abs result ≤ 10 ^ 24 }
 {
-    (product(3 * f, volume) - arm) * 41
+    product(3 * f, volume) - arm
 }
 
 /// The moment of buoyancy about `f` in kg mm, rounded down, of twice a volume and of six times its
@@ -165,5 +208,5 @@ pub fn buoyancy_moment(f: i64, volume: i64, arm: i128) -> i128
     ensures size { unsigned_abs result ≤ 10 ^ 27 }
 {
     // 1025 / 60,000,000 is 41 / 2,400,000.
-    divided(moment_top(f, volume, arm))
+    moment_of(moment_top(f, volume, arm))
 }
