@@ -1,43 +1,57 @@
-ghost use Rattle.std.specs.Prelude.{◌≡◌, ◌/◌, ◌<◌, ◌≤◌, ◌^◌, IfSome};
+ghost use Rattle.std.specs.Prelude.{◌≡◌, ◌*◌, ◌/◌, ◌<◌, ◌≤◌, ◌^◌, true};
+ghost use Rattle.strength.specs.Reciprocal.{IsReciprocal};
 
 use units_core::upper_half;
 
-/// 2^64 over a divisor, rounded up, so that a quotient without a rest is guessed right; 0 of 1,
-/// where the guess is never right.
-#[inline(always)]
-pub fn reciprocal_of(by: u64) -> u64
-    requires { 0 < by }
-{
-    (u64::MAX / by).wrapping_add(1)
-}
+/// 2^63.
+const WHOLE: u64 = 1 << 63;
 
-/// A quotient rounded down, where it is guessed right: it is tested.
-#[inline(always)]
-pub fn guessed(n: u64, by: u64, reciprocal: u64) -> Option<u64>
-    requires { by ≤ 10 ^ 9 }
-    ensures { IfSome result (λ q. q ≡ n / by) }
-{
-    let guess = upper_half(n, reciprocal);
-    if guess > 100_000_000 {
-        return None;
-    }
-    let product = guess * by;
-    if product > n {
-        return None;
-    }
-    if n - product < by {
-        return Some(guess);
-    }
-    None
-}
-
-/// A quotient rounded down, and the reciprocal by which the next one is guessed.
+/// 2^63 over a divisor, rounded up.
 #[cold]
 #[inline(never)]
-pub fn divided(n: u64, by: u64, reciprocal: &mut u64) -> u64
-    requires { 0 < by }
+fn reciprocal_of(by: u64) -> u64
+    requires low { 0 < by }
+    requires high { by ≤ 200000 }
+    ensures { IsReciprocal result by }
+{
+    (WHOLE - 1) / by + 1
+}
+
+/// Whether a number is 2^63 over a divisor, rounded up.
+#[inline(always)]
+fn is_reciprocal(reciprocal: u64, by: u64) -> bool
+    ensures { result ≡ true → IsReciprocal reciprocal by }
+{
+    let product = u128::from(reciprocal) * u128::from(by);
+    if product < u128::from(WHOLE) {
+        return false;
+    }
+    product - u128::from(WHOLE) < u128::from(by)
+}
+
+/// 2^63 over a divisor, rounded up. `known` is that number where the divisor is the one it was made
+/// for, and is tested; it may be any.
+#[inline(always)]
+pub fn reciprocal_by(known: u64, by: u64) -> u64
+    requires low { 0 < by }
+    requires high { by ≤ 200000 }
+    ensures { IsReciprocal result by }
+{
+    if is_reciprocal(known, by) {
+        return known;
+    }
+    reciprocal_of(by)
+}
+
+/// A quotient rounded down. The reciprocal of the divisor is rounded up, so that the product needs
+/// no test: what it has too much is less than a whole number.
+#[inline(always)]
+pub fn quotient(n: u64, by: u64, reciprocal: u64) -> u64
+    requires some { 0 < by }
+    requires by { by ≤ 200000 }
+    requires within { n ≤ 20000000000000 }
+    requires right { IsReciprocal reciprocal by }
     ensures { result ≡ n / by }
 {
-    *reciprocal = reciprocal_of(by);
-    n / by
+    upper_half(2 * n, reciprocal)
 }

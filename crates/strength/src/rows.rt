@@ -1,13 +1,15 @@
-ghost use Rattle.std.specs.Prelude.{◌≡◌, ℕ, ◌+◌, ◌^◌, ◌<◌, ◌≤◌, pos, ◌≤ℤ◌, ◌<ℤ◌, true, false, None};
-ghost use Rattle.std.specs.Prelude.{Some, IfSome, length, unsigned_abs};
+ghost use Rattle.std.specs.Prelude.{◌≡◌, ℕ, ◌+◌, ◌^◌, ◌<◌, ◌≤◌, pos, ◌-ℤ◌, ◌≤ℤ◌, ◌<ℤ◌, true, false};
+ghost use Rattle.std.specs.Prelude.{None, Some, IfSome, length, unsigned_abs};
 ghost use Rattle.units_core.specs.Interpolation.{at, interval, reading, Encloses, IsRising};
 ghost use Rattle.units_core.specs.Interpolation.{IsWithin};
 ghost use Rattle.units_core.specs.Ratio.{floor_of};
 ghost use Rattle.ship_tables.specs.Record.{IsBonjeanTable};
 ghost use Rattle.strength.specs.Immersed.{area_in};
+ghost use Rattle.strength.specs.Reciprocal.{IsReciprocal};
 ghost use Rattle.strength.specs.Rows.{IsRowOf};
 
 use crate::area::on_line;
+use crate::quotients::reciprocal_by;
 use ship_tables::Curves;
 use units_core::enclosing_near;
 
@@ -84,12 +86,40 @@ fn other_row(arguments: &[i128], x: i64, near: &mut usize) -> Option<usize>
     enclosing_near(arguments, i128::from(x), near)
 }
 
+/// The length of a row.
+#[inline(always)]
+pub fn length_of(lower: i64, upper: i64) -> u64
+    requires rises { lower <ℤ upper }
+    requires lower { unsigned_abs lower ≤ 10 ^ 5 }
+    requires upper { unsigned_abs upper ≤ 10 ^ 5 }
+    ensures value { result ≡ unsigned_abs (upper -ℤ lower) }
+    ensures some { 0 < result }
+    ensures within { result ≤ 200000 }
+{
+    (upper - lower) as u64
+}
+
+/// The reciprocal of a row's length; `known` may be it.
+#[inline(always)]
+pub fn reciprocal_in(arguments: &[i128], row: usize, known: u64) -> u64
+    requires rises { IsRising arguments.now }
+    requires within { IsWithin (10 ^ 5) arguments.now }
+    requires inside { row + 1 < length arguments.now }
+    ensures { IsReciprocal result
+        (unsigned_abs (at arguments.now (row + 1) -ℤ at arguments.now row)) }
+{
+    reciprocal_by(
+        known,
+        length_of(place(arguments[row]), place(arguments[row + 1])),
+    )
+}
+
 /// How many reciprocals are kept. Rows whose numbers differ by a multiple of it share one.
 const RECIPROCALS: usize = 32;
 
-/// The row of the Bonjean table in which the last draught was found, and its ends; and about 2^64
-/// over its length, and over those of the rows in which one was found before, by which quotients
-/// are guessed. Answers don't depend on them.
+/// The row of the Bonjean table in which the last draught was found, its ends, and the reciprocal
+/// of its length. Of the rows in which one was found before the reciprocals are kept; they may be
+/// any, since each is tested when its row is taken again.
 #[derive(Clone, Copy, Default)]
 pub struct BonjeanRow {
     row: usize,
@@ -113,8 +143,10 @@ impl BonjeanRow {
     /// Makes the row that of this table, the first one where the table has no such row.
     pub fn of(&mut self, arguments: &[i128])
         requires rows { 2 ≤ length arguments.now }
+        requires rises { IsRising arguments.now }
         requires within { IsWithin (10 ^ 5) arguments.now }
-        ensures { IsRowOf arguments.now self.new.row self.new.lower self.new.upper }
+        ensures { IsRowOf arguments.now self.new.row self.new.lower self.new.upper
+            self.new.reciprocal }
     {
         let row = if self.row < arguments.len() - 1 {
             self.row
@@ -124,6 +156,7 @@ impl BonjeanRow {
         self.row = row;
         self.lower = place(arguments[row]);
         self.upper = place(arguments[row + 1]);
+        self.reciprocal = reciprocal_in(arguments, row, self.reciprocal);
     }
 
     /// The number of the row.
@@ -157,7 +190,8 @@ impl BonjeanRow {
     #[inline(always)]
     fn holds(&self, arguments: &[i128], x: i64) -> bool
         requires rises { IsRising arguments.now }
-        requires row { IsRowOf arguments.now self.now.row self.now.lower self.now.upper }
+        requires row { IsRowOf arguments.now self.now.row self.now.lower self.now.upper
+            self.now.reciprocal }
         ensures which { result ≡ true → interval arguments.now x ≡ Some self.now.row }
         ensures from { result ≡ true → self.now.lower ≤ℤ x }
         ensures to { result ≡ true → x ≤ℤ self.now.upper }
@@ -172,8 +206,10 @@ impl BonjeanRow {
         requires rows { 2 ≤ length arguments.now }
         requires rises { IsRising arguments.now }
         requires within { IsWithin (10 ^ 5) arguments.now }
-        requires row { IsRowOf arguments.now self.now.row self.now.lower self.now.upper }
-        ensures row { IsRowOf arguments.now self.new.row self.new.lower self.new.upper }
+        requires row { IsRowOf arguments.now self.now.row self.now.lower self.now.upper
+            self.now.reciprocal }
+        ensures row { IsRowOf arguments.now self.new.row self.new.lower self.new.upper
+            self.new.reciprocal }
         ensures which { result ≡ true → interval arguments.now x ≡ Some self.new.row }
         ensures from { result ≡ true → self.new.lower ≤ℤ x }
         ensures to { result ≡ true → x ≤ℤ self.new.upper }
@@ -186,6 +222,7 @@ impl BonjeanRow {
                 self.row = row;
                 self.lower = place(arguments[row]);
                 self.upper = place(arguments[row + 1]);
+                self.reciprocal = reciprocal_in(arguments, row, self.reciprocal);
                 true
             }
             None => false,
@@ -198,8 +235,10 @@ impl BonjeanRow {
         requires rows { 2 ≤ length arguments.now }
         requires rises { IsRising arguments.now }
         requires within { IsWithin (10 ^ 5) arguments.now }
-        requires row { IsRowOf arguments.now self.now.row self.now.lower self.now.upper }
-        ensures row { IsRowOf arguments.now self.new.row self.new.lower self.new.upper }
+        requires row { IsRowOf arguments.now self.now.row self.now.lower self.now.upper
+            self.now.reciprocal }
+        ensures row { IsRowOf arguments.now self.new.row self.new.lower self.new.upper
+            self.new.reciprocal }
         ensures which { result ≡ true → interval arguments.now x ≡ Some self.new.row }
         ensures from { result ≡ true → self.new.lower ≤ℤ x }
         ensures to { result ≡ true → x ≤ℤ self.new.upper }
@@ -214,23 +253,22 @@ impl BonjeanRow {
     /// The reading of a curve of numbers from 0 to 10^8 at `x`, which lies in this row, rounded
     /// down.
     #[inline(always)]
-    fn read(&mut self, arguments: &[i128], ys: &[i128], x: i64) -> i64
+    fn read(&self, arguments: &[i128], ys: &[i128], x: i64) -> i64
         requires rises { IsRising arguments.now }
         requires rows { length ys.now ≡ length arguments.now }
-        requires row { IsRowOf arguments.now self.now.row self.now.lower self.now.upper }
+        requires row { IsRowOf arguments.now self.now.row self.now.lower self.now.upper
+            self.now.reciprocal }
         requires within { IsWithin (10 ^ 5) arguments.now }
         requires from { self.now.lower ≤ℤ x }
         requires to { x ≤ℤ self.now.upper }
         requires least { (k : ℕ) → k < length ys.now → pos 0 ≤ℤ at ys.now k }
         requires ys_within { IsWithin (10 ^ 8) ys.now }
-        ensures row { IsRowOf arguments.now self.new.row self.new.lower self.new.upper }
-        ensures value { result ≡ floor_of (reading arguments.now ys.now self.old.row x) }
+        ensures value { result ≡ floor_of (reading arguments.now ys.now self.now.row x) }
         ensures within { unsigned_abs result ≤ 10 ^ 8 }
     {
         let lower = short(ys[self.row]);
         let upper = short(ys[self.row + 1]);
-        let reciprocal = &mut self.reciprocal;
-        on_line(self.lower, lower, self.upper, upper, x, reciprocal)
+        on_line(self.lower, lower, self.upper, upper, x, self.reciprocal)
     }
 
     /// The area of a Bonjean curve at a draught, rounded down; `None` outside of the table.
@@ -238,8 +276,10 @@ impl BonjeanRow {
     pub fn area(&mut self, curves: &Curves, number: usize, draught: i64) -> Option<i64>
         requires table { IsBonjeanTable curves.now }
         requires there { number < length curves.now.columns }
-        requires row { IsRowOf curves.now.arguments self.now.row self.now.lower self.now.upper }
-        ensures row { IsRowOf curves.now.arguments self.new.row self.new.lower self.new.upper }
+        requires row { IsRowOf curves.now.arguments self.now.row self.now.lower self.now.upper
+            self.now.reciprocal }
+        ensures row { IsRowOf curves.now.arguments self.new.row self.new.lower self.new.upper
+            self.new.reciprocal }
         ensures value { result ≡ area_in curves.now number draught }
         ensures within { IfSome result (λ a. unsigned_abs a ≤ 10 ^ 8) }
     {
