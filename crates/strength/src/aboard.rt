@@ -23,6 +23,7 @@ use ship_profile::Profile;
 /// lies outside of the Bonjean table, and the loads may then be any. They are written where they
 /// are, since a move of them is a copy of 500 bytes. Each draught is looked for first in the row of
 /// the one before, and the first of all in the row that `walk` keeps from the last condition.
+#[inline(never)]
 pub fn strains_into(
     profile: &Profile,
     hull: &Hull,
