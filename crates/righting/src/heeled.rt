@@ -1,10 +1,63 @@
-ghost use Rattle.std.specs.Prelude.{◌≡◌, ◌*◌, ◌^◌, ◌≤◌, pos, ◌-ℤ◌, ◌*ℤ◌, unsigned_abs};
+ghost use Rattle.std.specs.Prelude.{◌≡◌, ℕ, ◌*◌, ◌^◌, ◌≤◌, pos, ◌-ℤ◌, ◌*ℤ◌, unsigned_abs};
 ghost use Rattle.righting.specs.Aboard.{lever_by};
 ghost use Rattle.righting.specs.Levers.{AreOrdinates};
 
 use crate::angles::angle_at;
 use crate::ordinates::{Crossing, Levers};
 use units_core::{cosine, sine};
+
+/// A number in 64 bits.
+#[inline(always)]
+fn short(number: i128) -> i64
+    requires { unsigned_abs number ≤ 2 * 10 ^ 15 }
+    ensures { result ≡ number }
+{
+    number as i64
+}
+
+/// A product that fits 64 bits.
+#[inline(always)]
+fn short_product(a: i64, b: i64) -> i64
+    requires one { unsigned_abs a ≤ 10 ^ 9 }
+    requires other { unsigned_abs b ≤ 10 ^ 6 }
+    ensures { result ≡ a *ℤ b }
+{
+    a * b
+}
+
+/// A product that takes more than 64 bits.
+#[inline(always)]
+fn product(a: i64, b: i64) -> i128
+    ensures { result ≡ a *ℤ b }
+{
+    i128::from(a) * i128::from(b)
+}
+
+/// A moment or lever times a weight times millionths. The two smaller ones go first, so that no
+/// product is of numbers of more than 64 bits.
+#[inline(always)]
+fn triple(a: i128, b: i128, d: i128) -> i128
+    requires a { unsigned_abs a ≤ 2 * 10 ^ 15 }
+    requires b { unsigned_abs b ≤ 10 ^ 9 }
+    requires d { unsigned_abs d ≤ 10 ^ 6 }
+    ensures value { result ≡ (a *ℤ b) *ℤ d }
+    ensures size { (m n : ℕ) → unsigned_abs a ≤ m → unsigned_abs b ≤ n
+        → unsigned_abs result ≤ m * n * 10 ^ 6 }
+{
+    product(short(a), short_product(short(b), short(d)))
+}
+
+/// What is left of a lever after two others are taken away.
+#[inline(always)]
+fn less_both(whole: i128, one: i128, other: i128) -> i128
+    requires whole { unsigned_abs whole ≤ 10 ^ 29 }
+    requires one { unsigned_abs one ≤ 2 * 10 ^ 29 }
+    requires other { unsigned_abs other ≤ 10 ^ 29 }
+    ensures value { result ≡ (whole -ℤ one) -ℤ other }
+    ensures size { unsigned_abs result ≤ 10 ^ 30 }
+{
+    whole - one - other
+}
 
 /// One righting lever, to be divided by the gap, the weight and a million.
 fn lever(
@@ -27,7 +80,10 @@ fn lever(
         ((aside *ℤ gap) *ℤ cosine) }
     ensures size { unsigned_abs result ≤ 10 ^ 30 }
 {
-    kn * weight * 1_000_000 - upright * gap * sine - aside * gap * cosine
+    let crossing = triple(kn, weight, 1_000_000);
+    let rise = triple(upright, gap, sine);
+    let shift = triple(aside, gap, cosine);
+    less_both(crossing, rise, shift)
 }
 
 /// A moment about the middle line without its side: the ship heels to the side where her centre of
