@@ -1,9 +1,7 @@
-ghost use Rattle.std.specs.Prelude.{◌≡◌, ℕ, ◌+◌, ◌*◌, ◌^◌, ◌<◌, ◌≤◌, pos, ◌-ℤ◌, ◌≤ℤ◌, ◌<ℤ◌};
-ghost use Rattle.std.specs.Prelude.{unsigned_abs, true, length, MatchOption};
+ghost use Rattle.std.specs.Prelude.{◌≡◌, ℕ, ◌+◌, ◌*◌, ◌^◌, ◌<◌, ◌≤◌, pos, ◌+ℤ◌, ◌-ℤ◌, ◌*ℤ◌, ◌≤ℤ◌};
+ghost use Rattle.std.specs.Prelude.{◌<ℤ◌, unsigned_abs, true, length, MatchOption};
 ghost use Rattle.units_core.specs.Interpolation.{at, interval, reading, Encloses, IsOutside};
 ghost use Rattle.units_core.specs.Interpolation.{IsPositive, IsRising, IsWithin};
-
-use crate::fractions::interp;
 
 /// The number of the table's interval in which `x` lies, by the column of its arguments, which
 /// rise; `None` outside of the table. An argument that ends one interval and begins the next
@@ -72,6 +70,31 @@ pub fn enclosing_near(arguments: &[i128], x: i128, near: &mut usize) -> Option<u
     found
 }
 
+/// A number of a table in 64 bits.
+#[inline(always)]
+fn short(number: i128) -> i64
+    requires { unsigned_abs number ≤ 10 ^ 9 }
+    ensures value { result ≡ number }
+    ensures within { unsigned_abs result ≤ 10 ^ 9 }
+{
+    number as i64
+}
+
+/// The value at `x` on the straight line through `(x0, y0)` and `(x1, y1)`, as the number whose
+/// quotient by `x1 - x0` it is, as [`interp`](crate::interp) gives it. Its terms fit 64 bits.
+#[inline(always)]
+fn line_top(x: i64, x0: i64, y0: i64, x1: i64, y1: i64) -> i64
+    requires from { x0 ≤ℤ x }
+    requires to { x ≤ℤ x1 }
+    requires x0_small { unsigned_abs x0 ≤ 10 ^ 9 }
+    requires x1_small { unsigned_abs x1 ≤ 10 ^ 9 }
+    requires y0_small { unsigned_abs y0 ≤ 10 ^ 9 }
+    requires y1_small { unsigned_abs y1 ≤ 10 ^ 9 }
+    ensures { result ≡ (y0 *ℤ (x1 -ℤ x)) +ℤ (y1 *ℤ (x -ℤ x0)) }
+{
+    y0 * (x1 - x) + y1 * (x - x0)
+}
+
 /// The reading of a column at `x`, which lies in the interval `i`, as the number whose quotient by
 /// the interval's length it is ([`gap`]): so the readings of a row have one divisor.
 pub fn read(arguments: &[i128], column: &[i128], i: usize, x: i128) -> i128
@@ -85,7 +108,13 @@ pub fn read(arguments: &[i128], column: &[i128], i: usize, x: i128) -> i128
         → unsigned_abs result ≤ m * unsigned_abs (at arguments.now (i + 1) -ℤ at arguments.now i) }
     ensures low { IsPositive column.now → pos 1 ≤ℤ result }
 {
-    interp(x, arguments[i], column[i], arguments[i + 1], column[i + 1]).num
+    i128::from(line_top(
+        short(x),
+        short(arguments[i]),
+        short(column[i]),
+        short(arguments[i + 1]),
+        short(column[i + 1]),
+    ))
 }
 
 /// The length of the interval `i`.
