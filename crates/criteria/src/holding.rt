@@ -14,22 +14,6 @@ use ship_profile::Profile;
 use strength::Strains;
 use units_core::Frac;
 
-/// The criteria in their order.
-const CRITERIA: [Criterion; 12] = [
-    Criterion::C0,
-    Criterion::C1,
-    Criterion::C2,
-    Criterion::C3,
-    Criterion::C4,
-    Criterion::C5,
-    Criterion::C6,
-    Criterion::C7,
-    Criterion::C8,
-    Criterion::C9,
-    Criterion::C10,
-    Criterion::C11,
-];
-
 /// The least area under the righting levers from 0 to 30 degrees (C2), in millionths of a
 /// metre-degree: 0.055 metre-radians, times 180 / pi and rounded up (3,151,267.9).
 const AREA_TO_30_MIN: i128 = 3_151_268;
@@ -46,12 +30,26 @@ const LEVER_MIN: i128 = 200;
 /// The least angle that carries the greatest of all levers (C6), in steps of 5 degrees.
 const PEAK_MIN: usize = 5;
 
-/// The criterion of a number, the first being 0.
+/// The criterion of a number, the first being 0. A `match` in the order of the variants is compiled
+/// to the number itself, where a table of them would be copied for each look-up.
 fn criterion_at(k: usize) -> Criterion
     requires { k < 12 }
     ensures { slice_get criteria k ≡ Some result }
 {
-    CRITERIA[k]
+    match k {
+        0 => Criterion::C0,
+        1 => Criterion::C1,
+        2 => Criterion::C2,
+        3 => Criterion::C3,
+        4 => Criterion::C4,
+        5 => Criterion::C5,
+        6 => Criterion::C6,
+        7 => Criterion::C7,
+        8 => Criterion::C8,
+        9 => Criterion::C9,
+        10 => Criterion::C10,
+        _ => Criterion::C11,
+    }
 }
 
 /// Whether a criterion holds of a condition within the ship's tables.
