@@ -3,7 +3,7 @@ ghost use Rattle.std.specs.Prelude.{IfSome};
 ghost use Rattle.units_core.specs.Ratio.{◌over◌, floor_of};
 
 use crate::fractions::{Frac, floor};
-use std::num::{nearest_i64_to_f64, saturating_f64_to_i64, saturating_f64_to_u64};
+use std::num::{f64_to_bits_with_nan, nearest_i64_to_f64, saturating_f64_to_u64};
 
 /// The greatest divisor under which a guess is tested, and the greatest guess: so their product
 /// fits.
@@ -11,9 +11,13 @@ const MOST_DIVISOR: i128 = 1 << 103;
 
 const MOST_GUESS: u64 = 1 << 23;
 
-/// The greatest guess and 2^-26. With it no quotient is negative, so that dropping the fraction
-/// rounds down. The small part makes up for what an exact quotient may lose in floating point.
-const LIFT: f64 = 8_388_608.000_000_014_901_161_193_847_656_25;
+/// 2^52 and 2^51. A number of this size has no bits for a fraction: added to a small one, it leaves
+/// that rounded to a whole number, in the last 52 bits.
+const ROUNDER: f64 = 6_755_399_441_055_744.0;
+
+/// A half less 2^-26. With it taken away, rounding to the nearest whole number rounds down. The
+/// small part makes up for what an exact quotient may lose in floating point.
+const NEARLY_HALF: f64 = 0.499_999_985_098_838_806_152_343_75;
 
 /// The upper half of the product of two numbers. Where one of them is about 2^64 over a divisor,
 /// this is about the quotient of the other.
@@ -37,12 +41,18 @@ pub fn is_rest(rest: i128, divisor: i128) -> bool
     rest < divisor
 }
 
-/// A guess of the quotient of two numbers, rounded down, from their leading 53 bits in floating
-/// point, which is several times faster than a division of whole numbers of 64 bits. It may be
-/// wrong, so nothing is promised of it: callers test that the remainder is at least 0 and less than
-/// the divisor.
+/// A quotient in floating point, below 2^50 either way, rounded down. It is read from the bits of
+/// a sum, since a conversion that is right for every number takes several times as long.
 #[inline(always)]
-pub fn guess(num: i128, den: i128) -> i64 {
+fn rounded_down(quotient: f64) -> i64 {
+    let bits = f64_to_bits_with_nan(quotient - NEARLY_HALF + ROUNDER);
+    (bits & ((1 << 52) - 1)) as i64 - (1 << 51)
+}
+
+/// A guess from the leading bits of two numbers of any size.
+#[cold]
+#[inline(never)]
+fn guess_leading(num: i128, den: i128) -> i64 {
     let shift = 65u32.saturating_sub(num.unsigned_abs().leading_zeros());
     let Ok(top) = i64::try_from(num >> shift) else {
         return 0;
@@ -50,8 +60,29 @@ pub fn guess(num: i128, den: i128) -> i64 {
     let Ok(bottom) = i64::try_from(den >> shift) else {
         return 0;
     };
-    let quotient = nearest_i64_to_f64(top) / nearest_i64_to_f64(bottom);
-    saturating_f64_to_i64(quotient + LIFT).wrapping_sub(1 << 23)
+    rounded_down(nearest_i64_to_f64(top) / nearest_i64_to_f64(bottom))
+}
+
+/// A guess of the quotient of two numbers, rounded down, from their leading bits in floating point,
+/// which is several times faster than a division of whole numbers of 64 bits. It may be wrong, so
+/// nothing is promised of it: callers test that the remainder is at least 0 and less than the
+/// divisor. A divisor of 64 bits, as that of nearly all figures, is taken whole, and of the other
+/// number 24 bits are left out where it needs more than 64. They are rounded up, so that a quotient
+/// without a remainder is guessed right.
+#[inline(always)]
+pub fn guess(num: i128, den: i128) -> i64 {
+    let Ok(divisor) = i64::try_from(den) else {
+        return guess_leading(num, den);
+    };
+    if let Ok(number) = i64::try_from(num) {
+        return rounded_down(nearest_i64_to_f64(number) / nearest_i64_to_f64(divisor));
+    }
+    let Ok(leading) = i64::try_from(num >> 24) else {
+        return guess_leading(num, den);
+    };
+    // 2^24
+    let number = (nearest_i64_to_f64(leading) + 1.0) * 16_777_216.0;
+    rounded_down(number / nearest_i64_to_f64(divisor))
 }
 
 /// About 2^64 over a divisor, right to some 50 bits. Quotients are guessed by it (see
