@@ -1,5 +1,5 @@
 -- Where the line in parts leaves no doubt of a draught, neither do its numbers in units.
-use Rattle.std.proofs.Common.{◌≡◌, ◌*◌, ◌^◌, ◌≤◌, ℤ, pos, neg_ℤ, negsuc, ◌+ℤ◌, ◌-ℤ◌, ◌*ℤ◌, ◌≤ℤ◌, unsigned_abs, arith}
+use Rattle.std.proofs.Common.{Bool, true, false, ◌≡◌, ◌*◌, ◌^◌, ◌≤◌, ℤ, pos, neg_ℤ, negsuc, ◌+ℤ◌, ◌-ℤ◌, ◌*ℤ◌, ◌≤ℤ◌, unsigned_abs, refl, arith}
 use Rattle.std.specs.Int.{int_shr}
 use Rattle.units_core.proofs.Signed.{signed_arith, one_part, distributes, product_within}
 use Rattle.units_core.proofs.Order.{cancel_order, times_order}
@@ -56,3 +56,11 @@ scaled_is_sure a s b t d x q scaled hx hq above below =
 pub whole_within : (z : ℤ) → unsigned_abs z ≤ 2 ^ 59 → unsigned_abs (int_shr z 40) ≤ 10 ^ 6
 whole_within (pos n) h = omega arith
 whole_within (negsuc n) h = omega arith
+
+-- a draught is sure on a known line alone: where start and slope are 0, nothing is left over
+-- whole millimetres
+pub sure_is_known : (known : Bool) (a s x q r : ℤ) → (known ≡ false → (a ≡ pos 0) × (s ≡ pos 0)) → r ≡ (a -ℤ (s *ℤ x)) -ℤ (q *ℤ pos (2 ^ 40)) → pos 6000132 ≤ℤ r → (r +ℤ pos 6000132) ≤ℤ pos (2 ^ 40) → known ≡ true
+sure_is_known true a s x q r idle e low high = refl
+sure_is_known false a s x q r idle e low high = absurd (nothing a s x q r (idle refl).0 (idle refl).1 e low high) where
+  nothing : (a s x q r : ℤ) → a ≡ pos 0 → s ≡ pos 0 → r ≡ (a -ℤ (s *ℤ x)) -ℤ (q *ℤ pos (2 ^ 40)) → pos 6000132 ≤ℤ r → (r +ℤ pos 6000132) ≤ℤ pos (2 ^ 40) → ⊥
+  nothing a s x q r f g e low high = omega (arith, signed_arith, f, rw g at e, low, high)

@@ -1,6 +1,5 @@
 ghost use Rattle.std.specs.Prelude.{◌≡◌, ◌*◌, ◌^◌, ◌<◌, ◌≤◌, pos, ◌+ℤ◌, ◌-ℤ◌, ◌*ℤ◌, ◌≤ℤ◌, ◌<ℤ◌};
-ghost use Rattle.std.specs.Prelude.{neg_ℤ, unsigned_abs, true, IfSome};
-ghost use Rattle.std.specs.Option.{ForSome};
+ghost use Rattle.std.specs.Prelude.{neg_ℤ, unsigned_abs, true, false, IfSome};
 ghost use Rattle.units_core.specs.Ratio.{floor_of};
 ghost use Rattle.hydrostat.specs.Floating.{draught_at, load, water};
 ghost use Rattle.hydrostat.specs.Leading.{IsInUnits, IsLedBy, IsNear, IsScaled, IsSure, line_step};
@@ -30,7 +29,11 @@ struct Leading {
     divisor: i64,
     start: i64,
     slope: i64,
-    ghost scaled: { IsScaled start slope base step divisor },
+    /// Whether the numbers are those of a line. If they aren't, start and slope are 0, so that no
+    /// draught is sure, and it isn't asked for each draught.
+    is_known: bool,
+    ghost scaled: { is_known ≡ true → IsScaled start slope base step divisor },
+    ghost idle: { is_known ≡ false → (start ≡ pos 0) × (slope ≡ pos 0) },
 }
 
 /// The draughts along a ship afloat, for many places one after another.
@@ -38,8 +41,9 @@ struct Leading {
 pub struct DraughtLine {
     /// The ship.
     pub of: Afloat,
-    leading: Option<Leading>,
-    ghost leads: { ForSome leading (λ l. IsLedBy l.unit l.base l.step l.divisor of) },
+    leading: Leading,
+    ghost leads: { leading.is_known ≡ true
+        → IsLedBy leading.unit leading.base leading.step leading.divisor of },
 }
 
 /// A number in whole units, rounded down; `None` where it doesn't fit 64 bits, or where the unit
@@ -162,6 +166,7 @@ fn fitted(unit: i128, base: i64, step: i64, divisor: i64) -> Option<Leading>
         divisor,
         start,
         slope,
+        is_known: true,
     })
 }
 
@@ -181,6 +186,25 @@ fn leading_of(a: &Afloat) -> Option<Leading>
         return None;
     };
     Some(leading)
+}
+
+/// The draught along a ship in numbers of 64 bits, or a line on which no draught is sure.
+fn leading_or_none(a: &Afloat) -> Leading
+    ensures { result.is_known ≡ true
+        → IsLedBy result.unit result.base result.step result.divisor a.now }
+{
+    match leading_of(a) {
+        Some(leading) => leading,
+        None => Leading {
+            unit: 1,
+            base: 0,
+            step: 0,
+            divisor: 0,
+            start: 0,
+            slope: 0,
+            is_known: false,
+        },
+    }
 }
 
 /// The draught at `x`, in parts.
@@ -231,7 +255,8 @@ impl Leading {
     #[inline(always)]
     fn draught_down(&self, x: i64) -> Option<i64>
         requires { unsigned_abs x ≤ 10 ^ 6 }
-        ensures { IfSome result
+        ensures known { IfSome result (λ q. self.now.is_known ≡ true) }
+        ensures sure { IfSome result
             (λ q. IsSure q (self.now.base -ℤ (self.now.step *ℤ x)) self.now.divisor) }
     {
         let parts = parts_at(self.start, self.slope, x);
@@ -248,15 +273,9 @@ impl DraughtLine {
     pub fn new(a: &Afloat) -> DraughtLine
         ensures { result.of ≡ a.now }
     {
-        match leading_of(a) {
-            Some(leading) => DraughtLine {
-                of: *a,
-                leading: Some(leading),
-            },
-            None => DraughtLine {
-                of: *a,
-                leading: None,
-            },
+        DraughtLine {
+            of: *a,
+            leading: leading_or_none(a),
         }
     }
 
@@ -267,10 +286,7 @@ impl DraughtLine {
         ensures { IfSome result (λ q. q
             ≡ floor_of (draught_at (water self.now.of) (load self.now.of) self.now.of.lbp x)) }
     {
-        let Some(leading) = &self.leading else {
-            return None;
-        };
-        let Some(draught) = leading.draught_down(i64::from(x.get())) else {
+        let Some(draught) = self.leading.draught_down(i64::from(x.get())) else {
             return None;
         };
         Some(draught)
