@@ -64,8 +64,7 @@ fn is_row(arguments: &[i128], x: i64, i: usize) -> bool
 }
 
 /// The interval of `x`, looked for first in those beside `near`.
-#[cold]
-#[inline(never)]
+#[inline(always)]
 fn other_row(arguments: &[i128], x: i64, near: &mut usize) -> Option<usize>
     requires rows { 2 ≤ length arguments.now }
     requires rises { IsRising arguments.now }
@@ -200,8 +199,7 @@ impl BonjeanRow {
     }
 
     /// Goes to the row of `x`; `false` where there is none.
-    #[cold]
-    #[inline(never)]
+    #[inline(always)]
     fn find(&mut self, arguments: &[i128], x: i64) -> bool
         requires rows { 2 ≤ length arguments.now }
         requires rises { IsRising arguments.now }
@@ -229,27 +227,6 @@ impl BonjeanRow {
         }
     }
 
-    /// Goes to the row of `x`, where it isn't this one; `false` where there is none.
-    #[inline(always)]
-    fn reach(&mut self, arguments: &[i128], x: i64) -> bool
-        requires rows { 2 ≤ length arguments.now }
-        requires rises { IsRising arguments.now }
-        requires within { IsWithin (10 ^ 5) arguments.now }
-        requires row { IsRowOf arguments.now self.now.row self.now.lower self.now.upper
-            self.now.reciprocal }
-        ensures row { IsRowOf arguments.now self.new.row self.new.lower self.new.upper
-            self.new.reciprocal }
-        ensures which { result ≡ true → interval arguments.now x ≡ Some self.new.row }
-        ensures from { result ≡ true → self.new.lower ≤ℤ x }
-        ensures to { result ≡ true → x ≤ℤ self.new.upper }
-        ensures none { result ≡ false → interval arguments.now x ≡ None }
-    {
-        if self.holds(arguments, x) {
-            return true;
-        }
-        self.find(arguments, x)
-    }
-
     /// The reading of a curve of numbers from 0 to 10^8 at `x`, which lies in this row, rounded
     /// down.
     #[inline(always)]
@@ -271,6 +248,26 @@ impl BonjeanRow {
         on_line(self.lower, lower, self.upper, upper, x, self.reciprocal)
     }
 
+    /// The area of a Bonjean curve at a draught outside of this row. It is a function of its own,
+    /// so that the walk's registers are kept for the stations in one row.
+    #[cold]
+    #[inline(never)]
+    fn area_elsewhere(&mut self, curves: &Curves, number: usize, draught: i64) -> Option<i64>
+        requires table { IsBonjeanTable curves.now }
+        requires there { number < length curves.now.columns }
+        requires row { IsRowOf curves.now.arguments self.now.row self.now.lower self.now.upper
+            self.now.reciprocal }
+        ensures row { IsRowOf curves.now.arguments self.new.row self.new.lower self.new.upper
+            self.new.reciprocal }
+        ensures value { result ≡ area_in curves.now number draught }
+        ensures within { IfSome result (λ a. unsigned_abs a ≤ 10 ^ 8) }
+    {
+        if !self.find(curves.arguments(), draught) {
+            return None;
+        }
+        Some(self.read(curves.arguments(), curves.values(number), draught))
+    }
+
     /// The area of a Bonjean curve at a draught, rounded down; `None` outside of the table.
     #[inline(always)]
     pub fn area(&mut self, curves: &Curves, number: usize, draught: i64) -> Option<i64>
@@ -283,9 +280,9 @@ impl BonjeanRow {
         ensures value { result ≡ area_in curves.now number draught }
         ensures within { IfSome result (λ a. unsigned_abs a ≤ 10 ^ 8) }
     {
-        if !self.reach(curves.arguments(), draught) {
-            return None;
+        if self.holds(curves.arguments(), draught) {
+            return Some(self.read(curves.arguments(), curves.values(number), draught));
         }
-        Some(self.read(curves.arguments(), curves.values(number), draught))
+        self.area_elsewhere(curves, number, draught)
     }
 }
