@@ -559,6 +559,34 @@ fn plain_tags(rt: HostRuntime) -> Result<(), EdiFault> {
     Ok(())
 }
 
+/// Two segments that say the same but for the value; in the second, characters are released.
+const MEASURED: &[u8] =
+    b"UNB+++++7'UNH+1+MOVINS:D:95B:UN'MEA+VGM++KGM:20500'MEA+V?GM++K?GM:2?+5'UNT+4+1'UNZ+1+7'";
+
+/// A qualifier is compared as a whole, two components are read by one walk, and a text is lent
+/// where nothing in it is released.
+#[test]
+fn qualifiers_and_pairs(rt: HostRuntime) -> Result<(), EdiFault> {
+    let message = open(MEASURED, Kind::Movins)?;
+    let mut numbers: u64 = 0;
+    for segment in message.segments() {
+        numbers = numbers.wrapping_mul(10).wrapping_add(segment.number());
+        holds(&rt, segment.has_qualifier(b"VGM"));
+        holds(&rt, !segment.has_qualifier(b"VG"));
+        holds(&rt, !segment.has_qualifier(b"VGMX"));
+        let (unit, value) = segment.first_two(3);
+        let is_released = segment.number() == 3;
+        holds(&rt, unit.is(b"KGM"));
+        holds(&rt, value.is(if is_released { b"2+5" } else { b"20500" }));
+        match unit.unreleased() {
+            Some(text) => holds(&rt, text == b"KGM".as_slice() && !is_released),
+            None => holds(&rt, is_released),
+        }
+    }
+    same(&rt, numbers, 23);
+    Ok(())
+}
+
 /// Without a release character every byte is itself.
 #[test]
 fn no_release_character(rt: HostRuntime) {
