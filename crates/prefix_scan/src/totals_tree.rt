@@ -117,18 +117,6 @@ impl<M: Monoid + Drop> TotalsTree<M> {
         replace(&mut self.rows, i, value, &mut self.count);
     }
 
-    /// As [`TotalsTree::set`], for whoever makes a part of the tree anew; as where a tree is built,
-    /// its joins aren't counted.
-    pub fn renew(&mut self, i: usize, value: M)
-        requires within { i < length self.old.values }
-        requires sizes { sum_by M.weight (slice_set self.old.values i value) ≤ most_parts }
-        ensures values { self.new.values ≡ slice_set self.old.values i value }
-        ensures joins { self.new.joins ≡ self.old.joins }
-    {
-        let mut uncounted = 0;
-        replace(&mut self.rows, i, value, &mut uncounted);
-    }
-
     /// The first `i` values joined in their order; the unit where `i` is 0.
     ///
     /// The count never falls, and where there are at most 2^k values it rises by at most k + 1.

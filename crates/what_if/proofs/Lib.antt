@@ -1,5 +1,4 @@
 mod ChangeLemmas
-mod MoveLemmas
 mod PastLemmas
 mod RenewLemmas
 mod SwapLemmas

@@ -3,13 +3,12 @@ ghost use Rattle.std.specs.Prelude.{IfOk, IfErr, Some, None};
 ghost use Rattle.std.specs.List.{swap};
 ghost use Rattle.std.specs.Bool.{OnTrue, OnFalse};
 ghost use Rattle.lift_sequence.specs.Follow.{IsLoad, weighed_at};
-ghost use Rattle.lift_sequence.specs.Independent.{moved};
 ghost use Rattle.step_edits.specs.Edits.{TellsMemory, edited, edit_fault};
 ghost use Rattle.what_if.specs.Bases.{list_fault};
 ghost use Rattle.what_if.specs.Sessions.{IsSummed, refusal, restows_behind, CostsLittle};
 
 use crate::changes::changes_of;
-use crate::renewing::{renew, renew_both, renew_stretch};
+use crate::renewing::{renew, renew_both};
 use crate::summed_lists::SummedList;
 use lift_sequence::{SeqCode, SeqFault, Sequence};
 use moment_sums::Totals;
@@ -30,17 +29,11 @@ fn list_refusal(fault: SeqFault) -> EditFault
     }
 }
 
-/// Whether a step is moved so little that less is joined in place than for a tree over all `steps`
-/// steps, of which there are at most 2^17: each step that it passes takes up to 17 joins.
-fn are_near(from: usize, to: usize, steps: usize) -> bool {
-    from.abs_diff(to) < steps / 32
-}
-
 impl SummedList {
     /// Makes an edit. Where it is refused, or out of memory, everything is as it was. Another
     /// weight of a load checks no step and takes no memory; nor does an exchange of two steps that
-    /// are independent of each other and of all steps between, or a move of a step past a few that
-    /// it is independent of. Any other edit makes the sequence and its sums anew.
+    /// are independent of each other and of all steps between. Any other edit makes the sequence
+    /// and its sums anew.
     pub fn edit(&mut self, edit: &Edit) -> Result<(), EditFault>
         ensures legal { OnOk result (refusal self.old.base self.old.ops edit.now ≡ None) }
         ensures base { self.new.base ≡ self.old.base }
@@ -62,12 +55,6 @@ impl SummedList {
             }
             Edit::Swap { a, b } => {
                 if self.exchange(*a as usize, *b as usize) {
-                    return Ok(());
-                }
-                self.rearrange(edit)
-            }
-            Edit::Move { from, to } => {
-                if self.carry(*from as usize, *to as usize) {
                     return Ok(());
                 }
                 self.rearrange(edit)
@@ -99,32 +86,6 @@ impl SummedList {
             a - 1,
             b - 1,
         );
-        true
-    }
-
-    /// Moves a step past others that it is independent of, where these are few. It returns whether
-    /// it did; if not, everything is as it was.
-    fn carry(&mut self, from: usize, to: usize) -> bool
-        requires first { (1 ≤ from) × (1 ≤ to) }
-        requires last { (from ≤ length self.old.ops) × (to ≤ length self.old.ops) }
-        ensures base { self.new.base ≡ self.old.base }
-        ensures ops { OnTrue result (self.new.ops ≡ moved self.old.ops (from - 1) (to - 1)) }
-        ensures legal { OnTrue result (list_fault self.old.base self.new.ops ≡ None) }
-        ensures same { OnFalse result (self.new ≡ self.old) }
-        ensures joins { self.new.joins ≡ self.old.joins }
-    {
-        if !are_near(from, to, self.sequence.len()) {
-            return false;
-        }
-        if !self.sequence.shift(from, to) {
-            return false;
-        }
-        let frames = self.base.profile().frames();
-        if from < to {
-            renew_stretch(&mut self.tree, &self.sequence, frames, from - 1, to);
-        } else {
-            renew_stretch(&mut self.tree, &self.sequence, frames, to - 1, from);
-        }
         true
     }
 

@@ -1,5 +1,4 @@
-ghost use Rattle.std.specs.Prelude.{◌≡◌, ℕ, ◌+◌, ◌*◌, ◌^◌, ◌<◌, ◌≤◌, length, map, take, drop};
-ghost use Rattle.std.specs.Prelude.{slice_set};
+ghost use Rattle.std.specs.Prelude.{◌≡◌, ℕ, ◌+◌, ◌*◌, ◌^◌, ◌<◌, ◌≤◌, length, map, drop, slice_set};
 ghost use Rattle.std.specs.Prelude.{slice_index_or, if◌then◌else◌};
 ghost use Rattle.std.specs.List.{swap};
 ghost use Rattle.lift_sequence.specs.Follow.{loaded_at, moves_in};
@@ -105,47 +104,4 @@ pub fn renew_both(
 {
     renew_step(tree, sequence, frames, one, true);
     renew_step(tree, sequence, frames, other, true);
-}
-
-/// Sets what the step at a place changes. As where a tree is built, no join is counted.
-#[inline(never)]
-fn put_step(tree: &mut TotalsTree<Totals>, sequence: &Sequence, frames: &Frames, place: usize)
-    requires within { place < length tree.old.values }
-    requires ops { length sequence.now.ops ≡ length tree.old.values }
-    requires steps { length sequence.now.steps ≡ length sequence.now.ops }
-    requires few { length tree.old.values ≤ 120000 }
-    requires small { AreSmall tree.old.values }
-    ensures values { tree.new.values ≡ slice_set tree.old.values place
-        (slice_index_or (map (change_of frames.now) sequence.now.steps) place none_kept) }
-    ensures joins { tree.new.joins ≡ tree.old.joins }
-{
-    tree.renew(place, Totals::of_step(&sequence.step(place + 1), frames));
-}
-
-/// Sets what the steps from the place `first` to the one before `end` change. The tree is over what
-/// the steps changed before, which was the same at all other places. As where a tree is built, no
-/// join is counted.
-pub fn renew_stretch(
-    tree: &mut TotalsTree<Totals>,
-    sequence: &Sequence,
-    frames: &Frames,
-    first: usize,
-    end: usize,
-)
-    requires order { first ≤ end }
-    requires within { end ≤ length sequence.now.ops }
-    requires steps { length sequence.now.steps ≡ length sequence.now.ops }
-    requires few { length sequence.now.ops ≤ 120000 }
-    requires long { length tree.old.values ≡ length sequence.now.ops }
-    requires small { AreSmall tree.old.values }
-    requires before { take first tree.old.values
-        ≡ take first (map (change_of frames.now) sequence.now.steps) }
-    requires behind { drop end tree.old.values
-        ≡ drop end (map (change_of frames.now) sequence.now.steps) }
-    ensures values { tree.new.values ≡ map (change_of frames.now) sequence.now.steps }
-    ensures joins { tree.new.joins ≡ tree.old.joins }
-{
-    for place in first..end {
-        put_step(tree, sequence, frames, place);
-    }
 }

@@ -195,15 +195,3 @@ fn a_tree_of_its_values(rt: HostRuntime) -> Result<(), Fail> {
     same(&rt, tree.peek(4), joined(Some(3), 4));
     Ok(())
 }
-
-// A value that is made anew: the prefixes are those behind a set, and no join is counted.
-#[test]
-fn a_value_made_anew(rt: HostRuntime) -> Result<(), Fail> {
-    let mut tree = TotalsTree::build(rt.alloc(), &VALUES)?;
-    tree.renew(0, FIVE);
-    same(&rt, tree.joins(), 0);
-    same(&rt, tree.peek(1), joined(Some(5), 1));
-    same(&rt, tree.peek(2), joined(Some(5), 2));
-    same(&rt, tree.peek(3), joined(Some(3), 3));
-    Ok(())
-}

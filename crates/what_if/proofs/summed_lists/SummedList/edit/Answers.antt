@@ -6,7 +6,6 @@ use Rattle.step_edits.specs.declared.faults.EditFault.TheVariants.{Sequence}
 use Rattle.step_edits.specs.Edits.{edit_fault, edited}
 use Rattle.what_if.specs.Bases.{list_fault}
 use Rattle.what_if.specs.Sessions.{CostsLittle, Summed, restows_behind}
-use Rattle.what_if.proofs.MoveLemmas.{is_moved}
 use Rattle.what_if.proofs.RenewLemmas.{place_less}
 use Rattle.what_if.proofs.summed_lists.SummedList.edit.Goals as goal
 
@@ -37,10 +36,3 @@ returns-then-exchange-clause-legal c =
     = c.if-exchange.ensures.ops ∙ (λ i. swap now.ops (place_less c.in-Swap.a i) (place_less c.in-Swap.b i)) ∙ ap (edited now.ops) (sym c.in-Swap.is) in
     let list : list_fault now.base (edited now.ops edit) ≡ None = ap (list_fault now.base) (sym made) ∙ c.if-exchange.ensures.legal in
     λ i. option_or (own i) (option_map Sequence (list i))
-
-pub returns-then-carry-clause-ops : goal.returns-then-carry-clause-ops
-returns-then-carry-clause-ops c =
-    let now = c.args.self.now in
-    let same = c.ops.ensures ∙ ap (λ (v : Summed). v.ops) c.self.view_is in
-    let own : edit_fault now.ops c.args.edit.now ≡ None = ap (λ l. edit_fault l c.args.edit.now) (sym same) ∙ sym c.fault_of.ensures.exact ∙ c.in_default.is in
-    c.if-carry.ensures.ops ∙ is_moved now.ops c.in-Move.from c.in-Move.to (ap (edit_fault now.ops) (sym c.in-Move.is) ∙ own) ∙ ap (edited now.ops) (sym c.in-Move.is)
