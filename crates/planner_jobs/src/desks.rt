@@ -4,8 +4,9 @@ ghost use Rattle.what_if.specs.Desks.{IsOf};
 
 use crate::chance::Chance;
 use crate::digests::Digest;
-use crate::edits::{add_verdict, count, reweighed};
+use crate::edits::{count, reweighed};
 use crate::stops::Stop;
+use crate::verdicts::add_verdict;
 use std::alloc::Global;
 use std::sync::{Arc, Wait};
 use std::thread;

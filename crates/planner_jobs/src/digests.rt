@@ -29,6 +29,20 @@ impl Digest {
         self.state = mixed ^ (mixed >> 32);
     }
 
+    /// Takes in a number of 128 bits.
+    pub fn add_wide(&mut self, number: i128) {
+        for byte in number.to_le_bytes() {
+            self.add(u64::from(byte));
+        }
+    }
+
+    /// Takes in a word.
+    pub fn add_word(&mut self, word: &str) {
+        for byte in word.as_bytes() {
+            self.add(u64::from(*byte));
+        }
+    }
+
     /// Takes in one byte.
     fn add_byte(&mut self, byte: u8) {
         self.word = (self.word << 8) | u64::from(byte);
@@ -46,9 +60,7 @@ impl Digest {
         match first {
             Some((step, criterion)) => {
                 self.add(u64::from(step));
-                for byte in criterion.code().as_bytes() {
-                    self.add(u64::from(*byte));
-                }
+                self.add_word(criterion.code());
             }
             None => self.add(u64::MAX),
         }

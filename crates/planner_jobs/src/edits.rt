@@ -3,14 +3,14 @@ use crate::chance::Chance;
 use crate::digests::Digest;
 use crate::jobs::alone;
 use crate::stops::Stop;
+use crate::verdicts::add_verdict;
 use arrayvec::ArrayVec;
 use claim_run::Open;
-use criteria::Verdict;
-use lift_sequence::Op;
+use lift_sequence::{Op, SeqCode, SeqFault};
 use std::sync::Wait;
 use std::thread::Threads;
-use units_core::{Kg, floor};
-use what_if::{Edit, Session};
+use units_core::Kg;
+use what_if::{Edit, EditFault, Session};
 
 /// A mass of 3 to 23 t.
 fn mass(chance: &mut Chance) -> Kg {
@@ -86,40 +86,46 @@ fn edit_at(list: &[Op], at: u32, chance: &mut Chance) -> Option<Edit> {
     }
 }
 
+/// Takes in why a list can't be done.
+fn add_sequence_fault(fault: &SeqFault, digest: &mut Digest) {
+    digest.add(u64::from(fault.at));
+    match fault.code {
+        SeqCode::UnknownCell => digest.add(1),
+        SeqCode::CellTaken => digest.add(2),
+        SeqCode::Overlap(cell) => {
+            digest.add(u64::from(cell.bay));
+            digest.add(u64::from(cell.row));
+            digest.add(u64::from(cell.tier));
+        }
+        SeqCode::CellEmpty => digest.add(4),
+        SeqCode::WrongContainer => digest.add(5),
+        SeqCode::TankOver => digest.add(6),
+        SeqCode::TooManySteps => digest.add(7),
+        SeqCode::NoMemory => digest.add(8),
+        SeqCode::UnknownTank => digest.add(9),
+    }
+}
+
+/// Takes in why an edit is refused.
+fn add_fault(fault: &EditFault, digest: &mut Digest) {
+    digest.add_word(fault.code());
+    if let EditFault::Sequence(fault) = fault {
+        add_sequence_fault(fault, digest);
+    }
+}
+
 /// Makes an edit, or takes the last one back. Takes in what became of it.
 fn make(session: &mut Session, edit: Option<Edit>, digest: &mut Digest) {
     match edit {
         Some(edit) => match session.apply(edit) {
             Ok(()) => digest.add(1),
-            Err(fault) => {
-                for byte in fault.code().as_bytes() {
-                    digest.add(u64::from(*byte));
-                }
-            }
+            Err(fault) => add_fault(&fault, digest),
         },
         None => match session.undo() {
             Ok(true) => digest.add(2),
             Ok(false) => digest.add(3),
             Err(_) => digest.add(4),
         },
-    }
-}
-
-/// Takes in a verdict: the metacentric height where there are figures.
-pub fn add_verdict(verdict: &Option<Verdict>, digest: &mut Digest) {
-    match verdict {
-        Some(Verdict::Passes(figures)) => {
-            for byte in floor(figures.floating.gm).to_le_bytes() {
-                digest.add(u64::from(byte));
-            }
-        }
-        Some(Verdict::Fails(criterion, _)) => {
-            for byte in criterion.code().as_bytes() {
-                digest.add(u64::from(*byte));
-            }
-        }
-        Some(Verdict::Outside(_)) => digest.add(5),
-        None => digest.add(6),
     }
 }
 

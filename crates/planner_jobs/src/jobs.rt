@@ -39,7 +39,7 @@ pub static JOBS: [Job; 6] = [
     Job::Restow,
 ];
 
-/// A whole call: half of the ship is discharged and loaded.
+/// A whole call: most of what is aboard is discharged, and the ship is loaded again.
 const WHOLE: Shape = Shape {
     aboard: 700,
     ashore: 900,

@@ -14,6 +14,7 @@ mod messages;
 mod ships;
 mod slots;
 mod stops;
+mod verdicts;
 
 use crate::jobs::{JOBS, Job};
 use crate::ships::Ship;
