@@ -129,8 +129,8 @@ fn failed_afloat(
 }
 
 /// The first criterion that the ship fails with this aboard, C0 outside of her tables; `None` where
-/// she passes. It is the one that [`judge_into`](crate::judge_into) names, without the rounded
-/// figures, which take a tenth of a judgement. The loads are worked out in `strains`, whatever that
+/// she passes. It is the one that [`judge_into`](crate::judge_into) names, without the figures that
+/// are printed, which take time of their own. The loads are worked out in `strains`, whatever that
 /// held before.
 pub fn first_failed(
     profile: &Profile,
