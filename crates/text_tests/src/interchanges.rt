@@ -561,7 +561,7 @@ fn plain_tags(rt: HostRuntime) -> Result<(), EdiFault> {
 
 /// Two segments that say the same but for the value; in the second, characters are released.
 const MEASURED: &[u8] =
-    b"UNB+++++7'UNH+1+MOVINS:D:95B:UN'MEA+VGM++KGM:20500'MEA+V?GM++K?GM:2?+5'UNT+4+1'UNZ+1+7'";
+    b"UNB+++++7'UNH+1+MOVINS:D:95B:UN'MEA+VGM++KGM:20500'MEA+V?GM++K?GM:2?+5'UNT+4+1'UNZ+1+7'\n";
 
 /// A qualifier is compared as a whole, two components are read by one walk, and a text is lent
 /// where nothing in it is released.
