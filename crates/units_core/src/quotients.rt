@@ -41,8 +41,9 @@ pub fn is_rest(rest: i128, divisor: i128) -> bool
     rest < divisor
 }
 
-/// A quotient in floating point, below 2^50 either way, rounded down. It is read from the bits of
-/// a sum, since a conversion that is right for every number takes several times as long.
+/// A quotient in floating point, below 2^23 either way, rounded down; less than 2^-26 below a whole
+/// number, that number. A greater quotient gives some number. It is read from the bits of a sum,
+/// which needs no test of the range.
 #[inline(always)]
 fn rounded_down(quotient: f64) -> i64 {
     let bits = f64_to_bits_with_nan(quotient - NEARLY_HALF + ROUNDER);
@@ -63,12 +64,11 @@ fn guess_leading(num: i128, den: i128) -> i64 {
     rounded_down(nearest_i64_to_f64(top) / nearest_i64_to_f64(bottom))
 }
 
-/// A guess of the quotient of two numbers, rounded down, from their leading bits in floating point,
-/// which is several times faster than a division of whole numbers of 64 bits. It may be wrong, so
-/// nothing is promised of it: callers test that the remainder is at least 0 and less than the
-/// divisor. A divisor of 64 bits, as that of nearly all figures, is taken whole, and of the other
-/// number 24 bits are left out where it needs more than 64. They are rounded up, so that a quotient
-/// without a remainder is guessed right.
+/// A guess of the quotient of two numbers, rounded down, from their leading bits in floating point:
+/// no whole number is divided. It may be wrong, so nothing is promised of it: callers test that the
+/// remainder is at least 0 and less than the divisor. A divisor of 64 bits, as that of nearly all
+/// figures, is taken whole, and of the other number 24 bits are left out where it needs more than
+/// 64. They are rounded up, so that a quotient without a remainder is guessed right.
 #[inline(always)]
 pub fn guess(num: i128, den: i128) -> i64 {
     let Ok(divisor) = i64::try_from(den) else {
