@@ -39,6 +39,12 @@ pub record IsScaled (start slope base step divisor : ℤ) : Type 0 where
   pub is_start : IsNear start base divisor (pos 128)
   pub is_slope : IsNear slope step divisor (pos 2)
 
+-- numbers of a line in units that are so small that their products fit 64 bits
+pub record IsShort (base step divisor : ℤ) : Type 0 where
+  pub base_within : unsigned_abs base ≤ 2 ^ 61
+  pub step_within : unsigned_abs step ≤ 2 ^ 40
+  pub divisor_within : unsigned_abs divisor ≤ 2 ^ 41
+
 -- q is the whole part of top / divisor, and so far from the whole numbers on both sides that
 -- rounding to units, of the base and of a million times the step and the divisor, changes nothing
 pub record IsSure (q top divisor : ℤ) : Type 0 where

@@ -2,13 +2,15 @@ ghost use Rattle.std.specs.Prelude.{◌≡◌, ◌*◌, ◌^◌, ◌<◌, ◌≤
 ghost use Rattle.std.specs.Prelude.{neg_ℤ, unsigned_abs, true, false, IfSome};
 ghost use Rattle.units_core.specs.Ratio.{floor_of};
 ghost use Rattle.hydrostat.specs.Floating.{draught_at, load, water};
-ghost use Rattle.hydrostat.specs.Leading.{IsInUnits, IsLedBy, IsNear, IsScaled, IsSure, line_step};
+ghost use Rattle.hydrostat.specs.Leading.{IsInUnits, IsLedBy, IsNear, IsScaled, IsShort, IsSure};
+ghost use Rattle.hydrostat.specs.Leading.{line_step};
 
 use crate::draughts::{draught, draught_by};
 use crate::numerators::trim_top;
 use crate::particulars::Afloat;
+use crate::unit_quotients::{are_short, quotient_in_units};
 use std::num::{nearest_i64_to_f64, saturating_f64_to_i64};
-use units_core::{Mm, floor, is_rest};
+use units_core::{Mm, floor, is_rest, reciprocal_near};
 
 /// The parts of a millimetre in which draughts are read along the line.
 const PARTS: i64 = 1 << 40;
@@ -27,11 +29,17 @@ struct Leading {
     base: i64,
     step: i64,
     divisor: i64,
+    /// About 2^64 over the divisor. Quotients are guessed by it, and then tested: any number would
+    /// do.
+    reciprocal: u64,
     start: i64,
     slope: i64,
-    /// Whether the numbers are those of a line. If they aren't, start and slope are 0, so that no
-    /// draught is sure, and it isn't asked for each draught.
+    /// Whether the numbers in units are those of a line, and so small that their products fit too.
+    is_short: bool,
+    /// Whether start and slope are those of a line. If they aren't, they are 0, so that no draught
+    /// is sure, and it isn't asked for each draught.
     is_known: bool,
+    ghost short: { is_short ≡ true → IsShort base step divisor },
     ghost scaled: { is_known ≡ true → IsScaled start slope base step divisor },
     ghost idle: { is_known ≡ false → (start ≡ pos 0) × (slope ≡ pos 0) },
 }
@@ -43,6 +51,8 @@ pub struct DraughtLine {
     pub of: Afloat,
     leading: Leading,
     ghost leads: { leading.is_known ≡ true
+        → IsLedBy leading.unit leading.base leading.step leading.divisor of },
+    ghost leads_in_units: { leading.is_short ≡ true
         → IsLedBy leading.unit leading.base leading.step leading.divisor of },
 }
 
@@ -164,10 +174,45 @@ fn fitted(unit: i128, base: i64, step: i64, divisor: i64) -> Option<Leading>
         base,
         step,
         divisor,
+        reciprocal: reciprocal_near(divisor),
         start,
         slope,
+        is_short: are_short(base, step, divisor),
         is_known: true,
     })
+}
+
+/// The numbers of 64 bits, without a line in parts.
+fn in_units_alone(unit: i128, base: i64, step: i64, divisor: i64) -> Leading
+    ensures unit { result.unit ≡ unit }
+    ensures base { result.base ≡ base }
+    ensures step { result.step ≡ step }
+    ensures divisor { result.divisor ≡ divisor }
+{
+    Leading {
+        unit,
+        base,
+        step,
+        divisor,
+        reciprocal: reciprocal_near(divisor),
+        start: 0,
+        slope: 0,
+        is_short: are_short(base, step, divisor),
+        is_known: false,
+    }
+}
+
+/// The numbers of 64 bits, with the line in parts where it is found.
+fn line_of(unit: i128, base: i64, step: i64, divisor: i64) -> Leading
+    ensures unit { result.unit ≡ unit }
+    ensures base { result.base ≡ base }
+    ensures step { result.step ≡ step }
+    ensures divisor { result.divisor ≡ divisor }
+{
+    match fitted(unit, base, step, divisor) {
+        Some(leading) => leading,
+        None => in_units_alone(unit, base, step, divisor),
+    }
 }
 
 /// The draught along a ship in numbers of 64 bits, the divisor in about 40; `None` where they
@@ -182,15 +227,14 @@ fn leading_of(a: &Afloat) -> Option<Leading>
     let base = in_units(aft.num, unit, shift)?;
     let step = in_units(step_by(a, trim), unit, shift)?;
     let divisor = in_units(aft.den, unit, shift)?;
-    let Some(leading) = fitted(unit, base, step, divisor) else {
-        return None;
-    };
-    Some(leading)
+    Some(line_of(unit, base, step, divisor))
 }
 
 /// The draught along a ship in numbers of 64 bits, or a line on which no draught is sure.
 fn leading_or_none(a: &Afloat) -> Leading
-    ensures { result.is_known ≡ true
+    ensures known { result.is_known ≡ true
+        → IsLedBy result.unit result.base result.step result.divisor a.now }
+    ensures short { result.is_short ≡ true
         → IsLedBy result.unit result.base result.step result.divisor a.now }
 {
     match leading_of(a) {
@@ -200,8 +244,10 @@ fn leading_or_none(a: &Afloat) -> Leading
             base: 0,
             step: 0,
             divisor: 0,
+            reciprocal: 0,
             start: 0,
             slope: 0,
+            is_short: false,
             is_known: false,
         },
     }
@@ -266,6 +312,20 @@ impl Leading {
         }
         None
     }
+
+    /// The draught at `x`, rounded down, where the units leave no doubt.
+    #[inline(always)]
+    fn draught_in_units(&self, x: i64) -> Option<i64>
+        requires { unsigned_abs x ≤ 10 ^ 6 }
+        ensures short { IfSome result (λ q. self.now.is_short ≡ true) }
+        ensures sure { IfSome result
+            (λ q. IsSure q (self.now.base -ℤ (self.now.step *ℤ x)) self.now.divisor) }
+    {
+        if !self.is_short {
+            return None;
+        }
+        quotient_in_units(self.base, self.step, self.divisor, self.reciprocal, x)
+    }
 }
 
 impl DraughtLine {
@@ -286,6 +346,20 @@ impl DraughtLine {
         ensures { IfSome result (λ q. q
             ≡ floor_of (draught_at (water self.now.of) (load self.now.of) self.now.of.lbp x)) }
     {
+        let Some(draught) = self.leading.draught_in_units(i64::from(x.get())) else {
+            return None;
+        };
+        Some(draught)
+    }
+
+    /// The draught in mm at `x`, rounded down, as [`DraughtLine::draught_down`] gives it, where a
+    /// line in parts of a millimetre leaves no doubt. It takes one product: it is for many places
+    /// one after another, where [`DraughtLine::decided`] takes two and a guess.
+    #[inline(always)]
+    pub fn read_in_parts(&self, x: Mm) -> Option<i64>
+        ensures { IfSome result (λ q. q
+            ≡ floor_of (draught_at (water self.now.of) (load self.now.of) self.now.of.lbp x)) }
+    {
         let Some(draught) = self.leading.draught_down(i64::from(x.get())) else {
             return None;
         };
@@ -298,7 +372,7 @@ impl DraughtLine {
         ensures { result
             ≡ floor_of (draught_at (water self.now.of) (load self.now.of) self.now.of.lbp x) }
     {
-        match self.decided(x) {
+        match self.read_in_parts(x) {
             Some(draught) => i128::from(draught),
             None => floor(draught(&self.of, i128::from(x.get()))),
         }

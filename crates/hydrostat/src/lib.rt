@@ -9,6 +9,7 @@ mod numerators;
 mod outside;
 mod particulars;
 mod ratios;
+mod unit_quotients;
 mod waterlines;
 
 pub use draught_lines::DraughtLine;

@@ -116,8 +116,8 @@ fn conditions(rt: HostRuntime) -> Result<(), Fail> {
     on_box_ship(&rt, &Rows(&CONDITIONS))
 }
 
-/// Looks at a draught that is decided in 64 bits: with the two containers of the second row it is
-/// 4,027.54 mm at 25,000.
+/// Looks at a draught that is decided in 64 bits, in units and in parts of a millimetre: with the
+/// two containers of the second row it is 4,027.54 mm at 25,000.
 #[derive(Clone, Copy)]
 struct Decided;
 
@@ -127,6 +127,7 @@ impl<R: Abort + AllocGlobal> Check<R> for Decided {
         let floats = floating_of(profile, &sum).ok().ok_or("afloat")?;
         let line = DraughtLine::new(&floats.afloat);
         same(rt, line.decided(length(25_000)?), Some(4_027));
+        same(rt, line.read_in_parts(length(25_000)?), Some(4_027));
         Ok(())
     }
 }

@@ -84,7 +84,7 @@ pub fn area_near(
         (floor_of (draught_at (water line.now.of) (load line.now.of) line.now.of.lbp x)) }
     ensures within { IfSome result (λ a. unsigned_abs a ≤ 10 ^ 8) }
 {
-    match line.decided(x) {
+    match line.read_in_parts(x) {
         Some(draught) => near.area(curves, number, draught),
         None => area_exactly(curves, line, number, x),
     }

@@ -9,7 +9,7 @@ moved h u w h' u' w' e f g is = rw (e, f, ← g) is
 pub returns : goal.returns
 returns c =
     let a = c.args.a.now in
-    let l = c.in-Some.ensures in
+    let l = c.line_of.ensures in
     let t : FitsSigned w128 c.trim_top-trim.result = search rules in
     let n : FitsSigned w128 c.draught_by-aft.result.num = search rules in
     let d : FitsSigned w128 c.draught_by-aft.result.den = search rules in
