@@ -1,5 +1,5 @@
 -- How many rows there are, and how the count of joins rises.
-use Rattle.std.proofs.Common.{◌≡◌, ℕ, zero, suc, ◌+◌, ◌*◌, ◌/◌, ◌^◌, ◌<◌, ◌≤◌, arith, ap, mul-le-mul_left, lt_of_not-le, refl}
+use Rattle.std.proofs.Common.{◌≡◌, ℕ, zero, suc, ◌+◌, ◌-◌, ◌*◌, ◌/◌, ◌%◌, ◌^◌, ◌<◌, ◌≤◌, arith, ap, mul-le-mul_left, lt_of_not-le, refl, subst}
 use Rattle.std.proofs.Math.Nat.{pow-succ'}
 use Rattle.std.proofs.Math.Pow.{pow_mono}
 use mathlib.Core.Logic.{dite}
@@ -35,3 +35,27 @@ no_rows (suc rows) h = let one : 1 ≤ 2 ^ rows = pow_mono (let z : 0 ≤ rows =
 -- with one more join below its greatest value the count is above every earlier one that was below it
 pub count_rises : (before old new most : ℕ) → before ≤ old → before < most → (old < most → new ≡ old + 1) → old ≤ new → before < new
 count_rises before old new most le low one grows = dite (dec_le most old) (λ full. omega arith) (λ not. let more = one (lt_of_not-le not) in omega arith)
+
+-- half a number below a power of two is below the power before it
+pub half_below : (a k r : ℕ) → a < 2 ^ (k - r) → a / 2 < 2 ^ (k - (r + 1))
+half_below a k r h =
+    dite (dec_le (r + 1) k)
+    (λ more. let e : k - r ≡ suc (k - (r + 1)) = omega arith in
+    let two = pow-succ' 2 (k - (r + 1)) in
+    let below : a < 2 ^ suc (k - (r + 1)) = subst (λ n. a < 2 ^ n) e h in
+    omega arith)
+    (λ not. let le = lt_of_not-le not in
+    let e : k - r ≡ 0 = omega arith in
+    let none : a < 2 ^ 0 = subst (λ n. a < 2 ^ n) e h in
+    let one : 1 ≤ 2 ^ (k - (r + 1)) = pow_mono (let z : 0 ≤ k - (r + 1) = omega arith in z) in
+    omega arith)
+
+-- where an odd number is below the power, it is no power of less than one
+pub odd_inside : (a k r : ℕ) → a % 2 ≡ 1 → a < 2 ^ (k - r) → r < k
+odd_inside a k r odd h =
+    dite (dec_le (r + 1) k)
+    (λ more. omega arith)
+    (λ not. let le = lt_of_not-le not in
+    let e : k - r ≡ 0 = omega arith in
+    let none : a < 2 ^ 0 = subst (λ n. a < 2 ^ n) e h in
+    absurd (omega arith))

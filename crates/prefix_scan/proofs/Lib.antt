@@ -5,4 +5,5 @@ pub mod PairLemmas
 pub mod ReachLemmas
 pub mod RowLemmas
 pub mod StoredLemmas
+pub mod StretchLemmas
 pub mod SumLemmas

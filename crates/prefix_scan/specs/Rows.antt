@@ -1,7 +1,7 @@
 -- Bookkeeping: the rows of a tree. Each row has the joins of each two neighbours of the row below
 -- it.
 use Rattle.std.specs.Prelude.{◌≡◌, ℕ, zero, suc, ◌+◌, ◌*◌, ◌^◌, ◌<◌, ◌≤◌, List, [], ◌∷◌, length}
-use Rattle.std.specs.Prelude.{Vec}
+use Rattle.std.specs.Prelude.{Vec, slice_index_or}
 use Rattle.std.specs.declared.alloc.Global.{Global}
 
 -- each two neighbours joined; a last one that is alone is left out
@@ -31,3 +31,10 @@ pub record AreRows {M : Type 0} (op : M → M → M) (rows : List (Vec M Global)
   pub each : (l : ℕ) → l < length rows → row_at rows l ≡ lifted op l (first_row rows)
   pub done : lifted op (length rows) (first_row rows) ≡ []
   pub tall : 2 ^ length rows ≤ 2 * length (first_row rows) + 1
+
+-- a row into which the first values of a list were written, from a place on
+pub record IsWritten {M : Type 0} (d : M) (at len : ℕ) (values old new : List M) : Type 0 where
+  pub long : length new ≡ length old
+  pub inside : (k : ℕ) → k < len → slice_index_or new (at + k) d ≡ slice_index_or values k d
+  pub before : (k : ℕ) → k < at → slice_index_or new k d ≡ slice_index_or old k d
+  pub behind : (k : ℕ) → at + len ≤ k → slice_index_or new k d ≡ slice_index_or old k d

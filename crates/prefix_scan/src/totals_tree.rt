@@ -1,12 +1,12 @@
 //! Prefixes of a list whose values change.
-ghost use Rattle.std.specs.Prelude.{◌≡◌, ℕ, ◌+◌, ◌-◌, ◌^◌, ◌<◌, ◌≤◌, length, sum_by, slice_set};
-ghost use Rattle.std.specs.Prelude.{IfOk};
+ghost use Rattle.std.specs.Prelude.{◌≡◌, ℕ, ◌+◌, ◌-◌, ◌^◌, ◌<◌, ◌≤◌, ◌++◌, length, take, drop};
+ghost use Rattle.std.specs.Prelude.{sum_by, slice_set, IfOk};
 ghost use Rattle.prefix_scan.specs.Folds.{prefix};
 ghost use Rattle.prefix_scan.specs.Laws.{most_parts};
 
 use crate::monoids::Monoid;
 use crate::prefixes::Prefixes;
-use crate::tree_rows::{join_first, replace, rows_of, rows_over};
+use crate::tree_rows::{join_first, replace, replace_stretch, rows_of, rows_over};
 use std::alloc::{AllocError, Global};
 use std::marker::Model;
 
@@ -102,8 +102,8 @@ impl<M: Monoid + Drop> TotalsTree<M> {
     /// Puts a value in the place of the `i`-th. The sizes of the values that are then in the list
     /// add up to at most [`crate::MAX_PARTS`].
     ///
-    /// The count never falls, and where there are at most 2^k values it rises by at most k + 1.
-    /// Below the greatest number of its type it rises, unless the value is the last one.
+    /// The count never falls, and where there are at most 2^k values it rises by at most k. Below
+    /// the greatest number of its type it rises, unless the value is the last one.
     pub fn set(&mut self, i: usize, value: M)
         requires within { i < length self.old.values }
         requires sizes { sum_by M.weight (slice_set self.old.values i value) ≤ most_parts }
@@ -111,17 +111,34 @@ impl<M: Monoid + Drop> TotalsTree<M> {
         ensures grows { self.old.joins ≤ self.new.joins }
         ensures cost { (k : ℕ) → length self.old.values ≤ 2 ^ k
             → self.new.joins ≤ self.old.joins + (k + 1) }
+        ensures few { (k : ℕ) → length self.old.values ≤ 2 ^ k
+            → self.new.joins ≤ self.old.joins + k }
         ensures counted { i + 1 < length self.old.values → self.old.joins < 2 ^ 64 - 1
             → self.old.joins < self.new.joins }
     {
         replace(&mut self.rows, i, value, &mut self.count);
     }
 
+    /// Puts values in the place of as many that follow one another, from the `first`-th on. The
+    /// sizes of the values that are then in the list add up to at most [`crate::MAX_PARTS`]. The
+    /// part of the tree over them is made anew, row by row; as where a tree is built, its joins
+    /// aren't counted. What was in `values` is lost.
+    pub fn renew(&mut self, first: usize, values: &mut [M])
+        requires within { first + length values.old ≤ length self.old.values }
+        requires sizes { sum_by M.weight (take first self.old.values ++ values.old
+            ++ drop (first + length values.old) self.old.values) ≤ most_parts }
+        ensures values { self.new.values ≡ take first self.old.values ++ values.old
+            ++ drop (first + length values.old) self.old.values }
+        ensures joins { self.new.joins ≡ self.old.joins }
+    {
+        replace_stretch(&mut self.rows, first, values);
+    }
+
     /// The first `i` values joined in their order; the unit where `i` is 0.
     ///
-    /// The count never falls, and where there are at most 2^k values it rises by at most k + 1.
-    /// Below the greatest number of its type it rises, unless `i` is 0. Where there is no value it
-    /// stays.
+    /// The count never falls, and where there are at most 2^k values it rises by at most k + 1, and
+    /// by at most k where `i` is below 2^k. Below the greatest number of its type it rises, unless
+    /// `i` is 0. Where there is no value it stays.
     pub fn prefix(&mut self, i: usize) -> M
         requires { i ≤ length self.old.values }
         ensures value { result ≡ prefix M.empty M.op self.old.values i }
@@ -129,6 +146,7 @@ impl<M: Monoid + Drop> TotalsTree<M> {
         ensures grows { self.old.joins ≤ self.new.joins }
         ensures cost { (k : ℕ) → length self.old.values ≤ 2 ^ k
             → self.new.joins ≤ self.old.joins + (k + 1) }
+        ensures few { (k : ℕ) → i < 2 ^ k → self.new.joins ≤ self.old.joins + k }
         ensures counted { 0 < i → self.old.joins < 2 ^ 64 - 1 → self.old.joins < self.new.joins }
         ensures empty { length self.old.values ≡ 0 → self.new.joins ≡ self.old.joins }
     {

@@ -1,11 +1,11 @@
 //! The rows of a tree: the first is the list of values, and each other has the joins of each two
 //! neighbours of the row below it. A value that is alone at the end of a row is left out of the row
 //! above.
-ghost use Rattle.std.specs.Prelude.{◌≡◌, ℕ, ◌+◌, ◌-◌, ◌^◌, ◌<◌, ◌≤◌, length, sum_by, slice_set};
-ghost use Rattle.std.specs.Prelude.{IfOk};
+ghost use Rattle.std.specs.Prelude.{◌≡◌, ℕ, ◌+◌, ◌-◌, ◌*◌, ◌^◌, ◌<◌, ◌≤◌, ◌++◌, length, take, drop, min};
+ghost use Rattle.std.specs.Prelude.{sum_by, slice_index_or, slice_set, IfOk, List, ◌/◌};
 ghost use Rattle.prefix_scan.specs.Folds.{prefix};
 ghost use Rattle.prefix_scan.specs.Laws.{most_parts};
-ghost use Rattle.prefix_scan.specs.Rows.{paired, first_row, AreRows};
+ghost use Rattle.prefix_scan.specs.Rows.{paired, first_row, AreRows, IsWritten};
 
 use crate::counted_joins::counted_join;
 use crate::monoids::Monoid;
@@ -68,6 +68,7 @@ pub fn join_first<M: Monoid + Drop>(rows: &[Vec<M>], i: usize, count: &mut u64) 
     ensures value { result ≡ prefix M.empty M.op (first_row rows.now) i }
     ensures grows { count.old ≤ count.new }
     ensures cost { count.new ≤ count.old + length rows.now }
+    ensures few { (k : ℕ) → i < 2 ^ k → count.new ≤ count.old + k }
     ensures counted { 0 < i → count.old < 2 ^ 64 - 1 → count.old < count.new }
 {
     let mut at = i;
@@ -91,6 +92,7 @@ pub fn replace<M: Monoid + Drop>(rows: &mut [Vec<M>], i: usize, value: M, count:
     ensures list { first_row rows.new ≡ slice_set (first_row rows.old) i value }
     ensures grows { count.old ≤ count.new }
     ensures cost { count.new ≤ count.old + length rows.old }
+    ensures few { count.new + 1 ≤ count.old + length rows.old }
     ensures counted { i + 1 < length (first_row rows.old) → count.old < 2 ^ 64 - 1
         → count.old < count.new }
 {
@@ -103,6 +105,81 @@ pub fn replace<M: Monoid + Drop>(rows: &mut [Vec<M>], i: usize, value: M, count:
             return;
         }
         value = counted_join(count, &row[left], &row[left + 1]);
+        at /= 2;
+    }
+}
+
+/// Puts the first `len` of some values in the place of as many of a row, from the place `at` on.
+fn put_stretch<M: Monoid + Drop>(row: &mut [M], at: usize, values: &[M], len: usize)
+    requires within { at + len ≤ length row.old }
+    requires some { len ≤ length values.now }
+    ensures { IsWritten M.empty at len values.now row.old row.new }
+{
+    for k in 0..len {
+        row[at + k] = values[k];
+    }
+}
+
+/// Makes the first `len` values those of the row above a row, from the place `at` of that on.
+fn join_stretch<M: Monoid + Drop>(row: &[M], at: usize, values: &mut [M], len: usize)
+    requires sizes { sum_by M.weight row.now ≤ most_parts }
+    requires within { 2 * (at + len) ≤ length row.now }
+    requires some { len ≤ length values.old }
+    ensures long { length values.new ≡ length values.old }
+    ensures joined { (k : ℕ) → k < len → slice_index_or values.new k M.empty
+        ≡ slice_index_or (paired M.op row.now) (at + k) M.empty }
+{
+    for k in 0..len {
+        let left = 2 * (at + k);
+        values[k] = row[left].join(&row[left + 1]);
+    }
+}
+
+/// Puts the first `len` of some values in the place of as many of a row, from the place `at` on.
+/// Makes the first values those of the row above that are to be renewed by that, from half the
+/// place on, and returns how many they are.
+fn renew_row<M: Monoid + Drop>(row: &mut Vec<M>, at: usize, values: &mut [M], len: usize) -> usize
+    requires within { at + len ≤ length row.old.items }
+    requires more { 0 < len }
+    requires some { len ≤ length values.old }
+    requires sizes { (new : List M) → IsWritten M.empty at len values.old row.old.items new
+        → sum_by M.weight new ≤ most_parts }
+    ensures written { IsWritten M.empty at len values.old row.old.items row.new.items }
+    ensures long { length values.new ≡ length values.old }
+    ensures few { result ≡ min ((at + len + 1) / 2) (length row.old.items / 2) - at / 2 }
+    ensures joined { (k : ℕ) → k < result → slice_index_or values.new k M.empty
+        ≡ slice_index_or (paired M.op row.new.items) (at / 2 + k) M.empty }
+{
+    put_stretch(row, at, values, len);
+    let end = ((at + len + 1) / 2).min(row.len() / 2);
+    let above = end.saturating_sub(at / 2);
+    join_stretch(row, at / 2, values, above);
+    above
+}
+
+/// Puts values in the place of as many of the first row, from the place `first` on, and renews all
+/// values of the rows above that they are part of, row by row and each once. What was in `values`
+/// is lost.
+pub fn replace_stretch<M: Monoid + Drop>(rows: &mut [Vec<M>], first: usize, values: &mut [M])
+    requires rows { AreRows M.op rows.old }
+    requires within { first + length values.old ≤ length (first_row rows.old) }
+    requires sizes { sum_by M.weight (take first (first_row rows.old) ++ values.old
+        ++ drop (first + length values.old) (first_row rows.old)) ≤ most_parts }
+    ensures rows { AreRows M.op rows.new }
+    ensures list { first_row rows.new ≡ take first (first_row rows.old) ++ values.old
+        ++ drop (first + length values.old) (first_row rows.old) }
+{
+    if values.is_empty() {
+        return;
+    }
+    let mut at = first;
+    let mut len = values.len();
+    for row in rows.iter_mut() {
+        let above = renew_row(row, at, values, len);
+        if above == 0 {
+            return;
+        }
+        len = above;
         at /= 2;
     }
 }

@@ -12,6 +12,12 @@ const FIVE: Last = Last {
     parts: 1,
 };
 
+/// Another one.
+const SEVEN: Last = Last {
+    value: Some(7),
+    parts: 1,
+};
+
 // Of 1, none, 3 the first two are joined to 1, and all three to 3. With 5 in the place of none the
 // first two are joined to 5. Before the chunk from 0 to 2 is nothing, and before the one from 2 to
 // 3 are the first two.
@@ -193,5 +199,19 @@ fn a_tree_of_its_values(rt: HostRuntime) -> Result<(), Fail> {
     same(&rt, tree.joins(), 1);
     same(&rt, tree.peek(3), joined(Some(1), 3));
     same(&rt, tree.peek(4), joined(Some(3), 4));
+    Ok(())
+}
+
+// Another value in each of the first two places: the prefixes are those behind two sets, and no join
+// is counted.
+#[test]
+fn values_made_anew(rt: HostRuntime) -> Result<(), Fail> {
+    let mut tree = TotalsTree::build(rt.alloc(), &VALUES)?;
+    let mut values = [FIVE, SEVEN];
+    tree.renew(0, &mut values);
+    same(&rt, tree.joins(), 0);
+    same(&rt, tree.peek(1), joined(Some(5), 1));
+    same(&rt, tree.peek(2), joined(Some(7), 2));
+    same(&rt, tree.peek(3), joined(Some(3), 3));
     Ok(())
 }

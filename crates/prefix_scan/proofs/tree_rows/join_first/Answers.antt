@@ -1,8 +1,8 @@
-use Rattle.std.proofs.Common.{arith, ◌-◌, ◌^◌, ◌≡◌, ℕ, ◌+◌, ◌*◌, length, take, ◌/◌, get_or, ap, ◌∙◌, sym, subst, List, [], suc}
+use Rattle.std.proofs.Common.{arith, ◌-◌, ◌^◌, ◌≡◌, ◌<◌, ℕ, ◌+◌, ◌*◌, length, take, ◌/◌, get_or, ap, ◌∙◌, sym, subst, List, [], suc}
 use Rattle.std.proofs.lemmas.List.{get_or_default}
 use Rattle.std.specs.List.{fold}
 use Rattle.prefix_scan.specs.Rows.{paired, lifted, first_row}
-use Rattle.prefix_scan.proofs.HeightLemmas.{count_rises}
+use Rattle.prefix_scan.proofs.HeightLemmas.{count_rises, half_below, odd_inside}
 use Rattle.prefix_scan.proofs.ReachLemmas.{Reached, reached_first, reached_end, reached_even, reached_odd, reached_odd-fits}
 use Rattle.prefix_scan.proofs.RowLemmas.{row_at-is}
 use Rattle.prefix_scan.proofs.tree_rows.join_first.Goals as goal
@@ -16,6 +16,7 @@ loop-row-init g c =
       reached = subst (λ (a : _). Reached g.met.M.Monoid.laws xs c.args.i a (fold m.op m.empty (take c.args.i xs))) (sym c.unit-after.ensures) (reached_first g.met.M.Monoid.laws xs c.args.i c.requires.within c.requires.sizes);
       grows = omega arith;
       cost = omega arith;
+      few = λ k low. (let same : k ≡ k - 0 = omega arith in subst (λ n. c.args.i < 2 ^ n) same low, omega arith);
       within = omega arith;
       counted = λ some low. omega arith;
     }
@@ -65,6 +66,7 @@ loop-row-preserved g c =
             reached = subst (λ (t : List g.row.M.Denot × g.row.M.Denot). Reached g.met.M.Monoid.laws t.0 h t.1 answer) (λ i. (sym up i, after i)) (reached_odd g.met.M.Monoid.laws row at h c.loop-row.after answer (omega arith) reached);
             grows = omega arith;
             cost = omega arith;
+            few = λ k low. let f = inv.few k low in let inside = odd_inside at k l (omega arith) f.0 in (half_below at k l f.0, omega arith);
             within = omega arith;
             counted = λ some low. let more = count_rises c.args.count.now c.loop-row.count w.counted_join-after.new.count (2 ^ 64 - 1) inv.grows low w.counted_join-after.ensures.one_more w.counted_join-after.ensures.bound.0 in omega arith;
           }
@@ -73,6 +75,7 @@ loop-row-preserved g c =
             reached = subst (λ (t : List g.row.M.Denot × g.row.M.Denot). Reached g.met.M.Monoid.laws t.0 h t.1 answer) (λ i. (sym up i, sym w.after-is i)) (reached_even g.met.M.Monoid.laws row at h c.loop-row.after answer (omega arith) reached);
             grows = omega arith;
             cost = omega arith;
+            few = λ k low. let f = inv.few k low in (half_below at k l f.0, let c = f.1 in omega arith);
             within = omega arith;
             counted = λ some low. let more = inv.counted some low in omega arith;
           }
@@ -85,3 +88,6 @@ returns-clause-value g c =
     let all : c.loop-row.row-index ≡ length rows = omega arith in
     let none : lifted m.op c.loop-row.row-index (first_row rows) ≡ [] = ap (λ n. lifted m.op n (first_row rows)) all ∙ c.requires.rows.done in
     reached_end g.met.M.Monoid.laws c.loop-row.at c.loop-row.after (fold m.op m.empty (take c.args.i (first_row rows))) (subst (λ (k : List g.row.M.Denot). Reached g.met.M.Monoid.laws k c.loop-row.at c.loop-row.after (fold m.op m.empty (take c.args.i (first_row rows)))) none c.loop-row.invariant.reached)
+
+pub returns-clause-few : goal.returns-clause-few
+returns-clause-few g c = λ k low. let f = c.loop-row.invariant.few k low in let most = f.1 in omega arith

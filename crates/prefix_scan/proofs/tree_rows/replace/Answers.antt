@@ -114,3 +114,12 @@ loop-row-preserved g c =
       counted = λ some low. count_rises c.args.count.now c.loop-row.count c.counted_join-value.new.count (2 ^ 64 - 1) inv.grows low c.counted_join-value.ensures.one_more c.counted_join-value.ensures.bound.0;
       first = λ none. absurd (omega arith);
     }
+
+pub returns-clause-few : goal.returns-clause-few
+returns-clause-few g c =
+    let m = g.M.Monoid in
+    let inv = c.loop-row.invariant in
+    let xs = first_row c.args.rows.now in
+    let all : c.loop-row.row-index ≡ length c.args.rows.now = omega (arith, inv.within, inv.same_length, c.loop-row-test.false) in
+    let none = ap length (ap (λ n. lifted m.op n xs) all ∙ c.requires.rows.done) in
+    absurd (omega (arith, none, inv.at_within))

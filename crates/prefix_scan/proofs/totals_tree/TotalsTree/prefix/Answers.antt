@@ -15,3 +15,8 @@ returns-clause-empty g c none =
     let count = ap (λ (t : Counted _). t.joins) c.self.view_is in
     let no : length c.self.inside.rows.items ≡ 0 = no_rows (length c.self.inside.rows.items) (omega (arith, c.self.invariant.0.tall, ap length is, none)) in
     omega (arith, no, c.join_first.ensures.cost, c.join_first.ensures.grows, ap length c.deref.ensures.value, count)
+
+pub returns-clause-few : goal.returns-clause-few
+returns-clause-few g c k low =
+    let count = ap (λ (t : Counted _). t.joins) c.self.view_is in
+    omega (arith, c.join_first.ensures.few k low, count)
