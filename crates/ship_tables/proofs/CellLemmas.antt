@@ -32,7 +32,7 @@ position-none test (k ∷ ks) none =
     let later = position-none test ks (λ j d h. none (suc j) d (omega arith)) in
     position-cons test k ks ∙ (rw first (ap (option_map suc) later))
 
-cells_same : (a b : Cell) → cell_eq a b ≡ true → a ≡ b
+pub cells_same : (a b : Cell) → cell_eq a b ≡ true → a ≡ b
 cells_same a b h =
     let parts = (Decides-and _ _ (unsigned_Decides a.bay b.bay) (Decides-and _ _ (unsigned_Decides a.row b.row) (unsigned_Decides a.tier b.tier))).0 h in
     λ i. record { bay = parts.0 i; row = parts.1.0 i; tier = parts.1.1 i }

@@ -10,6 +10,7 @@ pub mod MeaningLemmas
 pub mod NameLemmas
 pub mod OutcomeLemmas
 pub mod PlaceLemmas
+pub mod PlainLemmas
 pub mod ReadLemmas
 pub mod RowLemmas
 pub mod SetWalks

@@ -4,6 +4,7 @@ pub mod Faults
 pub mod Gathering
 pub mod Lookup
 pub mod Outcome
+pub mod Plain
 pub mod Printed
 pub mod Record
 pub mod Tables

@@ -11,3 +11,7 @@ index_in blocks entries cell =
 abbrev pub AllTold : List ℕ → List ℕ → List Cell → Type 0
 AllTold blocks entries cells = (i : ℕ) (d : Cell) → i < length cells
     → index_in blocks entries (get_or cells i d) ≡ i
+
+-- some tables give each cell of the list its index, so that no two of them are equal
+abbrev pub AreApart : List Cell → Type 0
+AreApart cells = (blocks entries : List ℕ) × AllTold blocks entries cells

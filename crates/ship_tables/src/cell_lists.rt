@@ -1,8 +1,9 @@
-ghost use Rattle.std.specs.Prelude.{◌≡◌, IfOk};
+ghost use Rattle.std.specs.Prelude.{◌≡◌, ◌<◌, ◌+◌, ◌*◌, ◌^◌, ◌++◌, ◌∷◌, [], true, slice_index};
+ghost use Rattle.std.specs.Prelude.{IfOk, IfSome};
 ghost use Rattle.std.specs.Bool.{OnTrue};
 ghost use Rattle.std.specs.List.{position};
 ghost use Rattle.units_core.specs.Cells.{cell_eq};
-ghost use Rattle.ship_tables.specs.Lookup.{index_in, AllTold};
+ghost use Rattle.ship_tables.specs.Lookup.{index_in, AllTold, AreApart};
 
 use std::alloc::{AllocError, Global};
 use std::marker::Model;
@@ -34,18 +35,33 @@ impl Model for CellList {
     ghost invariant = { λ c. c.sure ≡ true → AllTold c.blocks.items c.entries.items c.cells.items };
 }
 
+/// The number of a bay and row among all of them.
+#[inline(always)]
+fn pair_of(cell: Cell) -> usize
+    ensures { result ≡ cell.bay * 100 + cell.row }
+{
+    usize::from(cell.bay) * TIERS + usize::from(cell.row)
+}
+
+/// The block of a bay and row; 0 where they have none.
+#[inline(always)]
+fn block_of(blocks: &[u16], pair: usize) -> usize
+    ensures value { result ≡ slice_index blocks.now pair }
+    ensures small { result < 2 ^ 16 }
+{
+    if pair < blocks.len() {
+        usize::from(blocks[pair])
+    } else {
+        0
+    }
+}
+
 /// The index of a cell by the tables; any index where they have none.
 #[inline(always)]
 fn told_at(blocks: &[u16], entries: &[u16], cell: Cell) -> usize
     ensures { result ≡ index_in blocks.now entries.now cell }
 {
-    let pair = usize::from(cell.bay) * TIERS + usize::from(cell.row);
-    let block = if pair < blocks.len() {
-        usize::from(blocks[pair])
-    } else {
-        0
-    };
-    let at = block * TIERS + usize::from(cell.tier);
+    let at = block_of(blocks, pair_of(cell)) * TIERS + usize::from(cell.tier);
     if at < entries.len() {
         usize::from(entries[at])
     } else {
@@ -53,62 +69,63 @@ fn told_at(blocks: &[u16], entries: &[u16], cell: Cell) -> usize
     }
 }
 
-/// One block more, whose entries say nothing.
-fn add_block(entries: &mut Vec<u16>) -> Result<(), AllocError> {
-    for _ in 0..TIERS {
-        entries.push(0)?;
+/// Entries of a block that say nothing.
+static NO_ENTRIES: [u16; TIERS] = [0; TIERS];
+
+/// Makes the block of a bay and row. The first block belongs to none.
+#[cold]
+#[inline(never)]
+fn make_block(blocks: &mut Vec<u16>, entries: &mut Vec<u16>, pair: usize) -> Result<(), AllocError>
+    requires { pair < 2 ^ 24 }
+{
+    if pair >= blocks.len() {
+        blocks.resize(pair + 1, 0)?;
+    }
+    if entries.is_empty() {
+        entries.extend_from_slice(&NO_ENTRIES)?;
+    }
+    let Ok(block) = u16::try_from(entries.len() / TIERS) else {
+        return Ok(());
+    };
+    entries.extend_from_slice(&NO_ENTRIES)?;
+    if pair < blocks.len() {
+        blocks[pair] = block;
     }
     Ok(())
 }
 
-/// Makes the tables reach to a bay and row.
-fn reach(blocks: &mut Vec<u16>, pair: usize) -> Result<(), AllocError> {
-    for _ in blocks.len()..=pair {
-        blocks.push(0)?;
-    }
-    Ok(())
-}
-
-/// Writes the index of a cell to the tables, as far as they have room. The first block belongs to
-/// no bay.
-fn note(
+/// The place of a cell's entry, whose block is made where there is none; past the last entry, or in
+/// the first block, where there is no room for it.
+#[inline(always)]
+fn entry_of(
     blocks: &mut Vec<u16>,
     entries: &mut Vec<u16>,
     cell: Cell,
-    place: u16,
-) -> Result<(), AllocError> {
-    let pair = usize::from(cell.bay) * TIERS + usize::from(cell.row);
-    reach(blocks, pair)?;
-    if pair >= blocks.len() {
-        return Ok(());
+) -> Result<usize, AllocError> {
+    let pair = pair_of(cell);
+    let mut block = block_of(blocks, pair);
+    if block == 0 {
+        make_block(blocks, entries, pair)?;
+        block = block_of(blocks, pair);
     }
-    if blocks[pair] == 0 {
-        let Ok(block) = u16::try_from(entries.len() / TIERS) else {
-            return Ok(());
-        };
-        blocks[pair] = block;
-        add_block(entries)?;
-    }
-    let at = usize::from(blocks[pair]) * TIERS + usize::from(cell.tier);
-    if at < entries.len() {
-        entries[at] = place;
-    }
-    Ok(())
+    Ok(block * TIERS + usize::from(cell.tier))
 }
 
-/// Writes the index of each cell to the tables. They are tested afterwards, so nothing is promised
-/// of them.
+/// Writes the index of each cell to the tables, as far as they have room. They are tested
+/// afterwards, so nothing is promised of them.
 fn note_all(
     blocks: &mut Vec<u16>,
     entries: &mut Vec<u16>,
     cells: &[Cell],
 ) -> Result<(), AllocError> {
-    add_block(entries)?;
     for (place, cell) in cells.iter().enumerate() {
         let Ok(place) = u16::try_from(place) else {
             return Ok(());
         };
-        note(blocks, entries, *cell, place)?;
+        let at = entry_of(blocks, entries, *cell)?;
+        if at < entries.len() {
+            entries[at] = place;
+        }
     }
     Ok(())
 }
@@ -130,6 +147,69 @@ fn search(cells: &[Cell], cell: Cell) -> Option<usize>
     ensures { result ≡ position (cell_eq cell) cells.now }
 {
     cells.iter().position(|other| cell == *other)
+}
+
+/// A list of different cells that is being made, with the tables by which they are found.
+#[derive(Debug, Drop)]
+pub struct GrowingList {
+    pub cells: Vec<Cell>,
+    blocks: Vec<u16>,
+    entries: Vec<u16>,
+}
+
+impl GrowingList {
+    /// A list with no cell.
+    pub fn new(alloc: Global) -> GrowingList
+        ensures { result.cells.items ≡ [] }
+    {
+        GrowingList {
+            cells: Vec::new(alloc),
+            blocks: Vec::new(alloc),
+            entries: Vec::new(alloc),
+        }
+    }
+
+    /// Adds a cell; false where the tables have it already, or have no room for it.
+    pub fn add(&mut self, cell: Cell) -> Result<bool, AllocError>
+        ensures { IfOk result
+            (λ added. added ≡ true → self.new.cells.items ≡ self.old.cells.items ++ cell ∷ []) }
+    {
+        let Ok(place) = u16::try_from(self.cells.len()) else {
+            return Ok(false);
+        };
+        let at = entry_of(&mut self.blocks, &mut self.entries, cell)?;
+        if at >= self.entries.len() {
+            return Ok(false);
+        }
+        let told = usize::from(self.entries[at]);
+        if told < self.cells.len() && self.cells[told] == cell {
+            return Ok(false);
+        }
+        self.entries[at] = place;
+        self.cells.push(cell)?;
+        Ok(true)
+    }
+
+    /// The list, where each cell is found at its index.
+    pub fn finish(self) -> Option<CellList>
+        ensures value { IfSome result (λ c. c ≡ self.cells.items) }
+        ensures apart { IfSome result (λ c. AreApart self.cells.items) }
+    {
+        let GrowingList {
+            cells,
+            blocks,
+            entries,
+        } = self;
+        if !all_told(&blocks, &entries, &cells) {
+            return None;
+        }
+        Some(CellList {
+            cells,
+            blocks,
+            entries,
+            sure: true,
+        })
+    }
 }
 
 impl CellList {

@@ -14,6 +14,7 @@ mod hydrostatics;
 mod laws;
 mod layouts;
 mod places;
+mod plain_cells;
 mod reading;
 mod readings;
 mod rows;

@@ -9,6 +9,7 @@ use crate::cell_lists::CellList;
 use crate::extents::Extent;
 use crate::faults::TableFault;
 use crate::forms::cells_layout;
+use crate::plain_cells::read_plain;
 use crate::reading::read_file;
 use crate::rows::Row;
 use std::alloc::Global;
@@ -46,6 +47,14 @@ fn place_number(places: &[Place], index: usize) -> Option<Place>
 }
 
 impl CellPlaces {
+    /// The cells with their places, in the same order.
+    pub fn of(cells: CellList, places: Vec<Place>) -> CellPlaces
+        requires { length places.items ≡ length cells }
+        ensures { result ≡ zip cells places.items }
+    {
+        CellPlaces { cells, places }
+    }
+
     /// The number of a cell, from 0 in the order of the file, in constant time; `None` for a cell
     /// that the ship hasn't.
     pub fn number(&self, cell: Cell) -> Option<usize>
@@ -111,12 +120,24 @@ fn gather(alloc: Global, rows: &[Row], cells: &[Cell]) -> Result<CellPlaces, Tab
     Ok(CellPlaces { cells, places })
 }
 
-/// The cells that the text of `cells.csv` writes, for a ship of this extent.
-pub fn read_places(alloc: Global, extent: &Extent, text: &[u8]) -> Result<CellPlaces, TableFault>
+/// The cells that the text of `cells.csv` writes, row by row.
+fn read_in_turn(alloc: Global, extent: &Extent, text: &[u8]) -> Result<CellPlaces, TableFault>
     ensures ok { IfOk result (λ c. places_in extent.now text.now ≡ Ok c) }
     ensures refused { IfErr result
         (λ e. e ≢ TableFault.NoMemory → places_in extent.now text.now ≡ Err e) }
 {
     let read = read_file(alloc, &cells_layout(*extent), text)?;
     gather(alloc, read.rows.as_slice(), read.cells.as_slice())
+}
+
+/// The cells that the text of `cells.csv` writes, for a ship of this extent.
+pub fn read_places(alloc: Global, extent: &Extent, text: &[u8]) -> Result<CellPlaces, TableFault>
+    ensures ok { IfOk result (λ c. places_in extent.now text.now ≡ Ok c) }
+    ensures refused { IfErr result
+        (λ e. e ≢ TableFault.NoMemory → places_in extent.now text.now ≡ Err e) }
+{
+    match read_plain(alloc, extent, text)? {
+        Some(places) => Ok(places),
+        None => read_in_turn(alloc, extent, text),
+    }
 }

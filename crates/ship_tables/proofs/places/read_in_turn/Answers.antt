@@ -4,7 +4,7 @@ use Rattle.ship_tables.specs.Record.{cells_form, length_column, size_column}
 use Rattle.ship_tables.specs.Tables.{cells_in}
 use Rattle.ship_tables.proofs.MeaningLemmas.{cells-length, places-sound}
 use Rattle.ship_tables.proofs.SoundLemmas.{file_in-sound}
-use Rattle.ship_tables.proofs.places.read_places.Goals as goal
+use Rattle.ship_tables.proofs.places.read_in_turn.Goals as goal
 
 pub gather-requires-clause-places : goal.gather-requires-clause-places
 gather-requires-clause-places c =
