@@ -30,6 +30,7 @@ pub record Parted (sv : Service) : Type 0 where
   pub element : is_unfit sv.element ≡ false
   pub terminator : is_unfit sv.terminator ≡ false
   pub release : is_bad_release sv sv.release ≡ false
+  pub separators : (sv.component == sv.element) ≡ false
 
 off : (b : Bool) → not b ≡ true → b ≡ false
 off true h = cc
@@ -46,7 +47,7 @@ parted sv fit =
     let ce = or_off (is_unfit sv.component || is_unfit sv.element || is_unfit sv.terminator) (sv.component == sv.element) ct.0 in
     let t = or_off (is_unfit sv.component || is_unfit sv.element) (is_unfit sv.terminator) ce.0 in
     let c = or_off (is_unfit sv.component) (is_unfit sv.element) t.0 in
-    record { component = c.0; element = c.1; terminator = t.1; release = g.1 }
+    record { component = c.0; element = c.1; terminator = t.1; release = g.1; separators = ce.1 }
 
 pub plain_apart_of : (sv : Service) (b : ℕ) → serves sv ≡ true → is_plain b ≡ true →
     (is_release sv.release b ≡ false) × ((b == sv.element) ≡ false) × ((b == sv.component) ≡ false)

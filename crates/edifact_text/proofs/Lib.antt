@@ -22,3 +22,4 @@ pub mod TagLemmas
 pub mod FitLemmas
 pub mod OrdinaryLemmas
 pub mod QualifierLemmas
+pub mod FieldLemmas

@@ -8,7 +8,7 @@ use Rattle.edifact_text.proofs.FitLemmas.{plain_apart_of}
 use Rattle.edifact_text.proofs.RawLemmas.{at_byte, front_byte}
 
 -- A letter or digit is the literal's first byte.
-plain_byte : (sv : Service) (b : ℕ) (bs : List ℕ) → serves sv ≡ true → is_plain b ≡ true → leading_literal sv (b ∷ bs) ≡ b ∷ leading_literal sv bs
+pub plain_byte : (sv : Service) (b : ℕ) (bs : List ℕ) → serves sv ≡ true → is_plain b ≡ true → leading_literal sv (b ∷ bs) ≡ b ∷ leading_literal sv bs
 plain_byte sv b bs fit h =
     let p = plain_apart_of sv b fit h in
     let e : (b == sv.element || b == sv.component) ≡ false = rw (p.1, p.2) refl in
@@ -57,7 +57,7 @@ pub short_text : (sv : Service) (bytes left text : List ℕ) (i : ℕ) → i < l
 short_text sv bytes [] text i h e l = not_text text i (leading_literal sv bytes) [] h e (λ more s. cc)
 short_text sv bytes (x ∷ xs) text i h e l = absurd (omega arith)
 
-one_further : (text : List ℕ) (i : ℕ) (ys : List ℕ) → i < length text → take i text ++ (get_or text i 0 ∷ ys) ≡ take (suc i) text ++ ys
+pub one_further : (text : List ℕ) (i : ℕ) (ys : List ℕ) → i < length text → take i text ++ (get_or text i 0 ∷ ys) ≡ take (suc i) text ++ ys
 one_further [] i ys h = absurd (omega arith)
 one_further (t ∷ ts) zero ys h = refl
 one_further (t ∷ ts) (suc i) ys h = ap (λ zs. t ∷ zs) (one_further ts i ys (omega arith))

@@ -15,6 +15,7 @@ mod components;
 mod cursor;
 mod envelope;
 mod faults;
+mod fields;
 mod laws;
 mod message;
 mod numbers;

@@ -1,14 +1,18 @@
 //! What a caller reads of a message.
-ghost use Rattle.std.specs.Prelude.{◌≡◌, ◌↔◌, IfSome, IsTrue, drop, true};
+ghost use Rattle.std.specs.Prelude.{◌≡◌, ◌↔◌, ◌∷◌, [], IfSome, IsTrue, Some, drop, true};
 ghost use Rattle.std.specs.Iterator.{YieldsFirstBy, item_count};
 ghost use Rattle.edifact_text.specs.Characters.{serves};
 ghost use Rattle.edifact_text.specs.Interchange.{component};
 ghost use Rattle.edifact_text.specs.Reading.{segment_of};
 ghost use Rattle.edifact_text.specs.Views.{letters_of, meaning_of, message_view, numbered_view};
-ghost use Rattle.edifact_text.specs.Views.{left_of};
+ghost use Rattle.edifact_text.specs.Views.{leading_component, leading_literal, left_of};
+ghost use Rattle.edifact_text.specs.Pieces.{literal};
+ghost use Rattle.edifact_text.specs.Rows.{count_of};
 
 use crate::components::{component_of, first_two_of, is_plain};
+use crate::fields::{leading_eleven, leading_measure, leading_seven};
 use crate::message::{Message, Segment, Segments};
+use crate::pieces::from_piece;
 use crate::qualifiers::leads_with;
 use crate::raw::Raw;
 use crate::segment_text::SegmentText;
@@ -152,6 +156,59 @@ impl<'a> Segment<'a> {
             return first_two_of(self.behind_tag(), &self.service, i - 1);
         }
         (self.seen_component(i, 0), self.seen_component(i, 1))
+    }
+
+    /// The bytes from element `i` on, where that is behind a plain tag and there is one.
+    #[inline(always)]
+    #[tactic(auto, using(crate::proofs::ReadingLemmas::part_is), unfolding(crate::specs::Views::numbered_view, crate::specs::Interchange::component, crate::specs::Stages::part))]
+    fn from_element(&self, i: usize) -> Option<&'a [u8]>
+        ensures first { IfSome result (λ rest. component (numbered_view self.now).parts i 0
+            ≡ leading_literal self.now.service rest.now) }
+        ensures second { IfSome result (λ rest. component (numbered_view self.now).parts i 1
+            ≡ literal self.now.service.release (leading_component self.now.service 1 rest.now)) }
+    {
+        if !self.is_plain || i == 0 {
+            return None;
+        }
+        let service = self.service;
+        let rest = from_piece(self.behind_tag(), service.release, service.element, i - 1)?;
+        Some(rest)
+    }
+
+    /// Component 0 of element `i`, where it was seen to be seven digits. Nothing is said of
+    /// another.
+    #[inline(always)]
+    pub fn seven_digits(&self, i: usize) -> Option<&'a [u8]>
+        ensures { IfSome result (λ text. component (numbered_view self.now).parts i 0 ≡ text.now) }
+    {
+        let rest = self.from_element(i)?;
+        let text = leading_seven(rest, self.service)?;
+        Some(text)
+    }
+
+    /// Component 0 of element `i`, where it was seen to be eleven bytes, none of them released, as
+    /// a container's number is (ISO 6346). Nothing is said of another.
+    #[inline(always)]
+    pub fn eleven_bytes(&self, i: usize) -> Option<&'a [u8]>
+        ensures { IfSome result (λ text. component (numbered_view self.now).parts i 0 ≡ text.now) }
+    {
+        let rest = self.from_element(i)?;
+        let text = leading_eleven(rest, self.service)?;
+        Some(text)
+    }
+
+    /// The number that component 1 of element `i` writes in 1 to 10 digits, where component 0 was
+    /// seen to be these three capital letters. Nothing is said of another element.
+    #[inline(always)]
+    pub fn measure(&self, i: usize, first: u8, second: u8, third: u8) -> Option<u64>
+        ensures unit { IfSome result (λ _. component (numbered_view self.now).parts i 0
+            ≡ first ∷ second ∷ third ∷ []) }
+        ensures number { IfSome result
+            (λ n. count_of (component (numbered_view self.now).parts i 1) ≡ Some n) }
+    {
+        let rest = self.from_element(i)?;
+        let number = leading_measure(rest, self.service, first, second, third)?;
+        Some(number)
     }
 
     /// Component `j` of element `i`, read from the segment's first byte on.

@@ -4,3 +4,4 @@ pub mod MessageLemmas
 pub mod StepLemmas
 pub mod StepWalks
 pub mod Texts
+pub mod CountedLemmas

@@ -11,7 +11,7 @@ ghost use Rattle.stow_messages.specs.Views.{found_view};
 
 use crate::faults::{NO_MEMORY, StowCode, StowFault};
 use crate::items::Item;
-use crate::weights::kilograms;
+use crate::weights::{in_six_digits, kilograms};
 use arrayvec::ArrayVec;
 use edifact_text::{Raw, Segment, Tag};
 use units_core::{Cell, Kg};
@@ -172,7 +172,7 @@ fn cell_named(segment: &Segment<'_>, text: &[u8]) -> Result<Cell, StowFault>
     }
 }
 
-/// The cell of a location some byte of which is released: the literal is copied first.
+/// The cell of a location, by its literal.
 #[cold]
 #[inline(never)]
 fn cell_spelt(segment: Segment<'_>) -> Result<Cell, StowFault>
@@ -190,10 +190,23 @@ fn cell_spelt(segment: Segment<'_>) -> Result<Cell, StowFault>
 fn cell_at(segment: &Segment<'_>) -> Result<Cell, StowFault>
     ensures { result ≡ cell_at (numbered_view segment.now) }
 {
-    match segment.component(2, 0).unreleased() {
+    match segment.seven_digits(2) {
         Some(text) => cell_named(segment, text),
         None => cell_spelt(*segment),
     }
+}
+
+/// The identification of a container, by its literal.
+#[cold]
+#[inline(never)]
+fn id_spelt(segment: Segment<'_>) -> Result<ArrayVec<u8, 17>, StowFault>
+    ensures { result ≡ id_at (numbered_view segment.entry) }
+{
+    let mut id: ArrayVec<u8, 17> = ArrayVec::new();
+    if !segment.component(2, 0).literal_into(&mut id) {
+        return Err(fault_at(StowCode::IdTooLong, &segment));
+    }
+    Ok(id)
 }
 
 /// The identification of a container.
@@ -201,11 +214,29 @@ fn cell_at(segment: &Segment<'_>) -> Result<Cell, StowFault>
 fn id_at(segment: &Segment<'_>) -> Result<ArrayVec<u8, 17>, StowFault>
     ensures { result ≡ id_at (numbered_view segment.now) }
 {
-    let mut id: ArrayVec<u8, 17> = ArrayVec::new();
-    if !segment.component(2, 0).literal_into(&mut id) {
-        return Err(fault_at(StowCode::IdTooLong, segment));
+    if let Some(text) = segment.eleven_bytes(2) {
+        let mut id: ArrayVec<u8, 17> = ArrayVec::new();
+        if id.try_extend_from_slice(text).is_ok() {
+            return Ok(id);
+        }
     }
-    Ok(id)
+    id_spelt(*segment)
+}
+
+/// The mass of a measurement, by the literals of its unit and value.
+#[cold]
+#[inline(never)]
+fn kg_spelt(segment: Segment<'_>, mark: u8) -> Result<Kg, StowFault>
+    ensures { result ≡ kg_at mark (numbered_view segment.entry) }
+{
+    let (unit, value) = segment.first_two(3);
+    if !reads(unit, b"KGM") {
+        return Err(fault_at(StowCode::WrongUnit, &segment));
+    }
+    match kilograms(value, mark) {
+        Some(kg) => Ok(kg),
+        None => Err(fault_at(StowCode::BadWeight, &segment)),
+    }
 }
 
 /// The mass of a measurement.
@@ -213,11 +244,11 @@ fn id_at(segment: &Segment<'_>) -> Result<ArrayVec<u8, 17>, StowFault>
 fn kg_at(segment: &Segment<'_>, mark: u8) -> Result<Kg, StowFault>
     ensures { result ≡ kg_at mark (numbered_view segment.now) }
 {
-    let (unit, value) = segment.first_two(3);
-    if !reads(unit, b"KGM") {
-        return Err(fault_at(StowCode::WrongUnit, segment));
-    }
-    match kilograms(value, mark) {
+    let number = match segment.measure(3, b'K', b'G', b'M') {
+        Some(number) => number,
+        None => return kg_spelt(*segment, mark),
+    };
+    match in_six_digits(number) {
         Some(kg) => Ok(kg),
         None => Err(fault_at(StowCode::BadWeight, segment)),
     }

@@ -3,7 +3,7 @@ ghost use Rattle.std.specs.Char.{is_ascii_digit};
 ghost use Rattle.std.specs.List.{list_all};
 ghost use Rattle.std.specs.Str.Parse.{digits_value};
 ghost use Rattle.edifact_text.specs.Views.{meaning_of};
-ghost use Rattle.stow_messages.specs.Weights.{kg_in, kg_of, digits_of, behind_digits, is_fraction};
+ghost use Rattle.stow_messages.specs.Weights.{in_six_digits, kg_in, kg_of, digits_of, behind_digits, is_fraction};
 ghost use Rattle.stow_messages.specs.Weights.{is_above_zero, begins_with_digit};
 
 use arrayvec::ArrayVec;
@@ -97,6 +97,17 @@ fn is_above_zero(text: &[u8]) -> bool
     match text {
         [] => false,
         [_, digits @ ..] => !are_zeros(digits),
+    }
+}
+
+/// The mass of a number of kilograms, which has six digits at most.
+#[inline(always)]
+pub fn in_six_digits(number: u64) -> Option<Kg>
+    ensures { result ≡ in_six_digits number }
+{
+    match u32::try_from(number) {
+        Ok(kg) => Kg::new(kg),
+        Err(_) => None,
     }
 }
 

@@ -264,6 +264,64 @@ fn identifications(rt: HostRuntime) -> Result<(), Fail> {
     check(&rt, &IDENTIFICATIONS)
 }
 
+/// Cells, identifications and masses of the forms that are read together, and of forms next to
+/// them.
+static COMMON_FORMS: [(&str, &str); 18] = [
+    (
+        "LOC+147+0030082::5 MEA+VGM++KGM:20500 EQD+CN+ABCU1234560+22G1+++5",
+        "ABCU1234560@0030082=20500 ",
+    ),
+    (
+        "LOC+147+003008?2::5 MEA+VGM++KGM:2050?0 EQD+CN+ABCU123456?0+22G1+++5",
+        "ABCU1234560@0030082=20500 ",
+    ),
+    (
+        "LOC+147+0030082+X MEA+WT++KGM:20500+1 EQD+CN+ABCU1234560:6346:5+22G1",
+        "ABCU1234560@0030082=20500 ",
+    ),
+    (
+        "LOC+147+0030082 MEA+WT++KGM:20500:2 EQD+CN+ABCU12?+4560+22G1+++5",
+        "ABCU12+4560@0030082=20500 ",
+    ),
+    (
+        "LOC+147+0030082 MEA+WT++KGM:7 EQD+CN+ABCU12345601+22G1+++5",
+        "ABCU12345601@0030082=7 ",
+    ),
+    (
+        "LOC+147+0030082 MEA+WT++KGM:7 EQD+CN+ABCU123456+22G1+++55",
+        "ABCU123456@0030082=7 ",
+    ),
+    (
+        "LOC+147+0030082 MEA+WT++KGM:7 EQD+CN+ABCU1234560?+22G1+++5",
+        "ABCU1234560+22G1@0030082=7 ",
+    ),
+    (
+        "LOC+147+0030082 MEA+WT++KGM:7 EQD+CN+ABCU1234560?+22G1AB++5",
+        "M3 segment 4",
+    ),
+    (
+        "LOC+147+0030082 MEA+WT++KGM:7 EQD+CN++ABCU1234560+22G1+++5",
+        "@0030082=7 ",
+    ),
+    ("LOC+147+0030082?+ MEA+WT++KGM:7", "M2 segment 2"),
+    ("LOC+147+00300821 MEA+WT++KGM:7", "M2 segment 2"),
+    ("LOC+147+003008A MEA+WT++KGM:7", "M2 segment 2"),
+    ("LOC+147++0030082 MEA+WT++KGM:7", "M2 segment 2"),
+    ("LOC+147+0030082 MEA+WT++KGM:", "M4 segment 3"),
+    ("LOC+147+0030082 MEA+WT++KGM:4294967297", "M4 segment 3"),
+    ("LOC+147+0030082 MEA+WT++KGM:0000000007", "@0030082=7 "),
+    ("LOC+147+0030082 MEA+WT++KGM:00000000007", "@0030082=7 "),
+    (
+        "LOC+147+0030082 MEA+WT++KGM:18446744073709551623",
+        "M4 segment 3",
+    ),
+];
+
+#[test]
+fn common_forms(rt: HostRuntime) -> Result<(), Fail> {
+    check(&rt, &COMMON_FORMS)
+}
+
 /// A group's faults come in one order, and before those of the group behind it.
 static FIRST_FAULTS: [(&str, &str); 9] = [
     (
