@@ -1,8 +1,8 @@
 -- What the steps of a list change, one by one and together.
-use Rattle.std.proofs.Common.{◌≡◌, ◌∙◌, ℕ, zero, suc, ◌+◌, ◌-◌, ◌*◌, ◌^◌, ◌<◌, ◌≤◌, List, [], ◌∷◌, ◌++◌, length, map, take, get_or, sum_by, Option, None, Some, refl, sym, ap, subst, arith}
+use Rattle.std.proofs.Common.{◌≡◌, ◌∙◌, ℕ, zero, suc, ◌+◌, ◌-◌, ◌*◌, ◌/◌, ◌^◌, ◌<◌, ◌≤◌, List, [], ◌∷◌, length, map, get_or, sum_by, Option, None, Some, refl, sym, ap, subst, arith}
 use Rattle.std.specs.List.{range_with_len}
 use Rattle.std.specs.Prelude.{slice_get}
-use Rattle.std.proofs.lemmas.List.{get_or-map, length-map, map-append}
+use Rattle.std.proofs.lemmas.List.{get_or-map, length-map}
 use Rattle.std.proofs.lemmas.Option.{none-some}
 use Rattle.std.proofs.lemmas.List.Sums.{fold_more, sum_by-cons}
 use Rattle.units_core.specs.declared.frames.Frame.{Frame}
@@ -15,19 +15,21 @@ use Rattle.prefix_scan.specs.Cut.{Divides, start_of}
 use Rattle.prefix_scan.proofs.CutLemmas.{start_within}
 use Rattle.prefix_scan.specs.Folds.{prefix}
 use Rattle.moment_sums.specs.Bounded.{IsBounded}
-use Rattle.moment_sums.specs.Kept.{Kept, both_kept, none_kept, size_of, values}
+use Rattle.moment_sums.specs.Kept.{Kept, bodies_of, both_kept, none_kept, size_of, values}
 use Rattle.moment_sums.specs.KeptLaws.{kept_laws}
-use Rattle.moment_sums.specs.Sum.{joined}
+use Rattle.moment_sums.specs.Sum.{changed_by, joined}
 use Rattle.moment_sums.proofs.Bounds.{values_both}
+use Rattle.moment_sums.proofs.KeptLemmas.{kept_size}
 use Rattle.run_inputs.specs.Readings.{IsMade}
 use Rattle.seq_report.specs.Cases.{IsReady, case_on, outcome_in}
 use Rattle.seq_report.specs.Chunks.{AreFirstSums, change_behind, changes_behind, parts_behind, sum_to}
 use Rattle.seq_report.specs.Report.{sum_at}
 use Rattle.seq_report.proofs.CaseLemmas.{can_be_done, ready}
-use Rattle.seq_report.proofs.SumLemmas.{change_size, changes_more, changes_size, changes_sum, room_behind, sum_here}
+use Rattle.seq_report.proofs.SumLemmas.{change_size, changes_more, changes_size, changes_sum, few_bodies, room_behind, sum_here}
 use Rattle.what_if.specs.Bases.{Base, IsBase, aboard_first, change_of, changes_on, report_on, steps_on}
-use Rattle.what_if.specs.Changes.{AreSmall}
+use Rattle.what_if.specs.Changes.{AreOfFour, AreSmall, fours}
 use Rattle.what_if.specs.Sessions.{IsSummed}
+use Rattle.what_if.proofs.FourLemmas.{four_of, fours-at, length-fours, of_four}
 
 module _ (frames : List Frame) where
   change_at : (steps : List Step) (k : ℕ) (d : Kept) → k < length steps → get_or (map (change_of frames) steps) k d ≡ change_behind frames steps k
@@ -51,42 +53,90 @@ module _ (frames : List Frame) where
   small [] = tt
   small (step ∷ more) = (change_size frames (step ∷ []) 0, small more)
 
-  -- one more, added at the end
+  -- of few bodies
+  pub prefix_size : (steps : List Step) (k : ℕ) → k ≤ length steps → k ≤ 120000 → size_of (prefix none_kept both_kept (map (change_of frames) steps) k) ≤ 2 * k
+  prefix_size steps k h few = omega (arith, ap size_of (changes_to steps k h), changes_size frames steps 0 k (omega (arith, few)))
+
+  -- the change that a step makes is the one of its place
   abbrev held : Step → Option Step → Step
   held d None = d
-  held d (Some step) = step
+  held d (Some x) = x
 
-  take_get : (steps : List Step) (i : ℕ) (step : Step) → slice_get steps i ≡ Some step → take (suc i) steps ≡ take i steps ++ step ∷ []
-  take_get [] i step h = absurd (none-some step h)
-  take_get (t ∷ ts) zero step h = ap (λ o. held t o ∷ []) h
-  take_get (t ∷ ts) (suc i) step h = ap (λ xs. t ∷ xs) (take_get ts i step h)
+  read_change : (steps : List Step) (i : ℕ) (s : Step) → slice_get steps i ≡ Some s → get_or (map (change_of frames) steps) i none_kept ≡ change_of frames s
+  read_change [] i s h = absurd (none-some s h)
+  read_change (t ∷ ts) zero s h = ap (λ o. change_of frames (held t o)) h
+  read_change (t ∷ ts) (suc i) s h = read_change ts i s h
 
-  pub more_change : (steps : List Step) (i : ℕ) (step : Step) (all after : List Kept) (v : Kept) → slice_get steps (i + 1 - 1) ≡ Some step → all ≡ map (change_of frames) (take i steps)
-      → v ≡ change_of frames step → after ≡ all ++ v ∷ [] → after ≡ map (change_of frames) (take (i + 1) steps)
-  more_change steps i step all after v h so_far is adds =
-      let here : slice_get steps i ≡ Some step = subst (λ n. slice_get steps n ≡ Some step) (back i) h in
-      let last : take (suc i) steps ≡ take (i + 1) steps = ap (λ n. take n steps) (one i) in
-      adds ∙ (λ j. so_far j ++ is j ∷ []) ∙ sym (map-append (change_of frames) (take i steps) (step ∷ [])) ∙ ap (map (change_of frames)) (sym (take_get steps i step here) ∙ last) where
-        one : (n : ℕ) → suc n ≡ n + 1
-        one n = omega arith
+  at_place : (steps : List Step) (i : ℕ) (s : Step) → slice_get steps (i + 1 - 1) ≡ Some s → slice_get steps i ≡ Some s
+  at_place steps i s h = subst (λ n. slice_get steps n ≡ Some s) (back i) h where
+    back : (n : ℕ) → n + 1 - 1 ≡ n
+    back n = omega arith
 
-        back : (n : ℕ) → n + 1 - 1 ≡ n
-        back n = omega arith
+  pub step_change : (steps : List Step) (i : ℕ) (s : Step) → slice_get steps (i + 1 - 1) ≡ Some s → change_of frames s ≡ get_or (map (change_of frames) steps) i none_kept
+  step_change steps i s h = sym (read_change steps i s (at_place steps i s h))
+
+  pub step_size : (s : Step) → bodies_of s ≤ 2
+  step_size s = few_bodies (Some s)
+
+  -- the first k together, and one more
+  pub one_more : (steps : List Step) (k : ℕ) (s : Step) (sum after : Kept) → k < length steps → slice_get steps (k + 1 - 1) ≡ Some s
+      → sum ≡ prefix none_kept both_kept (map (change_of frames) steps) k → after ≡ both_kept sum (change_of frames s)
+      → after ≡ prefix none_kept both_kept (map (change_of frames) steps) (k + 1)
+  one_more steps k s sum after low h so_far adds =
+      let all = map (change_of frames) steps in
+      let long = length-map steps (change_of frames) in
+      adds ∙ (λ j. both_kept (so_far j) (step_change steps k s h j)) ∙ sym (fold_more both_kept none_kept all k none_kept (omega (arith, long, low)))
+
+-- the change of a step whose place is told in another way
+pub step_at : (frames : List Frame) (steps : List Step) (n i : ℕ) (s : Step) → n ≡ i → slice_get steps n ≡ Some s → change_of frames s ≡ get_or (map (change_of frames) steps) i none_kept
+step_at frames steps n i s e h = sym (read_change frames steps i s (subst (λ m. slice_get steps m ≡ Some s) e h))
+
+-- the size of a sum to which a step was added
+pub added_size : (frames : List Frame) (s : Step) (sum after : Kept) (n : ℕ) → size_of sum ≤ n → n ≤ 100 → after ≡ both_kept sum (change_of frames s) → size_of after ≤ n + 2
+added_size frames s sum after n h few adds =
+    let one = kept_size (changed_by frames s) (bodies_of s) in
+    let two = few_bodies (Some s) in
+    let both = kept_laws.op_weight sum (change_of frames s) (omega (arith, h, few, one, two)) in
+    omega (arith, ap size_of adds, both, h, one, two)
+
+-- four steps added one after another
+pub four_is : (frames : List Frame) (steps : List Step) (four : ℕ) (s t u v : Step) (a b c d : Kept) → 4 * four + 4 ≤ length steps
+    → change_of frames s ≡ get_or (map (change_of frames) steps) (4 * four) none_kept → change_of frames t ≡ get_or (map (change_of frames) steps) (suc (4 * four)) none_kept
+    → change_of frames u ≡ get_or (map (change_of frames) steps) (suc (suc (4 * four))) none_kept → change_of frames v ≡ get_or (map (change_of frames) steps) (suc (suc (suc (4 * four)))) none_kept
+    → a ≡ change_of frames s → b ≡ both_kept a (change_of frames t) → c ≡ both_kept b (change_of frames u) → d ≡ both_kept c (change_of frames v)
+    → d ≡ get_or (fours (map (change_of frames) steps)) four none_kept
+four_is frames steps four s t u v a b c d within at_s at_t at_u at_v first second third fourth =
+    let xs = map (change_of frames) steps in
+    let x = change_of frames s in
+    let y = change_of frames t in
+    let z = change_of frames u in
+    let w = change_of frames v in
+    let i = kept_size (changed_by frames s) (bodies_of s) in
+    let j = kept_size (changed_by frames t) (bodies_of t) in
+    let k = kept_size (changed_by frames u) (bodies_of u) in
+    let l = kept_size (changed_by frames v) (bodies_of v) in
+    let both = kept_laws.op_weight x y (omega (arith, i, j, few_bodies (Some s), few_bodies (Some t))) in
+    let all : d ≡ both_kept (both_kept (both_kept x y) z) w = fourth ∙ ap (λ q. both_kept q w) (third ∙ ap (λ q. both_kept q z) (second ∙ ap (λ q. both_kept q y) first)) in
+    all ∙ kept_laws.assoc (both_kept x y) z w (omega (arith, both, i, j, k, l, few_bodies (Some s), few_bodies (Some t), few_bodies (Some u), few_bodies (Some v)))
+    ∙ (λ m. four_of (at_s m) (at_t m) (at_u m) (at_v m)) ∙ sym (fours-at xs four (4 * four) refl (omega (arith, within, length-map steps (change_of frames))))
 
 -- their sizes
 pub small_sum : (xs : List Kept) → AreSmall xs → sum_by size_of xs ≤ 2 * length xs
 small_sum [] h = omega arith
 small_sum (x ∷ xs) h = omega (arith, sum_by-cons size_of x xs, h.0, small_sum xs h.1)
 
+pub sizes_few : (frames : List Frame) (steps : List Step) → length steps ≤ 120000 → sum_by size_of (map (change_of frames) steps) ≤ 2 ^ 19
+sizes_few frames steps few =
+    let all = map (change_of frames) steps in
+    let sum = small_sum all (small frames steps) in
+    omega (arith, sum, few, length-map steps (change_of frames))
+
 pub sizes_fit : (base : Base) (ops : List Op) → length ops ≤ 120000 → sum_by size_of (changes_on base ops) ≤ 2 ^ 19
-sizes_fit base ops few =
-    let all = changes_on base ops in
-    let sum = small_sum all (small base.ship.ship.frames (steps_on base ops)) in
-    omega (arith, sum, few, length-map (steps_on base ops) (change_of base.ship.ship.frames), as_many base.ship (aboard_first base) ops)
+sizes_fit base ops few = sizes_few base.ship.ship.frames (steps_on base ops) (omega (arith, few, as_many base.ship (aboard_first base) ops))
 
 -- with what is aboard on arrival the first k changes are what is aboard after k steps
 module _ (base : Base) (sequence : SequenceRecord) (tree : Counted Kept) (total : Kept) (is_base : IsBase base.ship base.arrival total)
-    (summed : IsSummed base sequence tree) (k : ℕ) (within : k ≤ length sequence.ops) (change : Kept) (is : change ≡ prefix none_kept both_kept tree.values k) where
+    (summed : IsSummed base sequence tree) (k : ℕ) (within : k ≤ length sequence.ops) (change : Kept) (is : change ≡ prefix none_kept both_kept (map (change_of base.ship.ship.frames) sequence.steps) k) where
   made : IsMade base.ship base.arrival sequence
   made = record { legal = summed.legal; steps = summed.steps }
 
@@ -97,8 +147,7 @@ module _ (base : Base) (sequence : SequenceRecord) (tree : Counted Kept) (total 
   together =
       let frames = base.ship.ship.frames in
       let long = ap length summed.steps ∙ as_many base.ship (aboard_first base) sequence.ops in
-      is ∙ ap (λ xs. prefix none_kept both_kept xs k) (summed.changes ∙ ap (map (change_of frames)) (sym summed.steps))
-      ∙ changes_to frames sequence.steps k (omega (arith, long, within))
+      is ∙ changes_to frames sequence.steps k (omega (arith, long, within))
 
   pub change_fits : size_of change ≤ 2 * k
   change_fits = omega (arith, ap size_of together, changes_size base.ship.ship.frames sequence.steps 0 k (omega (arith, within, is_ready.few)))
@@ -124,12 +173,23 @@ module _ (base : Base) (sequence : SequenceRecord) (tree : Counted Kept) (total 
   pub bounded_after : (r : Kept) → r ≡ both_kept total change → IsBounded (values r)
   bounded_after r joins = subst IsBounded (sym (sum_after r joins)) (is_ready.bounded k)
 
--- the tree is over as many changes as the list has steps
+-- where chunks begin
+pub starts_within : (n : ℕ) (ends : List ℕ) → Divides ends (n + 1) → (c : ℕ) → c < length ends → start_of ends c ≤ n
+starts_within n ends d c low =
+    let rises = d.rising c low in
+    let end = start_within ends (n + 1) (suc c) d low in
+    omega (arith, rises, end)
+
+-- there are as many sums as the list has whole fours of steps
 module _ (base : Base) (sequence : SequenceRecord) (tree : Counted Kept) (summed : IsSummed base sequence tree) where
-  pub as_many_changes : length tree.values ≡ length sequence.ops
-  as_many_changes =
-      ap (λ l. length l) summed.changes ∙ length-map (steps_on base sequence.ops) (change_of base.ship.ship.frames)
-      ∙ as_many base.ship (aboard_first base) sequence.ops
+  pub as_many_fours : length tree.values ≡ length sequence.ops / 4
+  as_many_fours =
+      ap (λ l. length l) summed.changes ∙ length-fours (changes_on base sequence.ops)
+      ∙ ap (λ n. n / 4) (length-map (steps_on base sequence.ops) (change_of base.ship.ship.frames) ∙ as_many base.ship (aboard_first base) sequence.ops)
+
+  -- of the changes that the kept steps make
+  pub are_kept : tree.values ≡ fours (map (change_of base.ship.ship.frames) sequence.steps)
+  are_kept = summed.changes ∙ ap (λ steps. fours (map (change_of base.ship.ship.frames) steps)) (sym summed.steps)
 
   pub as_many_steps : length sequence.steps ≡ length sequence.ops
   as_many_steps = ap (λ l. length l) summed.steps ∙ as_many base.ship (aboard_first base) sequence.ops
@@ -137,18 +197,15 @@ module _ (base : Base) (sequence : SequenceRecord) (tree : Counted Kept) (summed
   pub few_steps : length sequence.ops ≤ 120000
   few_steps = (can_be_done base.ship (aboard_first base) sequence.ops summed.legal).few
 
-  pub are_small : AreSmall tree.values
-  are_small = subst AreSmall (sym summed.changes) (small base.ship.ship.frames (steps_on base sequence.ops))
+  pub are_of_four : AreOfFour tree.values
+  are_of_four = subst AreOfFour (sym summed.changes) (of_four (changes_on base sequence.ops) (small base.ship.ship.frames (steps_on base sequence.ops)))
 
   -- the sums at the first lines of chunks
   module _ (total : Kept) (is_base : IsBase base.ship base.arrival total) (ends : List ℕ) (d : Divides ends (length sequence.ops + 1))
       (changes : List Kept) (count : length changes ≡ length ends)
-      (each : (c : ℕ) (e : Kept) → c < length ends → get_or changes c e ≡ prefix none_kept both_kept tree.values (start_of ends c)) where
+      (each : (c : ℕ) (e : Kept) → c < length ends → get_or changes c e ≡ prefix none_kept both_kept (map (change_of base.ship.ship.frames) sequence.steps) (start_of ends c)) where
     within : (c : ℕ) → c < length ends → start_of ends c ≤ length sequence.ops
-    within c low =
-        let rises = d.rising c low in
-        let end = start_within ends (length sequence.ops + 1) (suc c) d low in
-        omega (arith, rises, end)
+    within = starts_within (length sequence.ops) ends d
 
     pub changes_fit : (c : ℕ) (e : Kept) → c < length changes → size_of (get_or changes c e) ≤ 2 ^ 18
     changes_fit c e low =

@@ -1,4 +1,5 @@
 mod ChangeLemmas
+mod FourLemmas
 mod PastLemmas
 mod RenewLemmas
 mod SwapLemmas

@@ -1,8 +1,9 @@
 -- Setting what steps change, one after another.
-use Rattle.std.proofs.Common.{◌≡◌, ℕ, zero, suc, ◌+◌, ◌-◌, ◌*◌, ◌^◌, ◌<◌, ◌≤◌, List, [], ◌∷◌, ◌++◌, length, map, take, drop, set, get_or, sum_by, Option, None, Some, Bool, true, false, refl, sym, ap, ◌∙◌, subst, arith, mul-le-mul_right}
+use Rattle.std.proofs.Common.{◌≡◌, ℕ, zero, suc, ◌+◌, ◌-◌, ◌*◌, ◌/◌, ◌<◌, ◌≤◌, List, [], ◌∷◌, ◌++◌, length, map, take, drop, set, get_or, Option, None, Some, Bool, true, false, refl, sym, ap, ◌∙◌, subst, arith, lt_of_not-le, mul-le-mul_right, ◌^◌}
 use Rattle.std.specs.Prelude.{slice_get, option_map, if◌then◌else◌}
-use Rattle.std.proofs.lemmas.List.{length-set, take_more, drop_more, set_at, length-take-le, append_assoc, set_split, take_all, drop_all, append-nil, drop-set-lt, length-drop, take-map}
-use Rattle.std.proofs.lemmas.Option.{none-some}
+use Rattle.std.proofs.lemmas.List.{length-map, length-set, take-append-drop, drop_more, take_all, drop_all, append-nil, drop-set-lt, length-drop, take-map}
+use mathlib.Core.Logic.{dite}
+use native.Mathlib.Decide.{dec_le}
 use Rattle.units_core.specs.declared.cells.Cell.{Cell}
 use Rattle.stow_messages.specs.declared.lifts.Lift.TheVariants.{Load}
 use Rattle.lift_sequence.specs.declared.operations.Op.{Op}
@@ -14,83 +15,127 @@ use Rattle.lift_sequence.proofs.FollowLemmas.{moves_few}
 use Rattle.units_core.specs.declared.frames.Frame.{Frame}
 use Rattle.std.specs.List.{AllByRecursion}
 use Rattle.bounded_sums.specs.Laws.{IsLight}
-use Rattle.moment_sums.specs.Kept.{Kept, none_kept, size_of}
+use Rattle.moment_sums.specs.Kept.{Kept, none_kept}
 use Rattle.step_edits.specs.Edits.{place_of}
 use Rattle.what_if.specs.Bases.{change_of}
-use Rattle.what_if.specs.Changes.{AreNear, AreSmall, IsNear}
+use Rattle.what_if.specs.Changes.{AreMixed, AreNear, AreOfFour, AreSmall, IsNear, WereNear, fours}
 use Rattle.what_if.specs.Sessions.{restows_behind}
-use Rattle.what_if.proofs.ChangeLemmas.{small_sum}
-
--- sizes
-pub small_set : (xs : List Kept) (i : ℕ) (x : Kept) → AreSmall xs → size_of x ≤ 2 → AreSmall (set xs i x)
-small_set [] i x h k = tt
-small_set (y ∷ ys) zero x h k = (k, h.1)
-small_set (y ∷ ys) (suc i) x h k = (h.0, small_set ys i x h.1 k)
-
-pub set_fits : (xs : List Kept) (i : ℕ) (x : Kept) → AreSmall xs → size_of x ≤ 2 → length xs ≤ 120000 → sum_by size_of (set xs i x) ≤ 2 ^ 19
-set_fits xs i x h k few = omega (arith, small_sum (set xs i x) (small_set xs i x h k), length-set xs i x, few)
+use Rattle.what_if.proofs.ChangeLemmas.{small}
+use Rattle.what_if.proofs.FourLemmas.{mixed_set, mixed_still, of_four, of_four_at, of_four_set}
 
 -- the change of the step at a place, set there, or found there
-module _ (ys olds : List Kept) (place : ℕ) where
-  pub goes_on : (cell : Option Cell) (ops : List Op) (op : Op) (now after : List Kept) → length olds ≡ length ys → length ops ≡ length ys → place < length ys
-      → get_or ops place op ≡ op → now ≡ take place ys ++ drop place olds → AreNear cell (drop place ops) (drop place olds) (drop place ys)
-      → after ≡ (if moves cell op then set now place (get_or ys place none_kept) else now)
-      → (after ≡ take (place + 1) ys ++ drop (place + 1) olds) × AreNear (next_cell cell op) (drop (place + 1) ops) (drop (place + 1) olds) (drop (place + 1) ys)
-  goes_on cell ops op now after same_old same_ops inside at mixed near renews = (by_cases (moves cell op) refl, parts.1) where
-    x : Kept
-    x = get_or olds place none_kept
+module _ (ys : List Kept) (place : ℕ) where
+  -- the sums after the first one was set
+  pub begins : (ops : List Op) (cell : Option Cell) (sums after : List Kept) → WereNear place ops ys sums → cell ≡ loaded_at ops place
+      → after ≡ set sums (place / 4) (get_or (fours ys) (place / 4) none_kept) → AreMixed cell (place + 1) (place / 4 * 4 + 4) ops ys after
+  begins ops cell sums after were in_cell sets =
+      let olds : List Kept = were.olds in
+      let before : olds ≡ take place ys ++ drop place olds = sym (take-append-drop place olds) ∙ ap (λ l. l ++ drop place olds) were.near.before in
+      record {
+        olds = olds;
+        long = were.long;
+        ahead = omega arith;
+        are = sets ∙ ap (λ l. set l (place / 4) (get_or (fours ys) (place / 4) none_kept)) (were.are ∙ ap fours before) ∙ mixed_set place ys olds (get_or (fours ys) (place / 4) none_kept) were.long refl;
+        near = subst (λ w. AreNear w (drop (place + 1) ops) (drop (place + 1) olds) (drop (place + 1) ys)) (sym in_cell) were.near.behind;
+      }
 
-    y : Kept
-    y = get_or ys place none_kept
+  pub goes_on : (cell : Option Cell) (ops : List Op) (op : Op) (done next : ℕ) (now after : List Kept) → length ops ≡ length ys → place < length ys → get_or ops place op ≡ op
+      → AreMixed cell place done ops ys now → (place < done → (next ≡ done) × (after ≡ now)) → (done ≤ place → moves cell op ≡ false → (next ≡ place + 1) × (after ≡ now))
+      → (done ≤ place → moves cell op ≡ true → (next ≡ place / 4 * 4 + 4) × (after ≡ set now (place / 4) (get_or (fours ys) (place / 4) none_kept)))
+      → AreMixed (next_cell cell op) (place + 1) next ops ys after
+  goes_on cell ops op done next now after same_ops within at mixed inside still sets =
+      dite (dec_le (suc place) done)
+      (λ low. let n = (inside (omega (arith, low))).0 in
+      let a = (inside (omega (arith, low))).1 in
+      record {
+        olds = olds;
+        long = mixed.long;
+        ahead = omega (arith, n, low);
+        are = a ∙ mixed.are ∙ ap (λ m. fours (take m ys ++ drop m olds)) (sym n);
+        near = parts.1;
+      })
+      (λ not. let high = lt_of_not-le not in by_cases (omega (arith, high)) (moves cell op) refl) where
+        olds : List Kept
+        olds = mixed.olds
 
-    front_old : drop place olds ≡ x ∷ drop (place + 1) olds
-    front_old = drop_more olds place none_kept (omega (arith, same_old, inside))
+        x : Kept
+        x = get_or olds place none_kept
 
-    front_new : drop place ys ≡ y ∷ drop (place + 1) ys
-    front_new = drop_more ys place none_kept inside
+        y : Kept
+        y = get_or ys place none_kept
 
-    front_ops : drop place ops ≡ op ∷ drop (place + 1) ops
-    front_ops = drop_more ops place op (omega (arith, same_ops, inside)) ∙ ap (λ o. o ∷ drop (place + 1) ops) at
+        front_old : drop place olds ≡ x ∷ drop (place + 1) olds
+        front_old = drop_more olds place none_kept (omega (arith, mixed.long, within))
 
-    parts : (moves cell op ≡ false → x ≡ y) × AreNear (next_cell cell op) (drop (place + 1) ops) (drop (place + 1) olds) (drop (place + 1) ys)
-    parts = subst (λ zs. AreNear cell zs (x ∷ drop (place + 1) olds) (y ∷ drop (place + 1) ys)) front_ops
-        (subst (λ zs. AreNear cell (drop place ops) zs (y ∷ drop (place + 1) ys)) front_old
-        (subst (λ zs. AreNear cell (drop place ops) (drop place olds) zs) front_new near))
+        front_new : drop place ys ≡ y ∷ drop (place + 1) ys
+        front_new = drop_more ys place none_kept within
 
-    more : take (place + 1) ys ≡ take place ys ++ y ∷ []
-    more = take_more ys place none_kept inside
+        front_ops : drop place ops ≡ op ∷ drop (place + 1) ops
+        front_ops = drop_more ops place op (omega (arith, same_ops, within)) ∙ ap (λ o. o ∷ drop (place + 1) ops) at
 
-    joined : take place ys ++ y ∷ drop (place + 1) olds ≡ take (place + 1) ys ++ drop (place + 1) olds
-    joined = sym (append_assoc (take place ys) (y ∷ []) (drop (place + 1) olds)) ∙ ap (λ zs. zs ++ drop (place + 1) olds) (sym more)
+        parts : (moves cell op ≡ false → x ≡ y) × AreNear (next_cell cell op) (drop (place + 1) ops) (drop (place + 1) olds) (drop (place + 1) ys)
+        parts = subst (λ zs. AreNear cell zs (x ∷ drop (place + 1) olds) (y ∷ drop (place + 1) ys)) front_ops
+            (subst (λ zs. AreNear cell (drop place ops) zs (y ∷ drop (place + 1) ys)) front_old
+            (subst (λ zs. AreNear cell (drop place ops) (drop place olds) zs) front_new mixed.near))
 
-    is : now ≡ take place ys ++ x ∷ drop (place + 1) olds
-    is = mixed ∙ ap (λ zs. take place ys ++ zs) front_old
+        by_cases : done ≤ place → (b : Bool) → moves cell op ≡ b → AreMixed (next_cell cell op) (place + 1) next ops ys after
+        by_cases le true e =
+            let n = (sets le e).0 in
+            let a = (sets le e).1 in
+            let here : done ≡ place = omega (arith, le, mixed.ahead) in
+            record {
+              olds = olds;
+              long = mixed.long;
+              ahead = omega (arith, n);
+              are = a ∙ ap (λ l. set l (place / 4) (get_or (fours ys) (place / 4) none_kept)) (mixed.are ∙ ap (λ m. fours (take m ys ++ drop m olds)) here)
+                  ∙ mixed_set place ys olds (get_or (fours ys) (place / 4) none_kept) mixed.long refl ∙ ap (λ m. fours (take m ys ++ drop m olds)) (sym n);
+              near = parts.1;
+            }
+        by_cases le false e =
+            let n = (still le e).0 in
+            let a = (still le e).1 in
+            let here : done ≡ place = omega (arith, le, mixed.ahead) in
+            record {
+              olds = olds;
+              long = mixed.long;
+              ahead = omega (arith, n);
+              are = a ∙ mixed.are ∙ ap (λ m. fours (take m ys ++ drop m olds)) here ∙ ap fours (mixed_still place ys olds mixed.long (parts.0 e))
+                  ∙ ap (λ m. fours (take m ys ++ drop m olds)) (sym n);
+              near = parts.1;
+            }
 
-    by_cases : (b : Bool) → moves cell op ≡ b → after ≡ take (place + 1) ys ++ drop (place + 1) olds
-    by_cases true e = renews ∙ ap (λ b. if b then set now place y else now) e ∙ ap (λ zs. set zs place y) is
-        ∙ set_at (take place ys) x (drop (place + 1) olds) y place (length-take-le place ys (omega (arith, inside))) ∙ joined
-    by_cases false e = renews ∙ ap (λ b. if b then set now place y else now) e ∙ is ∙ ap (λ z. take place ys ++ z ∷ drop (place + 1) olds) (parts.0 e) ∙ joined
+-- all were looked at
+pub whole : (cell : Option Cell) (ops : List Op) (ys now : List Kept) (behind done : ℕ) → length ys ≤ behind → AreMixed cell behind done ops ys now → now ≡ fours ys
+whole cell ops ys now behind done h mixed =
+    let olds : List Kept = mixed.olds in
+    mixed.are ∙ ap fours ((λ i. take_all done ys (omega (arith, h, mixed.ahead)) i ++ drop_all done olds (omega (arith, h, mixed.ahead, mixed.long)) i) ∙ append-nil ys)
 
--- the change that a step makes is the one of its place
-abbrev held : Step → Option Step → Step
-held d None = d
-held d (Some x) = x
+-- sums that were set, or none
+pub set_small : (ys : List Kept) (place : ℕ) (now after : List Kept) → AreOfFour now → AreSmall ys → after ≡ set now place (get_or (fours ys) place none_kept) → AreOfFour after
+set_small ys place now after h k e = subst AreOfFour (sym e) (of_four_set now place (get_or (fours ys) place none_kept) h (of_four_at (fours ys) place (of_four ys k)))
+
+pub set_long : (now after : List Kept) (y : Kept) (place : ℕ) → after ≡ set now place y → length after ≡ length now
+set_long now after y place e = ap length e ∙ length-set now place y
+
+module _ (ys : List Kept) (place done next : ℕ) (now after : List Kept) (moved : Bool) (inside : place < done → (next ≡ done) × (after ≡ now))
+    (still : done ≤ place → moved ≡ false → (next ≡ place + 1) × (after ≡ now))
+    (sets : done ≤ place → moved ≡ true → (next ≡ place / 4 * 4 + 4) × (after ≡ set now (place / 4) (get_or (fours ys) (place / 4) none_kept))) where
+  by_case : (P : List Kept → Type 0) → P now → P (set now (place / 4) (get_or (fours ys) (place / 4) none_kept)) → P after
+  by_case P same set_there =
+      dite (dec_le (suc place) done)
+      (λ low. subst P (sym ((inside (omega (arith, low))).1)) same)
+      (λ not. let high = lt_of_not-le not in by_moved (omega (arith, high)) moved refl) where
+        by_moved : done ≤ place → (b : Bool) → moved ≡ b → P after
+        by_moved le true e = subst P (sym ((sets le e).1)) set_there
+        by_moved le false e = subst P (sym ((still le e).1)) same
+
+  pub renewed_small : AreOfFour now → AreSmall ys → AreOfFour after
+  renewed_small h k = by_case AreOfFour h (of_four_set now (place / 4) (get_or (fours ys) (place / 4) none_kept) h (of_four_at (fours ys) (place / 4) (of_four ys k)))
+
+  pub renewed_long : length after ≡ length now
+  renewed_long = by_case (λ l. length l ≡ length now) refl (length-set now (place / 4) (get_or (fours ys) (place / 4) none_kept))
 
 module _ (frames : List Frame) where
-  read_change : (steps : List Step) (i : ℕ) (s : Step) → slice_get steps i ≡ Some s → get_or (map (change_of frames) steps) i none_kept ≡ change_of frames s
-  read_change [] i s h = absurd (none-some s h)
-  read_change (t ∷ ts) zero s h = ap (λ o. change_of frames (held t o)) h
-  read_change (t ∷ ts) (suc i) s h = read_change ts i s h
-
-  at_place : (steps : List Step) (i : ℕ) (s : Step) → slice_get steps (i + 1 - 1) ≡ Some s → slice_get steps i ≡ Some s
-  at_place steps i s h = subst (λ n. slice_get steps n ≡ Some s) (back i) h where
-    back : (n : ℕ) → n + 1 - 1 ≡ n
-    back n = omega arith
-
-  pub renews : (xs after : List Kept) (steps : List Step) (place : ℕ) (s : Step) (v : Kept) → after ≡ set xs place v → v ≡ change_of frames s
-      → slice_get steps (place + 1 - 1) ≡ Some s → after ≡ set xs place (get_or (map (change_of frames) steps) place none_kept)
-  renews xs after steps place s v sets is h = sets ∙ ap (set xs place) (is ∙ sym (read_change steps place s (at_place steps place s h)))
-
   pub near_of : (kg : ℕ) (cell : Option Cell) (ops : List Op) (xs : List Step) → length xs ≡ length ops
       → AreNear cell ops (map (change_of frames) xs) (map (change_of frames) (steps_weighed kg cell ops xs))
   near_of kg cell [] [] h = tt
@@ -130,33 +175,6 @@ first_cost m k after joins h = omega (arith, h, spread m (k + 1)) where
   spread : (m n : ℕ) → (m + 1) * n ≡ m * n + n
   spread m n = grind arith
 
-pub begins : (xs ys after : List Kept) (i : ℕ) → i < length xs → i < length ys → take i xs ≡ take i ys → after ≡ set xs i (get_or ys i none_kept)
-    → after ≡ take (i + 1) ys ++ drop (i + 1) xs
-begins xs ys after i h k same sets =
-    let y : Kept = get_or ys i none_kept in
-    sets ∙ set_split xs i y h ∙ (λ j. same j ++ y ∷ drop (one i j) xs)
-    ∙ sym (append_assoc (take i ys) (y ∷ []) (drop (i + 1) xs)) ∙ ap (λ zs. zs ++ drop (i + 1) xs) (sym (take_more ys i none_kept k)) where
-      one : (n : ℕ) → suc n ≡ n + 1
-      one n = omega arith
-
--- a list in which one change was set, or none
-small_at : (xs : List Kept) (i : ℕ) → AreSmall xs → i < length xs → size_of (get_or xs i none_kept) ≤ 2
-small_at [] i h k = absurd (omega (arith, k))
-small_at (x ∷ xs) zero h k = h.0
-small_at (x ∷ xs) (suc i) h k = small_at xs i h.1 (omega (arith, k))
-
-pub renewed_small : (moved : Bool) (now after ys : List Kept) (place : ℕ) → AreSmall now → AreSmall ys → place < length ys
-    → after ≡ (if moved then set now place (get_or ys place none_kept) else now) → AreSmall after
-renewed_small true now after ys place h k inside e = subst AreSmall (sym e) (small_set now place (get_or ys place none_kept) h (small_at ys place k inside))
-renewed_small false now after ys place h k inside e = subst AreSmall (sym e) h
-
-pub renewed_long : (moved : Bool) (now after : List Kept) (y : Kept) (place : ℕ) → after ≡ (if moved then set now place y else now) → length after ≡ length now
-renewed_long true now after y place e = ap length e ∙ length-set now place y
-renewed_long false now after y place e = ap length e
-
-pub whole : (xs ys now : List Kept) (n : ℕ) → length ys ≤ n → length xs ≤ n → now ≡ take n ys ++ drop n xs → now ≡ ys
-whole xs ys now n h k e = e ∙ (λ i. take_all n ys h i ++ drop_all n xs k i) ∙ append-nil ys
-
 -- another weight of the load at a place leaves the steps behind it, and its cell
 pub weighed_behind : (kg : ℕ) (ops : List Op) (i : ℕ) → drop (i + 1) (weighed_at kg i ops) ≡ drop (i + 1) ops
 weighed_behind kg ops i = by (option_map (reweighed kg) (slice_get ops i)) where
@@ -188,7 +206,7 @@ module _ (frames : List Frame) (kg i : ℕ) (ops after : List Op) (is : after �
   cell_same : loaded_at after i ≡ loaded_at ops i
   cell_same = ap (λ l. loaded_at l i) is ∙ weighed_cell kg ops i
 
-  pub near_after : (old new : List Step) (xs : List Kept) → AreReweighed kg i ops old new → length old ≡ length ops → xs ≡ map (change_of frames) old
+  near_after : (old new : List Step) (xs : List Kept) → AreReweighed kg i ops old new → length old ≡ length ops → xs ≡ map (change_of frames) old
       → IsNear (loaded_at after i) i after xs (map (change_of frames) new)
   near_after old new xs r long e =
       let f = change_of frames in
@@ -204,6 +222,16 @@ module _ (frames : List Frame) (kg i : ℕ) (ops after : List Op) (is : after �
             (subst (λ l. AreNear cell (drop (i + 1) ops) l (drop (i + 1) (map f new))) xs_are
             (subst (λ l. AreNear cell (drop (i + 1) ops) (map f (drop (i + 1) old)) l) ys_are near)));
       }
+
+  pub were_near : (old new : List Step) (sums : List Kept) → AreReweighed kg i ops old new → length old ≡ length ops → length new ≡ length ops
+      → sums ≡ fours (map (change_of frames) old) → WereNear i after (map (change_of frames) new) sums
+  were_near old new sums r long long_new e = record {
+    olds = map (change_of frames) old;
+    long = length-map old (change_of frames) ∙ long ∙ sym long_new ∙ sym (length-map new (change_of frames));
+    small = small frames old;
+    are = e;
+    near = near_after old new (map (change_of frames) old) r long refl;
+  }
 
   pub cost_after : (k now joins : ℕ) → now ≤ joins + (moves_in (loaded_at after i) (drop (i + 1) after) + 1) * (k + 1) → now ≤ joins + (restows_behind ops i + 2) * (k + 1)
   cost_after k now joins h =

@@ -1,35 +1,69 @@
--- What two exchanged steps change, set at their places.
-use Rattle.std.proofs.Common.{◌≡◌, ℕ, zero, suc, ◌<◌, List, [], ◌∷◌, length, map, set, get_or, refl, sym, ap, ◌∙◌, subst, arith}
+-- The sums of the fours of two steps that were exchanged.
+use Rattle.std.proofs.Common.{◌≡◌, ℕ, zero, suc, ◌/◌, ◌<◌, List, [], ◌∷◌, length, map, set, get_or, refl, sym, ap, ◌∙◌, subst, arith, get_or-set_same, get_or-set_other}
 use Rattle.std.specs.List.{AllByRecursion, swap}
-use Rattle.std.proofs.lemmas.List.{length-map}
-use Rattle.std.proofs.lemmas.List.Edits.{swap_is}
+use Rattle.std.proofs.lemmas.List.{ext_get_or, length-map, length-set}
+use Rattle.std.proofs.lemmas.List.Edits.{length-swap, swap_is}
+use mathlib.Core.Logic.{dite}
+use native.Mathlib.Decide.{ℕ_discrete}
 use Rattle.lift_sequence.specs.declared.operations.Op.{Op}
 use Rattle.bounded_sums.specs.Laws.{IsLight}
 use Rattle.moment_sums.specs.Kept.{Kept, none_kept}
+use Rattle.what_if.specs.Changes.{WereExchanged, fours}
+use Rattle.what_if.proofs.FourLemmas.{fours_same, length-fours}
 
-module _ {X : Type 0} where
-  put_same : (xs : List X) (j : ℕ) (y d : X) → set xs j (get_or (set xs j y) j d) ≡ set xs j y
-  put_same [] j y d = refl
-  put_same (x ∷ xs) zero y d = refl
-  put_same (x ∷ xs) (suc j) y d = ap (λ l. x ∷ l) (put_same xs j y d)
+pub were_long : (one other : ℕ) (ys sums : List Kept) → WereExchanged one other ys sums → length sums ≡ length ys / 4
+were_long one other ys sums were =
+    ap length were.are ∙ length-fours were.olds ∙ ap (λ n. n / 4) (sym (ap length were.exchanged ∙ length-swap were.olds one other))
 
-  -- what stands at two places of a list in which they were set, set there
-  put_both : (xs : List X) (i j : ℕ) (x y d : X)
-      → set (set xs i (get_or (set (set xs i x) j y) i d)) j (get_or (set (set xs i x) j y) j d) ≡ set (set xs i x) j y
-  put_both [] i j x y d = refl
-  put_both (z ∷ zs) zero zero x y d = refl
-  put_both (z ∷ zs) zero (suc j) x y d = ap (λ l. x ∷ l) (put_same zs j y d)
-  put_both (z ∷ zs) (suc i) zero x y d = ap (λ l. y ∷ l) (put_same zs i x d)
-  put_both (z ∷ zs) (suc i) (suc j) x y d = ap (λ l. z ∷ l) (put_both zs i j x y d)
+-- the sums of the fours of two places are set, where their changes were exchanged
+pub both_set : (one other : ℕ) (ys sums once twice : List Kept) → WereExchanged one other ys sums → one < length ys → other < length ys
+    → once ≡ set sums (one / 4) (get_or (fours ys) (one / 4) none_kept) → twice ≡ set once (other / 4) (get_or (fours ys) (other / 4) none_kept) → twice ≡ fours ys
+both_set one other ys sums once twice were low high first second = is ∙ all where
+  olds : List Kept
+  olds = were.olds
 
-pub both_set : (xs ys once twice : List Kept) (i j : ℕ) → i < length xs → j < length xs → ys ≡ swap xs i j → once ≡ set xs i (get_or ys i none_kept)
-    → twice ≡ set once j (get_or ys j none_kept) → twice ≡ ys
-both_set xs ys once twice i j low high swapped first second =
-    let x : Kept = get_or xs j none_kept in
-    let y : Kept = get_or xs i none_kept in
-    let is : ys ≡ set (set xs i x) j y = swapped ∙ sym (swap_is xs i j none_kept low high) in
-    second ∙ ap (λ l. set l j (get_or ys j none_kept)) first ∙ (λ k. set (set xs i (get_or (is k) i none_kept)) j (get_or (is k) j none_kept))
-    ∙ put_both xs i j x y none_kept ∙ sym is
+  long : length olds ≡ length ys
+  long = sym (ap length were.exchanged ∙ length-swap olds one other)
+
+  i : ℕ
+  i = one / 4
+
+  j : ℕ
+  j = other / 4
+
+  v : Kept
+  v = get_or (fours ys) i none_kept
+
+  w : Kept
+  w = get_or (fours ys) j none_kept
+
+  is : twice ≡ set (set (fours olds) i v) j w
+  is = second ∙ ap (λ l. set l j w) (first ∙ ap (λ l. set l i v) were.are)
+
+  -- other changes are as they were
+  kept : (k : ℕ) → (k ≡ one → ⊥) → (k ≡ other → ⊥) → get_or olds k none_kept ≡ get_or ys k none_kept
+  kept k not_one not_other =
+      let x : Kept = get_or olds other none_kept in
+      let y : Kept = get_or olds one none_kept in
+      let swapped : ys ≡ set (set olds one x) other y = were.exchanged ∙ sym (swap_is olds one other none_kept (omega (arith, long, low)) (omega (arith, long, high))) in
+      sym (ap (λ l. get_or l k none_kept) swapped ∙ get_or-set_other (set olds one x) other k y none_kept not_other ∙ get_or-set_other olds one k x none_kept not_one)
+
+  once_long : length (set (fours olds) i v) ≡ length (fours ys)
+  once_long = length-set (fours olds) i v ∙ length-fours olds ∙ ap (λ n. n / 4) long ∙ sym (length-fours ys)
+
+  all : set (set (fours olds) i v) j w ≡ fours ys
+  all =
+      ext_get_or none_kept (set (set (fours olds) i v) j w) (fours ys) (length-set (set (fours olds) i v) j w ∙ once_long)
+      (λ t h. let inside : t < length (set (fours olds) i v) = subst (λ n. t < n) (length-set (set (fours olds) i v) j w) h in
+      dite (ℕ_discrete t j)
+      (λ here. ap (λ n. get_or (set (set (fours olds) i v) j w) n none_kept) here
+      ∙ get_or-set_same (set (fours olds) i v) j w none_kept (subst (λ n. n < length (set (fours olds) i v)) here inside) ∙ ap (λ n. get_or (fours ys) n none_kept) (sym here))
+      (λ not_j. get_or-set_other (set (fours olds) i v) j t w none_kept not_j
+      ∙ dite (ℕ_discrete t i)
+      (λ here. ap (λ n. get_or (set (fours olds) i v) n none_kept) here
+      ∙ get_or-set_same (fours olds) i v none_kept (subst (λ n. n < length (fours olds)) here (subst (λ n. t < n) (length-set (fours olds) i v) inside)) ∙ ap (λ n. get_or (fours ys) n none_kept) (sym here))
+      (λ not_i. get_or-set_other (fours olds) i t v none_kept not_i
+      ∙ fours_same olds ys t long (λ k at. kept k (λ e. not_i (sym at ∙ ap (λ n. n / 4) e)) (λ e. not_j (sym at ∙ ap (λ n. n / 4) e))))))
 
 module _ {X Y : Type 0} (f : X → Y) where
   map_set : (xs : List X) (i : ℕ) (x : X) → map f (set xs i x) ≡ set (map f xs) i (f x)

@@ -1,10 +1,13 @@
 -- Bookkeeping: lists of what steps change, before and after the steps that move one container were
--- given bodies of another weight.
-use Rattle.std.specs.Prelude.{◌≡◌, ℕ, ⊤, ◌+◌, ◌≤◌, List, [], ◌∷◌, take, drop, false, Option}
+-- given bodies of another weight; and the sums of each four of them.
+use Rattle.std.specs.Prelude.{◌≡◌, ℕ, ⊤, ◌+◌, ◌≤◌, List, [], ◌∷◌, ◌++◌, length, take, drop, false}
+use Rattle.std.specs.Prelude.{Option}
+use Rattle.std.specs.List.{swap}
 use Rattle.units_core.specs.declared.cells.Cell.{Cell}
+use Rattle.prefix_scan.specs.Rows.{paired}
 use Rattle.lift_sequence.specs.declared.operations.Op.{Op}
-use Rattle.lift_sequence.specs.Follow.{moves, next_cell}
-use Rattle.moment_sums.specs.Kept.{Kept, size_of}
+use Rattle.lift_sequence.specs.Follow.{loaded_at, moves, next_cell}
+use Rattle.moment_sums.specs.Kept.{Kept, both_kept, size_of}
 
 -- each is of the bodies that one step takes out and puts in
 abbrev pub AreSmall : List Kept → Type 0
@@ -24,3 +27,37 @@ AreNear cell (op ∷ ops) (x ∷ xs) (y ∷ ys) = (moves cell op ≡ false → x
 pub record IsNear (cell : Option Cell) (i : ℕ) (ops : List Op) (xs ys : List Kept) : Type 0 where
   pub before : take i xs ≡ take i ys
   pub behind : AreNear cell (drop (i + 1) ops) (drop (i + 1) xs) (drop (i + 1) ys)
+
+-- the sums of each four that follow one another; up to three that are left at the end are in none
+abbrev pub fours : List Kept → List Kept
+fours changes = paired both_kept (paired both_kept changes)
+
+-- each is of the bodies that four steps take out and put in
+abbrev pub AreOfFour : List Kept → Type 0
+AreOfFour [] = ⊤
+AreOfFour (sum ∷ more) = (size_of sum ≤ 8) × AreOfFour more
+
+-- the sums of fours of changes before another weight was given to what is loaded at a place
+pub record WereNear (place : ℕ) (ops : List Op) (changes sums : List Kept) : Type 0 where
+  pub olds : List Kept
+  pub long : length olds ≡ length changes
+  pub small : AreSmall olds
+  pub are : sums ≡ fours olds
+  pub near : IsNear (loaded_at ops place) place ops olds changes
+
+-- the same where the first `done` changes are as they are now; those from the place `behind` on
+-- weren't looked at
+pub record AreMixed (cell : Option Cell) (behind done : ℕ) (ops : List Op)
+    (changes sums : List Kept) : Type 0 where
+  pub olds : List Kept
+  pub long : length olds ≡ length changes
+  pub ahead : behind ≤ done
+  pub are : sums ≡ fours (take done changes ++ drop done olds)
+  pub near : AreNear cell (drop behind ops) (drop behind olds) (drop behind changes)
+
+-- the sums of fours of changes before two of them were exchanged
+pub record WereExchanged (one other : ℕ) (changes sums : List Kept) : Type 0 where
+  pub olds : List Kept
+  pub small : AreSmall olds
+  pub are : sums ≡ fours olds
+  pub exchanged : changes ≡ swap olds one other

@@ -19,6 +19,7 @@ use Rattle.step_edits.specs.declared.faults.EditFault.{EditFault}
 use Rattle.step_edits.specs.declared.faults.EditFault.TheVariants.{Sequence}
 use Rattle.step_edits.specs.Edits.{edited, edit_fault, place_of}
 use Rattle.what_if.specs.Bases.{Base, changes_on, list_fault, steps_on}
+use Rattle.what_if.specs.Changes.{fours}
 
 -- Inputs define a base, and a list of steps that can be done from there.
 pub record AreTold (inputs : Inputs) (base : Base) (ops : List Op) : Type 0 where
@@ -42,12 +43,12 @@ pub record Summed : Type 0 where
   pub joins : ℕ
 
 -- what is kept of a list: the sequence was made from the base, no container is too heavy for a sum,
--- and the tree is over what each step changes
-pub record IsSummed (base : Base) (sequence : SequenceRecord) (tree : Counted Kept) : Type 0 where
+-- and the sums are of what each four steps change
+pub record IsSummed (base : Base) (sequence : SequenceRecord) (sums : Counted Kept) : Type 0 where
   pub legal : list_fault base sequence.ops ≡ None
   pub steps : sequence.steps ≡ steps_on base sequence.ops
   pub light : AllByRecursion IsLight sequence.ops
-  pub changes : tree.values ≡ changes_on base sequence.ops
+  pub changes : sums.values ≡ fours (changes_on base sequence.ops)
 
 -- how often the container that the load at a place brings aboard is restowed behind it
 abbrev pub restows_behind : List Op → ℕ → ℕ

@@ -1,19 +1,19 @@
 ghost use Rattle.std.specs.Prelude.{◌≡◌, ◌≢◌, ℕ, ◌+◌, ◌*◌, ◌-◌, ◌^◌, ◌≤◌, length, OnOk, OnErr};
-ghost use Rattle.std.specs.Prelude.{IfOk, IfErr, Some, None};
+ghost use Rattle.std.specs.Prelude.{IfOk, IfErr, Some, None, true, false};
 ghost use Rattle.std.specs.List.{swap};
 ghost use Rattle.std.specs.Bool.{OnTrue, OnFalse};
 ghost use Rattle.lift_sequence.specs.Follow.{IsLoad, weighed_at};
+ghost use Rattle.lift_sequence.specs.Independent.{moved};
 ghost use Rattle.step_edits.specs.Edits.{TellsMemory, edited, edit_fault};
 ghost use Rattle.what_if.specs.Bases.{list_fault};
 ghost use Rattle.what_if.specs.Sessions.{IsSummed, refusal, restows_behind, CostsLittle};
 
-use crate::changes::changes_of;
+use crate::fours::Fours;
 use crate::renewing::{renew, renew_both};
 use crate::summed_lists::SummedList;
 use lift_sequence::{SeqCode, SeqFault, Sequence};
-use moment_sums::Totals;
-use prefix_scan::TotalsTree;
 use run_inputs::ops_are_light;
+use std::alloc::AllocError;
 use step_edits::{Edit, EditFault, edited, fault_of};
 use units_core::Kg;
 
@@ -32,8 +32,9 @@ fn list_refusal(fault: SeqFault) -> EditFault
 impl SummedList {
     /// Makes an edit. Where it is refused, or out of memory, everything is as it was. Another
     /// weight of a load checks no step and takes no memory; nor does an exchange of two steps that
-    /// are independent of each other and of all steps between. Any other edit makes the sequence
-    /// and its sums anew.
+    /// are independent of each other and of all steps between. A move of a step past others that it
+    /// is independent of makes the sums of these steps anew. Any other edit makes the sequence and
+    /// all of its sums anew.
     pub fn edit(&mut self, edit: &Edit) -> Result<(), EditFault>
         ensures legal { OnOk result (refusal self.old.base self.old.ops edit.now ≡ None) }
         ensures base { self.new.base ≡ self.old.base }
@@ -80,7 +81,7 @@ impl SummedList {
             return false;
         }
         renew_both(
-            &mut self.tree,
+            &mut self.sums,
             &self.sequence,
             self.base.profile().frames(),
             a - 1,
@@ -104,7 +105,7 @@ impl SummedList {
         let _ = kg.get();
         self.sequence.reweigh(k, kg);
         renew(
-            &mut self.tree,
+            &mut self.sums,
             &self.sequence,
             self.base.profile().frames(),
             k - 1,
@@ -112,7 +113,7 @@ impl SummedList {
     }
 
     /// The sequence that another edit makes, with its sums.
-    fn rearranged(&self, edit: &Edit) -> Result<(Sequence, TotalsTree<Totals>), EditFault>
+    fn rearranged(&self, edit: &Edit) -> Result<(Sequence, Fours), EditFault>
         requires { edit_fault self.now.ops edit.now ≡ None }
         ensures ops { IfOk result (λ made. made.0.ops ≡ edited self.now.ops edit.now) }
         ensures made { IfOk result (λ made. IsSummed self.now.base made.0 made.1) }
@@ -130,12 +131,9 @@ impl SummedList {
             Err(fault) => return Err(list_refusal(fault)),
         };
         ops_are_light(sequence.ops());
-        let Ok(changes) = changes_of(self.alloc, &self.base, &sequence) else {
-            return Err(EditFault::NoMemory);
-        };
-        match self.tree.renewed(self.alloc, changes) {
-            Ok(tree) => Ok((sequence, tree)),
-            Err(_) => Err(EditFault::NoMemory),
+        match self.sums.renewed(self.alloc, &self.base, &sequence) {
+            Ok(sums) => Ok((sequence, sums)),
+            Err(AllocError) => Err(EditFault::NoMemory),
         }
     }
 
@@ -151,9 +149,9 @@ impl SummedList {
         ensures memory { IfErr result TellsMemory }
         ensures joins { self.new.joins ≡ self.old.joins }
     {
-        let (sequence, tree) = self.rearranged(edit)?;
+        let (sequence, sums) = self.rearranged(edit)?;
         self.sequence = sequence;
-        self.tree = tree;
+        self.sums = sums;
         Ok(())
     }
 }

@@ -9,9 +9,9 @@
 #![tactic(auto)]
 
 mod bases;
-mod changes;
 mod desks;
 mod editing;
+mod fours;
 mod renewing;
 mod sessions;
 mod summed_lists;

@@ -1,107 +1,96 @@
-ghost use Rattle.std.specs.Prelude.{◌≡◌, ℕ, ◌+◌, ◌*◌, ◌^◌, ◌<◌, ◌≤◌, length, map, drop, slice_set};
-ghost use Rattle.std.specs.Prelude.{slice_index_or, if◌then◌else◌};
-ghost use Rattle.std.specs.List.{swap};
+ghost use Rattle.std.specs.Prelude.{◌≡◌, ℕ, ◌+◌, ◌*◌, ◌/◌, ◌^◌, ◌<◌, ◌≤◌, length, map, drop, slice_set};
+ghost use Rattle.std.specs.Prelude.{slice_index_or, if◌then◌else◌, true, false};
 ghost use Rattle.lift_sequence.specs.Follow.{loaded_at, moves_in};
 ghost use Rattle.moment_sums.specs.Kept.{none_kept};
 ghost use Rattle.what_if.specs.Bases.{change_of};
-ghost use Rattle.what_if.specs.Changes.{AreSmall, IsNear};
+ghost use Rattle.what_if.specs.Changes.{AreOfFour, WereExchanged, WereNear, fours};
 
+use crate::fours::Fours;
 use lift_sequence::Sequence;
-use moment_sums::Totals;
-use prefix_scan::TotalsTree;
 use ship_profile::Frames;
 
-/// Sets what the step at a place changes. Out of line: room for a sum is cleared where this begins,
-/// and in the loop of [`renew`] that would be for each step, whether it is set or not.
-#[inline(never)]
-fn set_step(tree: &mut TotalsTree<Totals>, sequence: &Sequence, frames: &Frames, place: usize)
-    requires within { place < length tree.old.values }
-    requires ops { length sequence.now.ops ≡ length tree.old.values }
-    requires steps { length sequence.now.steps ≡ length sequence.now.ops }
-    requires few { length tree.old.values ≤ 120000 }
-    requires small { AreSmall tree.old.values }
-    ensures values { tree.new.values ≡ slice_set tree.old.values place
-        (slice_index_or (map (change_of frames.now) sequence.now.steps) place none_kept) }
-    ensures grows { tree.old.joins ≤ tree.new.joins }
-    ensures cost { (levels : ℕ) → length tree.old.values ≤ 2 ^ levels
-        → tree.new.joins ≤ tree.old.joins + (levels + 1) }
+/// Where the four steps end one of which is at a place.
+fn end_of_four(place: usize) -> usize
+    requires { place ≤ 120000 }
+    ensures { result ≡ place / 4 * 4 + 4 }
 {
-    tree.set(place, Totals::of_step(&sequence.step(place + 1), frames));
+    place / 4 * 4 + 4
 }
 
-/// Sets what the step at a place changes, if it is to be set.
+/// Sets what the step at a place changes, if it is to be set and its four weren't set before. The
+/// sums of all steps below `done` are set; returns below which step they are then.
 fn renew_step(
-    tree: &mut TotalsTree<Totals>,
+    sums: &mut Fours,
     sequence: &Sequence,
     frames: &Frames,
     place: usize,
+    done: usize,
     moved: bool,
-)
-    requires within { place < length tree.old.values }
-    requires ops { length sequence.now.ops ≡ length tree.old.values }
-    requires steps { length sequence.now.steps ≡ length sequence.now.ops }
-    requires few { length tree.old.values ≤ 120000 }
-    requires small { AreSmall tree.old.values }
-    ensures values { tree.new.values ≡ (if moved then slice_set tree.old.values place
-        (slice_index_or (map (change_of frames.now) sequence.now.steps) place none_kept)
-        else tree.old.values) }
-    ensures grows { tree.old.joins ≤ tree.new.joins }
-    ensures cost { (levels : ℕ) → length tree.old.values ≤ 2 ^ levels
-        → tree.new.joins ≤ tree.old.joins + (if moved then 1 else 0) * (levels + 1) }
-{
-    if moved {
-        set_step(tree, sequence, frames, place);
-    }
-}
-
-/// Sets what the load at a place changes, and those steps behind it that move its container. The
-/// tree is over what the steps changed before the container was given another weight.
-pub fn renew(tree: &mut TotalsTree<Totals>, sequence: &Sequence, frames: &Frames, place: usize)
+) -> usize
     requires within { place < length sequence.now.ops }
     requires steps { length sequence.now.steps ≡ length sequence.now.ops }
     requires few { length sequence.now.ops ≤ 120000 }
-    requires long { length tree.old.values ≡ length sequence.now.ops }
-    requires small { AreSmall tree.old.values }
-    requires near { IsNear (loaded_at sequence.now.ops place) place sequence.now.ops
-        tree.old.values (map (change_of frames.now) sequence.now.steps) }
-    ensures values { tree.new.values ≡ map (change_of frames.now) sequence.now.steps }
-    ensures grows { tree.old.joins ≤ tree.new.joins }
+    requires long { length sums.old.values ≡ length sequence.now.ops / 4 }
+    requires small { AreOfFour sums.old.values }
+    ensures inside { place < done → (result ≡ done) × (sums.new.values ≡ sums.old.values) }
+    ensures still { done ≤ place → moved ≡ false
+        → (result ≡ place + 1) × (sums.new.values ≡ sums.old.values) }
+    ensures set { done ≤ place → moved ≡ true → (result ≡ place / 4 * 4 + 4)
+        × (sums.new.values ≡ slice_set sums.old.values (place / 4) (slice_index_or
+        (fours (map (change_of frames.now) sequence.now.steps)) (place / 4) none_kept)) }
+    ensures grows { sums.old.joins ≤ sums.new.joins }
     ensures cost { (levels : ℕ) → length sequence.now.ops ≤ 2 ^ levels
-        → tree.new.joins ≤ tree.old.joins + (moves_in (loaded_at sequence.now.ops place)
+        → sums.new.joins ≤ sums.old.joins + (if moved then 1 else 0) * (levels + 1) }
+{
+    if place < done {
+        return done;
+    }
+    if !moved {
+        return place + 1;
+    }
+    sums.set(sequence, frames, place);
+    end_of_four(place)
+}
+
+/// Sets what the load at a place changes, and those steps behind it that move its container. The
+/// sums are of what the steps changed before the container was given another weight.
+pub fn renew(sums: &mut Fours, sequence: &Sequence, frames: &Frames, place: usize)
+    requires within { place < length sequence.now.ops }
+    requires steps { length sequence.now.steps ≡ length sequence.now.ops }
+    requires few { length sequence.now.ops ≤ 120000 }
+    requires near { WereNear place sequence.now.ops
+        (map (change_of frames.now) sequence.now.steps) sums.old.values }
+    ensures values { sums.new.values ≡ fours (map (change_of frames.now) sequence.now.steps) }
+    ensures grows { sums.old.joins ≤ sums.new.joins }
+    ensures cost { (levels : ℕ) → length sequence.now.ops ≤ 2 ^ levels
+        → sums.new.joins ≤ sums.old.joins + (moves_in (loaded_at sequence.now.ops place)
         (drop (place + 1) sequence.now.ops) + 1) * (levels + 1) }
 {
-    renew_step(tree, sequence, frames, place, true);
+    sums.set(sequence, frames, place);
+    let mut done = end_of_four(place);
     let ops = sequence.ops();
     let mut cell = ops[place].loaded_cell();
     for behind in place + 1..ops.len() {
         let op = &ops[behind];
-        renew_step(tree, sequence, frames, behind, op.moves(cell));
+        done = renew_step(sums, sequence, frames, behind, done, op.moves(cell));
         cell = op.next_cell(cell);
     }
 }
 
-/// Sets what the steps at two places change that were exchanged. The tree is over what the steps
+/// Sets what the steps at two places change that were exchanged. The sums are of what the steps
 /// changed before.
-pub fn renew_both(
-    tree: &mut TotalsTree<Totals>,
-    sequence: &Sequence,
-    frames: &Frames,
-    one: usize,
-    other: usize,
-)
+pub fn renew_both(sums: &mut Fours, sequence: &Sequence, frames: &Frames, one: usize, other: usize)
     requires one { one < length sequence.now.ops }
     requires other { other < length sequence.now.ops }
     requires steps { length sequence.now.steps ≡ length sequence.now.ops }
     requires few { length sequence.now.ops ≤ 120000 }
-    requires long { length tree.old.values ≡ length sequence.now.ops }
-    requires small { AreSmall tree.old.values }
-    requires exchanged { map (change_of frames.now) sequence.now.steps
-        ≡ swap tree.old.values one other }
-    ensures values { tree.new.values ≡ map (change_of frames.now) sequence.now.steps }
-    ensures grows { tree.old.joins ≤ tree.new.joins }
+    requires exchanged { WereExchanged one other
+        (map (change_of frames.now) sequence.now.steps) sums.old.values }
+    ensures values { sums.new.values ≡ fours (map (change_of frames.now) sequence.now.steps) }
+    ensures grows { sums.old.joins ≤ sums.new.joins }
     ensures cost { (levels : ℕ) → length sequence.now.ops ≤ 2 ^ levels
-        → tree.new.joins ≤ tree.old.joins + 2 * (levels + 1) }
+        → sums.new.joins ≤ sums.old.joins + 2 * (levels + 1) }
 {
-    renew_step(tree, sequence, frames, one, true);
-    renew_step(tree, sequence, frames, other, true);
+    sums.set(sequence, frames, one);
+    sums.set(sequence, frames, other);
 }

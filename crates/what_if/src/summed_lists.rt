@@ -11,12 +11,12 @@ ghost use Rattle.run_inputs.specs.Refusals.{TellsMemory, is_refusal, is_write, i
 ghost use Rattle.what_if.specs.Bases.{IsJudgedAt, list_fault, report_on, steps_on};
 
 use crate::bases::Ground;
-use crate::changes::tree_over;
+use crate::fours::Fours;
 use claim_run::Gate;
 use criteria::{Verdict, judge};
 use lift_sequence::{Op, SeqCode, SeqFault, Sequence};
 use moment_sums::Totals;
-use prefix_scan::{Cuts, Monoid, TotalsTree, offsets_tree};
+use prefix_scan::{Cuts, Monoid};
 use run_inputs::ops_are_light;
 use seq_report::{Criterion, Options, RunFault, Sink, Summary, cuts_of, joined_to_arrival};
 use std::alloc::{AllocError, Global};
@@ -36,8 +36,8 @@ const NO_MEMORY: SeqFault = SeqFault {
 pub struct SummedList {
     pub(crate) base: Arc<Ground, Global>,
     pub(crate) sequence: Sequence,
-    /// What each step changes.
-    pub(crate) tree: TotalsTree<Totals>,
+    /// What the steps change, added up.
+    pub(crate) sums: Fours,
     pub(crate) alloc: Global,
 }
 
@@ -50,10 +50,10 @@ impl Model for SummedList {
     ghost view = { λ l. record {
       base = arc_value l.base;
       ops = l.sequence.ops;
-      joins = l.tree.joins;
+      joins = l.sums.joins;
     } };
 
-    ghost invariant = { λ l. IsSummed (arc_value l.base) l.sequence l.tree };
+    ghost invariant = { λ l. IsSummed (arc_value l.base) l.sequence l.sums };
 }
 
 impl SummedList {
@@ -88,11 +88,11 @@ impl SummedList {
             (λ l. l ≡ record { base = arc_value base; ops = sequence.ops; joins = 0 }) }
     {
         ops_are_light(sequence.ops());
-        let tree = tree_over(alloc, &base, &sequence)?;
+        let sums = Fours::of(alloc, &base, &sequence)?;
         Ok(SummedList {
             base,
             sequence,
-            tree,
+            sums,
             alloc,
         })
     }
@@ -126,7 +126,8 @@ impl SummedList {
         if k > self.sequence.len() {
             return None;
         }
-        let change = self.tree.prefix(k);
+        let frames = self.base.profile().frames();
+        let change = self.sums.prefix(&self.sequence, frames, k);
         let sum = self.base.total().join(&change);
         Some(judge(self.base.profile(), &sum))
     }
@@ -145,7 +146,8 @@ impl SummedList {
             self.now.base.arrival.bodies (steps_on self.now.base self.now.ops) cuts.now
             sums.items) }
     {
-        let changes = offsets_tree(self.alloc, &self.tree, cuts)?;
+        let frames = self.base.profile().frames();
+        let changes = self.sums.offsets(self.alloc, &self.sequence, frames, cuts)?;
         joined_to_arrival(self.alloc, self.base.total(), &changes)
     }
 

@@ -1,21 +1,41 @@
-use Rattle.std.proofs.Common.{◌≡◌, ◌∙◌, ◌<◌, List, length, map, true, sym, subst}
+use Rattle.std.proofs.Common.{◌≡◌, ◌∙◌, ◌<◌, ◌/◌, List, length, map, ap, sym, subst, get_or}
 use Rattle.std.proofs.lemmas.List.{length-map}
-use Rattle.moment_sums.specs.Kept.{Kept}
+use Rattle.std.proofs.lemmas.List.Edits.{length-swap}
+use Rattle.moment_sums.specs.Kept.{Kept, none_kept}
 use Rattle.what_if.specs.Bases.{change_of}
+use Rattle.what_if.specs.Changes.{AreOfFour, fours}
 use Rattle.what_if.proofs.ChangeLemmas.{small}
-use Rattle.what_if.proofs.RenewLemmas.{renewed_small}
-use Rattle.what_if.proofs.SwapLemmas.{both_set}
+use Rattle.what_if.proofs.FourLemmas.{length-fours, of_four}
+use Rattle.what_if.proofs.RenewLemmas.{set_long, set_small}
+use Rattle.what_if.proofs.SwapLemmas.{both_set, were_long}
 use Rattle.what_if.proofs.renewing.renew_both.Goals as goal
 
-pub renew_step-requires-2-clause-small : goal.renew_step-requires-2-clause-small
-renew_step-requires-2-clause-small c =
+pub set-requires-clause-long : goal.set-requires-clause-long
+set-requires-clause-long c =
     let ys : List Kept = map (change_of c.args.frames.now) c.args.sequence.now.steps in
     let same : length ys ≡ length c.args.sequence.now.ops = length-map c.args.sequence.now.steps (change_of c.args.frames.now) ∙ c.requires.steps in
-    let inside : c.args.one < length ys = subst (λ n. c.args.one < n) (sym same) c.requires.one in
-    renewed_small true c.args.tree.now.values c.renew_step.new.tree.values ys c.args.one c.requires.small (small c.args.frames.now c.args.sequence.now.steps) inside c.renew_step.ensures.values
+    were_long c.args.one c.args.other ys c.args.sums.now.values c.requires.exchanged ∙ ap (λ n. n / 4) same
+
+pub set-requires-clause-small : goal.set-requires-clause-small
+set-requires-clause-small c = let were = c.requires.exchanged in subst AreOfFour (sym were.are) (of_four were.olds were.small)
+
+pub set-requires-2-clause-long : goal.set-requires-2-clause-long
+set-requires-2-clause-long c =
+    let ys : List Kept = map (change_of c.args.frames.now) c.args.sequence.now.steps in
+    let same : length ys ≡ length c.args.sequence.now.ops = length-map c.args.sequence.now.steps (change_of c.args.frames.now) ∙ c.requires.steps in
+    set_long c.args.sums.now.values c.set.new.self.values (get_or (fours ys) (c.args.one / 4) none_kept) (c.args.one / 4) c.set.ensures.values
+    ∙ were_long c.args.one c.args.other ys c.args.sums.now.values c.requires.exchanged ∙ ap (λ n. n / 4) same
+
+pub set-requires-2-clause-small : goal.set-requires-2-clause-small
+set-requires-2-clause-small c =
+    let ys : List Kept = map (change_of c.args.frames.now) c.args.sequence.now.steps in
+    let were = c.requires.exchanged in
+    set_small ys (c.args.one / 4) c.args.sums.now.values c.set.new.self.values (subst AreOfFour (sym were.are) (of_four were.olds were.small))
+    (small c.args.frames.now c.args.sequence.now.steps) c.set.ensures.values
 
 pub returns-clause-values : goal.returns-clause-values
 returns-clause-values c =
-    both_set c.args.tree.now.values (map (change_of c.args.frames.now) c.args.sequence.now.steps) c.renew_step.new.tree.values c.renew_step-2.new.tree.values c.args.one c.args.other
-    (subst (λ n. c.args.one < n) (sym c.requires.long) c.requires.one) (subst (λ n. c.args.other < n) (sym c.requires.long) c.requires.other)
-    c.requires.exchanged c.renew_step.ensures.values c.renew_step-2.ensures.values
+    let ys : List Kept = map (change_of c.args.frames.now) c.args.sequence.now.steps in
+    let same : length ys ≡ length c.args.sequence.now.ops = length-map c.args.sequence.now.steps (change_of c.args.frames.now) ∙ c.requires.steps in
+    both_set c.args.one c.args.other ys c.args.sums.now.values c.set.new.self.values c.set-2.new.self.values c.requires.exchanged
+    (subst (λ n. c.args.one < n) (sym same) c.requires.one) (subst (λ n. c.args.other < n) (sym same) c.requires.other) c.set.ensures.values c.set-2.ensures.values

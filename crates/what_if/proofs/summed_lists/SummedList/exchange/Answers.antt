@@ -9,12 +9,13 @@ use Rattle.bounded_sums.specs.Laws.{IsLight}
 use Rattle.moment_sums.specs.Kept.{Kept}
 use Rattle.what_if.specs.Bases.{Base, aboard_first, change_of}
 use Rattle.what_if.specs.Sessions.{IsSummed, Summed}
-use Rattle.what_if.proofs.ChangeLemmas.{are_small, as_many_changes, as_many_steps}
+use Rattle.what_if.specs.Changes.{WereExchanged, fours}
+use Rattle.what_if.proofs.ChangeLemmas.{are_kept, as_many_steps, small}
 use Rattle.what_if.proofs.SwapLemmas.{light_swapped, map_swap}
 use Rattle.what_if.proofs.summed_lists.SummedList.exchange.Goals as goal
 
 pub invariant_of-self : goal.invariant_of-self
-invariant_of-self c = subst (λ s. IsSummed (arc_value c.self.inside.base) s c.self.inside.tree) (sym c.if-not-swap.ensures.same) c.self.invariant
+invariant_of-self c = subst (λ s. IsSummed (arc_value c.self.inside.base) s c.self.inside.sums) (sym c.if-not-swap.ensures.same) c.self.invariant
 
 pub renew_both-requires-clause-one : goal.renew_both-requires-clause-one
 renew_both-requires-clause-one c =
@@ -34,20 +35,12 @@ renew_both-requires-clause-steps c =
     let done = c.swap.ensures.done base.ship (aboard_first base) c.self.invariant.legal c.self.invariant.steps in
     ap (λ l. length l) done ∙ as_many base.ship (aboard_first base) c.swap.new.self.ops
 
-pub renew_both-requires-clause-long : goal.renew_both-requires-clause-long
-renew_both-requires-clause-long c =
-    as_many_changes (arc_value c.self.inside.base) c.self.inside.sequence c.self.inside.tree c.self.invariant
-    ∙ sym (ap (λ (l : List Op). length l) c.if-not-swap.ensures.ops ∙ length-swap c.self.inside.sequence.ops (c.args.a - 1) (c.args.b - 1))
-
-pub renew_both-requires-clause-small : goal.renew_both-requires-clause-small
-renew_both-requires-clause-small c = are_small (arc_value c.self.inside.base) c.self.inside.sequence c.self.inside.tree c.self.invariant
-
 pub renew_both-requires-clause-exchanged : goal.renew_both-requires-clause-exchanged
 renew_both-requires-clause-exchanged c =
     let base = arc_value c.self.inside.base in
     let frames = base.ship.ship.frames in
     let sequence = c.self.inside.sequence in
-    let tree = c.self.inside.tree in
+    let tree = c.self.inside.sums in
     let i = c.args.a - 1 in
     let j = c.args.b - 1 in
     let many = as_many_steps base sequence tree c.self.invariant in
@@ -55,9 +48,10 @@ renew_both-requires-clause-exchanged c =
     let low : i < length sequence.steps = omega (arith, c.requires.first.0, c.requires.last.0, many, viewed) in
     let high : j < length sequence.steps = omega (arith, c.requires.first.1, c.requires.last.1, many, viewed) in
     let same : c.frames.result.now ≡ frames = c.frames.ensures.value ∙ ap (λ (p : ProfileRecord). p.ship.frames) (c.profile.ensures ∙ ap (λ (b : Base). b.ship) c.deref.ensures) in
-    let kept : tree.values ≡ map (change_of frames) sequence.steps = c.self.invariant.changes ∙ ap (map (change_of frames)) (sym c.self.invariant.steps) in
-    (λ k. map (change_of (same k)) (c.if-not-swap.ensures.steps k)) ∙ map_swap (change_of frames) sequence.steps i j low high
-    ∙ ap (λ (l : List Kept). swap l i j) (sym kept)
+    let swapped : map (change_of frames) c.swap.new.self.steps ≡ swap (map (change_of frames) sequence.steps) i j
+    = ap (map (change_of frames)) c.if-not-swap.ensures.steps ∙ map_swap (change_of frames) sequence.steps i j low high in
+    subst (λ f. WereExchanged i j (map (change_of f) c.swap.new.self.steps) tree.values) (sym same)
+    (record { olds = map (change_of frames) sequence.steps; small = small frames sequence.steps; are = are_kept base sequence tree c.self.invariant; exchanged = swapped })
 
 pub invariant_of-self-2 : goal.invariant_of-self-2
 invariant_of-self-2 c =
@@ -75,7 +69,7 @@ invariant_of-self-2 c =
       legal = c.swap.ensures.legal base.ship (aboard_first base) c.self.invariant.legal;
       steps = done;
       light = subst (AllByRecursion IsLight) (sym c.if-not-swap.ensures.ops) (light_swapped ops i j low high c.self.invariant.light);
-      changes = c.renew_both.ensures.values ∙ (λ k. map (change_of (same k)) (done k));
+      changes = c.renew_both.ensures.values ∙ (λ k. fours (map (change_of (same k)) (done k)));
     }
 
 pub returns-clause-cost : goal.returns-clause-cost
@@ -83,4 +77,4 @@ returns-clause-cost c = λ levels h.
     let long = ap (λ (l : List Op). length l) c.if-not-swap.ensures.ops ∙ length-swap c.self.inside.sequence.ops (c.args.a - 1) (c.args.b - 1)
     ∙ ap (λ (v : Summed). length v.ops) c.self.view_is in
     let cost = c.renew_both.ensures.cost levels (subst (λ n. n ≤ 2 ^ levels) (sym long) h) in
-    subst (λ (v : Summed). c.renew_both.new.tree.joins ≤ v.joins + 2 * (levels + 1)) c.self.view_is cost
+    subst (λ (v : Summed). c.renew_both.new.sums.joins ≤ v.joins + 2 * (levels + 1)) c.self.view_is cost

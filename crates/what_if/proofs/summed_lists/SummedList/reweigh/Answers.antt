@@ -2,15 +2,14 @@ use Rattle.std.proofs.Common.{◌≡◌, ◌∙◌, ◌+◌, ◌-◌, ◌*◌, �
 use Rattle.std.specs.Arc.{arc_value}
 use Rattle.std.specs.List.{AllByRecursion}
 use Rattle.ship_profile.specs.Record.{ProfileRecord}
-use Rattle.lift_sequence.specs.Follow.{loaded_at}
 use Rattle.lift_sequence.proofs.FollowLemmas.{as_long}
 use Rattle.lift_sequence.proofs.States.{as_many}
 use Rattle.bounded_sums.specs.Laws.{IsLight}
 use Rattle.what_if.specs.Bases.{Base, aboard_first, change_of}
-use Rattle.what_if.specs.Changes.{IsNear}
+use Rattle.what_if.specs.Changes.{WereNear, fours}
 use Rattle.what_if.specs.Sessions.{Summed, restows_behind}
-use Rattle.what_if.proofs.ChangeLemmas.{are_small, as_many_changes, as_many_steps}
-use Rattle.what_if.proofs.RenewLemmas.{cost_after, near_after, weighed_light}
+use Rattle.what_if.proofs.ChangeLemmas.{are_kept, as_many_steps}
+use Rattle.what_if.proofs.RenewLemmas.{cost_after, weighed_light, were_near}
 use Rattle.what_if.proofs.summed_lists.SummedList.reweigh.Goals as goal
 
 pub renew-requires-clause-steps : goal.renew-requires-clause-steps
@@ -19,26 +18,20 @@ renew-requires-clause-steps c =
     let done = c.reweigh.ensures.done base.ship (aboard_first base) c.self.invariant.legal c.self.invariant.steps in
     ap (λ l. length l) done ∙ as_many base.ship (aboard_first base) c.reweigh.new.self.ops
 
-pub renew-requires-clause-long : goal.renew-requires-clause-long
-renew-requires-clause-long c =
-    as_many_changes (arc_value c.self.inside.base) c.self.inside.sequence c.self.inside.tree c.self.invariant
-    ∙ sym (ap (λ l. length l) c.reweigh.ensures.ops ∙ as_long c.args.kg c.self.inside.sequence.ops (c.args.k - 1))
-
-pub renew-requires-clause-small : goal.renew-requires-clause-small
-renew-requires-clause-small c = are_small (arc_value c.self.inside.base) c.self.inside.sequence c.self.inside.tree c.self.invariant
-
 pub renew-requires-clause-near : goal.renew-requires-clause-near
 renew-requires-clause-near c =
     let base = arc_value c.self.inside.base in
     let frames = base.ship.ship.frames in
     let sequence = c.self.inside.sequence in
-    let tree = c.self.inside.tree in
+    let sums = c.self.inside.sums in
     let after = c.reweigh.new.self in
     let place = c.args.k - 1 in
+    let done = c.reweigh.ensures.done base.ship (aboard_first base) c.self.invariant.legal c.self.invariant.steps in
+    let long_new = ap (λ l. length l) done ∙ as_many base.ship (aboard_first base) after.ops ∙ ap (λ l. length l) c.reweigh.ensures.ops ∙ as_long c.args.kg sequence.ops place in
     let same : c.frames.result.now ≡ frames = c.frames.ensures.value ∙ ap (λ (p : ProfileRecord). p.ship.frames) (c.profile.ensures ∙ ap (λ (b : Base). b.ship) c.deref.ensures) in
-    subst (λ f. IsNear (loaded_at after.ops place) place after.ops tree.values (map (change_of f) after.steps)) (sym same)
-    (near_after frames c.args.kg place sequence.ops after.ops c.reweigh.ensures.ops sequence.steps after.steps tree.values c.reweigh.ensures.steps
-    (as_many_steps base sequence tree c.self.invariant) (c.self.invariant.changes ∙ ap (map (change_of frames)) (sym c.self.invariant.steps)))
+    subst (λ f. WereNear place after.ops (map (change_of f) after.steps) sums.values) (sym same)
+    (were_near frames c.args.kg place sequence.ops after.ops c.reweigh.ensures.ops sequence.steps after.steps sums.values c.reweigh.ensures.steps
+    (as_many_steps base sequence sums c.self.invariant) long_new (are_kept base sequence sums c.self.invariant))
 
 pub invariant_of-self : goal.invariant_of-self
 invariant_of-self c =
@@ -51,7 +44,7 @@ invariant_of-self c =
       steps = done;
       light = subst (AllByRecursion IsLight) (sym c.reweigh.ensures.ops)
           (weighed_light c.args.kg c.self.inside.sequence.ops (c.args.k - 1) (omega (arith, c.get.ensures.within)) c.self.invariant.light);
-      changes = c.renew.ensures.values ∙ (λ j. map (change_of (same j)) (done j));
+      changes = c.renew.ensures.values ∙ (λ j. fours (map (change_of (same j)) (done j)));
     }
 
 pub returns-clause-cost : goal.returns-clause-cost
@@ -61,5 +54,5 @@ returns-clause-cost c = λ levels h.
     let place = c.args.k - 1 in
     let long = ap (λ l. length l) c.reweigh.ensures.ops ∙ as_long c.args.kg sequence.ops place ∙ ap (λ (v : Summed). length v.ops) c.self.view_is in
     let cost = c.renew.ensures.cost levels (subst (λ n. n ≤ 2 ^ levels) (sym long) h) in
-    subst (λ (v : Summed). c.renew.new.tree.joins ≤ v.joins + (restows_behind v.ops place + 2) * (levels + 1)) c.self.view_is
-    (cost_after base.ship.ship.frames c.args.kg place sequence.ops c.reweigh.new.self.ops c.reweigh.ensures.ops levels c.renew.new.tree.joins c.self.inside.tree.joins cost)
+    subst (λ (v : Summed). c.renew.new.sums.joins ≤ v.joins + (restows_behind v.ops place + 2) * (levels + 1)) c.self.view_is
+    (cost_after base.ship.ship.frames c.args.kg place sequence.ops c.reweigh.new.self.ops c.reweigh.ensures.ops levels c.renew.new.sums.joins c.self.inside.sums.joins cost)

@@ -1,0 +1,13 @@
+use Rattle.std.proofs.Common.{◌≡◌, ◌+◌, ◌*◌, ◌/◌, ◌≤◌, map}
+use Rattle.prefix_scan.specs.Folds.{prefix}
+use Rattle.moment_sums.specs.Kept.{both_kept, none_kept}
+use Rattle.what_if.specs.Bases.{change_of}
+use Rattle.what_if.proofs.fours.add_single.Given as goal
+
+abbrev pub invariant-loop-place : goal.invariant-loop-place
+invariant-loop-place l = record {
+  value : l.sum ≡ prefix none_kept both_kept (map (change_of l.frames) l.sequence.steps) l.place;
+  from : l.k / 4 * 4 ≤ l.place;
+  grows : l.fn.count ≤ l.count;
+  cost : l.count + l.k / 4 * 4 ≤ l.fn.count + l.place;
+}

@@ -1,0 +1,24 @@
+use Rattle.std.proofs.Common.{◌≡◌, ◌∙◌, ◌+◌, ◌<◌, ◌++◌, ◌∷◌, [], List, length, map, sym, ap, arith}
+use Rattle.std.proofs.lemmas.List.{length-map, take_all, take_more}
+use Rattle.moment_sums.specs.Kept.{Kept, none_kept}
+use Rattle.what_if.specs.Bases.{change_of}
+use Rattle.what_if.specs.Changes.{fours}
+use Rattle.what_if.proofs.FourLemmas.{length-fours}
+use Rattle.what_if.proofs.fours.sums.Goals as goal
+
+pub loop-four-preserved : goal.loop-four-preserved
+loop-four-preserved c =
+    let steps = c.args.sequence.now.steps in
+    let xs : List Kept = map (change_of c.args.frames.now) steps in
+    let four = c.loop-four.four in
+    let long = length-map steps (change_of c.args.frames.now) ∙ c.requires.steps in
+    let low : four < length (fours xs) = omega (arith, length-fours xs, long, c.loop-four-test.true, c.len-number.ensures) in
+    c.in_ok-push.ensures.items ∙ (λ j. c.loop-four.invariant j ++ c.sum_of_four.ensures j ∷ []) ∙ sym (take_more (fours xs) four none_kept low)
+
+pub returns : goal.returns
+returns c =
+    let steps = c.args.sequence.now.steps in
+    let xs : List Kept = map (change_of c.args.frames.now) steps in
+    let four = c.loop-four.four in
+    let long = length-map steps (change_of c.args.frames.now) ∙ c.requires.steps in
+    c.loop-four.invariant ∙ take_all four (fours xs) (omega (arith, length-fours xs, long, c.loop-four-test.false, c.len-number.ensures))

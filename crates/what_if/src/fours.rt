@@ -1,0 +1,221 @@
+//! What the steps of a list change, added up four by four.
+//!
+//! A sum has 608 bytes, and what one step changes says no more than the step does. So the tree is
+//! over the sums of four steps each: a query adds the up to three steps behind the last four one by
+//! one, which takes as many joins as a tree over single steps would.
+ghost use Rattle.std.specs.Prelude.{◌≡◌, ◌≢◌, ℕ, ◌+◌, ◌*◌, ◌/◌, ◌%◌, ◌^◌, ◌<◌, ◌≤◌, length, map};
+ghost use Rattle.std.specs.Prelude.{slice_index_or, slice_set, drop, IfOk};
+ghost use Rattle.prefix_scan.specs.Cut.{start_of};
+ghost use Rattle.prefix_scan.specs.Folds.{prefix};
+ghost use Rattle.moment_sums.specs.Kept.{Kept, both_kept, none_kept};
+ghost use Rattle.what_if.specs.Bases.{change_of, changes_on, steps_on};
+ghost use Rattle.what_if.specs.Changes.{AreOfFour, fours};
+
+use crate::bases::Ground;
+use lift_sequence::Sequence;
+use moment_sums::Totals;
+use prefix_scan::{Cuts, TotalsTree};
+use ship_profile::Frames;
+use std::alloc::{AllocError, Global};
+use std::marker::Model;
+
+/// The sums of each four steps of a list, and the joins of their parts. Up to three steps that are
+/// left at the end of the list are in no sum.
+///
+/// To its callers it is these sums, and how many joins were counted.
+#[derive(Drop)]
+pub struct Fours {
+    tree: TotalsTree<Totals>,
+    /// How many changes of single steps were joined to others, up to the greatest number of the
+    /// type.
+    single: u64,
+}
+
+impl Model for Fours {
+    ghost use Rattle.std.specs.Prelude.{◌+◌};
+    ghost use Rattle.moment_sums.specs.Kept.{Kept};
+    ghost use Rattle.prefix_scan.specs.Counted.{Counted};
+
+    ghost Value = { Counted Kept };
+
+    ghost view = { λ f. record { values = f.tree.values; joins = f.tree.joins + f.single } };
+}
+
+/// What the four steps of a number change together, the first four having the number 0.
+fn sum_of_four(sequence: &Sequence, frames: &Frames, four: usize) -> Totals
+    requires steps { length sequence.now.steps ≡ length sequence.now.ops }
+    requires few { length sequence.now.ops ≤ 120000 }
+    requires within { 4 * four + 4 ≤ length sequence.now.ops }
+    ensures { result ≡ slice_index_or
+        (fours (map (change_of frames.now) sequence.now.steps)) four none_kept }
+{
+    let first = 4 * four;
+    let mut sum = Totals::of_step(&sequence.step(first + 1), frames);
+    sum.add_step(&sequence.step(first + 2), frames);
+    sum.add_step(&sequence.step(first + 3), frames);
+    sum.add_step(&sequence.step(first + 4), frames);
+    sum
+}
+
+/// What each four steps of a sequence change together.
+fn sums(alloc: Global, sequence: &Sequence, frames: &Frames) -> Result<Vec<Totals>, AllocError>
+    requires steps { length sequence.now.steps ≡ length sequence.now.ops }
+    requires few { length sequence.now.ops ≤ 120000 }
+    ensures { IfOk result
+        (λ v. v.items ≡ fours (map (change_of frames.now) sequence.now.steps)) }
+{
+    let number = sequence.len() / 4;
+    let mut all = Vec::with_capacity(alloc, number)?;
+    for four in 0..number {
+        all.push(sum_of_four(sequence, frames, four))?;
+    }
+    Ok(all)
+}
+
+/// What each four steps of a sequence that was made from this base change together.
+fn sums_on(alloc: Global, base: &Ground, sequence: &Sequence) -> Result<Vec<Totals>, AllocError>
+    requires few { length sequence.now.ops ≤ 120000 }
+    requires steps { sequence.now.steps ≡ steps_on base.now sequence.now.ops }
+    ensures { IfOk result (λ v. v.items ≡ fours (changes_on base.now sequence.now.ops)) }
+{
+    sums(alloc, sequence, base.profile().frames())
+}
+
+/// Adds to the sum of all whole fours before step `k` what the steps behind them change, up to that
+/// step, and counts them.
+fn add_single(sequence: &Sequence, frames: &Frames, k: usize, sum: &mut Totals, count: &mut u64)
+    requires steps { length sequence.now.steps ≡ length sequence.now.ops }
+    requires few { length sequence.now.ops ≤ 120000 }
+    requires within { k ≤ length sequence.now.ops }
+    requires so_far { sum.old ≡ prefix none_kept both_kept
+        (map (change_of frames.now) sequence.now.steps) (k / 4 * 4) }
+    ensures value { sum.new ≡ prefix none_kept both_kept
+        (map (change_of frames.now) sequence.now.steps) k }
+    ensures grows { count.old ≤ count.new }
+    ensures cost { count.new ≤ count.old + k % 4 }
+{
+    for place in k / 4 * 4..k {
+        sum.add_step(&sequence.step(place + 1), frames);
+        *count = count.saturating_add(1);
+    }
+}
+
+impl Fours {
+    /// The sums of the steps of such a sequence. The joins made here aren't counted.
+    pub fn of(alloc: Global, base: &Ground, sequence: &Sequence) -> Result<Fours, AllocError>
+        requires few { length sequence.now.ops ≤ 120000 }
+        requires steps { sequence.now.steps ≡ steps_on base.now sequence.now.ops }
+        ensures { IfOk result
+            (λ f. (f.values ≡ fours (changes_on base.now sequence.now.ops)) × (f.joins ≡ 0)) }
+    {
+        let sums = sums_on(alloc, base, sequence)?;
+        let tree = TotalsTree::of(alloc, sums)?;
+        Ok(Fours { tree, single: 0 })
+    }
+
+    /// The sums of the steps of another such sequence, whose count goes on from that of these. The
+    /// joins made here aren't counted.
+    pub fn renewed(
+        &self,
+        alloc: Global,
+        base: &Ground,
+        sequence: &Sequence,
+    ) -> Result<Fours, AllocError>
+        requires few { length sequence.now.ops ≤ 120000 }
+        requires steps { sequence.now.steps ≡ steps_on base.now sequence.now.ops }
+        ensures { IfOk result (λ f. (f.values ≡ fours (changes_on base.now sequence.now.ops))
+            × (f.joins ≡ self.now.joins)) }
+    {
+        let sums = sums_on(alloc, base, sequence)?;
+        let tree = self.tree.renewed(alloc, sums)?;
+        Ok(Fours {
+            tree,
+            single: self.single,
+        })
+    }
+
+    /// What the first `k` steps of the sequence change together. It takes at most l + 1 joins, where
+    /// there are at most 2^l steps.
+    pub fn prefix(&mut self, sequence: &Sequence, frames: &Frames, k: usize) -> Totals
+        requires steps { length sequence.now.steps ≡ length sequence.now.ops }
+        requires few { length sequence.now.ops ≤ 120000 }
+        requires within { k ≤ length sequence.now.ops }
+        requires sums { self.old.values
+            ≡ fours (map (change_of frames.now) sequence.now.steps) }
+        ensures value { result ≡ prefix none_kept both_kept
+            (map (change_of frames.now) sequence.now.steps) k }
+        ensures values { self.new.values ≡ self.old.values }
+        ensures grows { self.old.joins ≤ self.new.joins }
+        ensures cost { (levels : ℕ) → length sequence.now.ops ≤ 2 ^ levels
+            → self.new.joins ≤ self.old.joins + (levels + 1) }
+    {
+        let mut sum = self.tree.prefix(k / 4);
+        add_single(sequence, frames, k, &mut sum, &mut self.single);
+        sum
+    }
+
+    /// As [`Fours::prefix`], for whoever has the sums only to read; its joins aren't counted.
+    fn peek(&self, sequence: &Sequence, frames: &Frames, k: usize) -> Totals
+        requires steps { length sequence.now.steps ≡ length sequence.now.ops }
+        requires few { length sequence.now.ops ≤ 120000 }
+        requires within { k ≤ length sequence.now.ops }
+        requires sums { self.now.values
+            ≡ fours (map (change_of frames.now) sequence.now.steps) }
+        ensures { result ≡ prefix none_kept both_kept
+            (map (change_of frames.now) sequence.now.steps) k }
+    {
+        let mut sum = self.tree.peek(k / 4);
+        let mut uncounted = 0;
+        add_single(sequence, frames, k, &mut sum, &mut uncounted);
+        sum
+    }
+
+    /// For each chunk what the steps before it change together.
+    pub fn offsets(
+        &self,
+        alloc: Global,
+        sequence: &Sequence,
+        frames: &Frames,
+        cuts: &Cuts,
+    ) -> Result<Vec<Totals>, AllocError>
+        requires steps { length sequence.now.steps ≡ length sequence.now.ops }
+        requires few { length sequence.now.ops ≤ 120000 }
+        requires within { (c : ℕ) → c < length cuts.now
+            → start_of cuts.now c ≤ length sequence.now.ops }
+        requires sums { self.now.values
+            ≡ fours (map (change_of frames.now) sequence.now.steps) }
+        ensures count { IfOk result (λ v. length v.items ≡ length cuts.now) }
+        ensures each { IfOk result (λ v. (c : ℕ) (d : Kept) → c < length cuts.now
+            → slice_index_or v.items c d ≡ prefix none_kept both_kept
+            (map (change_of frames.now) sequence.now.steps) (start_of cuts.now c)) }
+    {
+        let mut all = Vec::with_capacity(alloc, cuts.chunks())?;
+        for chunk in 0..cuts.chunks() {
+            let start = cuts.range(chunk).start;
+            all.push(self.peek(sequence, frames, start as usize))?;
+        }
+        Ok(all)
+    }
+
+    /// Sets what the four steps change together one of which is at a place, if they are four. It
+    /// takes at most l + 1 joins, where there are at most 2^l steps.
+    pub fn set(&mut self, sequence: &Sequence, frames: &Frames, place: usize)
+        requires steps { length sequence.now.steps ≡ length sequence.now.ops }
+        requires few { length sequence.now.ops ≤ 120000 }
+        requires long { length self.old.values ≡ length sequence.now.ops / 4 }
+        requires small { AreOfFour self.old.values }
+        ensures values { self.new.values ≡ slice_set self.old.values (place / 4) (slice_index_or
+            (fours (map (change_of frames.now) sequence.now.steps)) (place / 4) none_kept) }
+        ensures grows { self.old.joins ≤ self.new.joins }
+        ensures cost { (levels : ℕ) → length sequence.now.ops ≤ 2 ^ levels
+            → self.new.joins ≤ self.old.joins + (levels + 1) }
+    {
+        let four = place / 4;
+        if four >= self.tree.len() {
+            return;
+        }
+        // Four changes are joined by three joins.
+        self.single = self.single.saturating_add(3);
+        self.tree.set(four, sum_of_four(sequence, frames, four));
+    }
+}
