@@ -1,5 +1,6 @@
 mod ChangeLemmas
 mod FourLemmas
+mod MoveLemmas
 mod PastLemmas
 mod RenewLemmas
 mod SwapLemmas

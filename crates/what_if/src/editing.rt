@@ -1,5 +1,5 @@
 ghost use Rattle.std.specs.Prelude.{◌≡◌, ◌≢◌, ℕ, ◌+◌, ◌*◌, ◌-◌, ◌^◌, ◌≤◌, length, OnOk, OnErr};
-ghost use Rattle.std.specs.Prelude.{IfOk, IfErr, Some, None, true, false};
+ghost use Rattle.std.specs.Prelude.{IfOk, IfErr, Some, None, ◌/◌, ◌<◌, ◌⊎◌};
 ghost use Rattle.std.specs.List.{swap};
 ghost use Rattle.std.specs.Bool.{OnTrue, OnFalse};
 ghost use Rattle.lift_sequence.specs.Follow.{IsLoad, weighed_at};
@@ -12,6 +12,8 @@ use crate::fours::Fours;
 use crate::renewing::{renew, renew_both};
 use crate::summed_lists::SummedList;
 use lift_sequence::{SeqCode, SeqFault, Sequence};
+use moment_sums::Totals;
+use prefix_scan::Monoid;
 use run_inputs::ops_are_light;
 use std::alloc::AllocError;
 use step_edits::{Edit, EditFault, edited, fault_of};
@@ -60,6 +62,11 @@ impl SummedList {
                 }
                 self.rearrange(edit)
             }
+            Edit::Move { from, to } => match self.carry(*from as usize, *to as usize) {
+                Ok(true) => Ok(()),
+                Ok(false) => self.rearrange(edit),
+                Err(AllocError) => Err(EditFault::NoMemory),
+            },
             _ => self.rearrange(edit),
         }
     }
@@ -87,6 +94,51 @@ impl SummedList {
             a - 1,
             b - 1,
         );
+        true
+    }
+
+    /// Moves a step past others, where it is independent of them. It returns whether it did; if not,
+    /// or out of memory, everything is as it was.
+    fn carry(&mut self, from: usize, to: usize) -> Result<bool, AllocError>
+        requires first { (1 ≤ from) × (1 ≤ to) }
+        requires last { (from ≤ length self.old.ops) × (to ≤ length self.old.ops) }
+        ensures base { self.new.base ≡ self.old.base }
+        ensures ops { IfOk result
+            (λ did. OnTrue did (self.new.ops ≡ moved self.old.ops (from - 1) (to - 1))) }
+        ensures legal { IfOk result
+            (λ did. OnTrue did (list_fault self.old.base self.new.ops ≡ None)) }
+        ensures same { IfOk result (λ did. OnFalse did (self.new ≡ self.old)) }
+        ensures before { OnErr result (self.new ≡ self.old) }
+        ensures joins { self.new.joins ≡ self.old.joins }
+    {
+        let steps = self.sequence.len();
+        let end = ((from.max(to) + 3) / 4).min(steps / 4);
+        let four = ((from.min(to) - 1) / 4).min(end);
+        let mut room = vec![in self.alloc; Totals::unit(); end - four]?;
+        Ok(self.carry_in(from, to, four, &mut room))
+    }
+
+    /// Moves a step past others, where it is independent of them, and sets the sums of the fours of
+    /// steps from this number on in the room. It returns whether it did; if not, everything is as it
+    /// was.
+    fn carry_in(&mut self, from: usize, to: usize, four: usize, room: &mut [Totals]) -> bool
+        requires first { (1 ≤ from) × (1 ≤ to) }
+        requires last { (from ≤ length self.old.ops) × (to ≤ length self.old.ops) }
+        requires begins { (four * 4 < from) × (four * 4 < to) }
+        requires within { four + length room.old ≤ length self.old.ops / 4 }
+        requires ends { ((from ≤ (four + length room.old) * 4) × (to ≤ (four + length room.old) * 4))
+            ⊎ (length self.old.ops / 4 ≤ four + length room.old) }
+        ensures base { self.new.base ≡ self.old.base }
+        ensures ops { OnTrue result (self.new.ops ≡ moved self.old.ops (from - 1) (to - 1)) }
+        ensures legal { OnTrue result (list_fault self.old.base self.new.ops ≡ None) }
+        ensures same { OnFalse result (self.new ≡ self.old) }
+        ensures joins { self.new.joins ≡ self.old.joins }
+    {
+        if !self.sequence.shift(from, to) {
+            return false;
+        }
+        let frames = self.base.profile().frames();
+        self.sums.renew(&self.sequence, frames, four, room);
         true
     }
 

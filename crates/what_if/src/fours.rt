@@ -7,6 +7,7 @@ ghost use Rattle.std.specs.Prelude.{◌≡◌, ◌≢◌, ℕ, ◌+◌, ◌*◌,
 ghost use Rattle.std.specs.Prelude.{slice_index_or, slice_set, drop, IfOk};
 ghost use Rattle.prefix_scan.specs.Cut.{start_of};
 ghost use Rattle.prefix_scan.specs.Folds.{prefix};
+ghost use Rattle.prefix_scan.specs.Rows.{IsWritten};
 ghost use Rattle.moment_sums.specs.Kept.{Kept, both_kept, none_kept};
 ghost use Rattle.what_if.specs.Bases.{change_of, changes_on, steps_on};
 ghost use Rattle.what_if.specs.Changes.{AreOfFour, fours};
@@ -97,6 +98,21 @@ fn add_single(sequence: &Sequence, frames: &Frames, k: usize, sum: &mut Totals, 
     for place in k / 4 * 4..k {
         sum.add_step(&sequence.step(place + 1), frames);
         *count = count.saturating_add(1);
+    }
+}
+
+/// Sets in the room what each four steps change together, from the four of a number on.
+fn set_room(sequence: &Sequence, frames: &Frames, four: usize, room: &mut [Totals])
+    requires steps { length sequence.now.steps ≡ length sequence.now.ops }
+    requires few { length sequence.now.ops ≤ 120000 }
+    requires within { 4 * (four + length room.old) ≤ length sequence.now.ops }
+    ensures long { length room.new ≡ length room.old }
+    ensures each { (k : ℕ) → k < length room.old → slice_index_or room.new k none_kept
+        ≡ slice_index_or (fours (map (change_of frames.now) sequence.now.steps)) (four + k)
+        none_kept }
+{
+    for k in 0..room.len() {
+        room[k] = sum_of_four(sequence, frames, four + k);
     }
 }
 
@@ -217,5 +233,22 @@ impl Fours {
         // Four changes are joined by three joins.
         self.single = self.single.saturating_add(3);
         self.tree.set(four, sum_of_four(sequence, frames, four));
+    }
+
+    /// Sets what each four steps change together, from the four of a number on, as many as there is
+    /// room for. As where the sums are made, no join is counted.
+    pub fn renew(&mut self, sequence: &Sequence, frames: &Frames, four: usize, room: &mut [Totals])
+        requires steps { length sequence.now.steps ≡ length sequence.now.ops }
+        requires few { length sequence.now.ops ≤ 120000 }
+        requires long { length self.old.values ≡ length sequence.now.ops / 4 }
+        requires small { AreOfFour self.old.values }
+        requires within { four + length room.old ≤ length self.old.values }
+        ensures values { IsWritten none_kept four (length room.old)
+            (drop four (fours (map (change_of frames.now) sequence.now.steps))) self.old.values
+            self.new.values }
+        ensures joins { self.new.joins ≡ self.old.joins }
+    {
+        set_room(sequence, frames, four, room);
+        self.tree.renew(four, room);
     }
 }

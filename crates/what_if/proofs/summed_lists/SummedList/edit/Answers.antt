@@ -1,11 +1,14 @@
-use Rattle.std.proofs.Common.{◌≡◌, ◌∙◌, ◌+◌, ◌*◌, ◌≤◌, None, ap, subst, sym}
+use Rattle.std.proofs.Common.{◌≡◌, ◌∙◌, ◌+◌, ◌-◌, ◌*◌, ◌≤◌, None, ap, subst, sym}
 use Rattle.std.specs.List.{swap}
+use Rattle.std.specs.Bool.{OnTrue}
 use Rattle.std.specs.Option.{option_map, option_or}
 use Rattle.lift_sequence.specs.Follow.{weighed_at}
+use Rattle.lift_sequence.specs.Independent.{moved}
 use Rattle.step_edits.specs.declared.faults.EditFault.TheVariants.{Sequence}
 use Rattle.step_edits.specs.Edits.{edit_fault, edited}
 use Rattle.what_if.specs.Bases.{list_fault}
 use Rattle.what_if.specs.Sessions.{CostsLittle, Summed, restows_behind}
+use Rattle.what_if.proofs.MoveLemmas.{is_moved}
 use Rattle.what_if.proofs.RenewLemmas.{place_less}
 use Rattle.what_if.proofs.summed_lists.SummedList.edit.Goals as goal
 
@@ -36,3 +39,12 @@ returns-then-exchange-clause-legal c =
     = c.if-exchange.ensures.ops ∙ (λ i. swap now.ops (place_less c.in-Swap.a i) (place_less c.in-Swap.b i)) ∙ ap (edited now.ops) (sym c.in-Swap.is) in
     let list : list_fault now.base (edited now.ops edit) ≡ None = ap (list_fault now.base) (sym made) ∙ c.if-exchange.ensures.legal in
     λ i. option_or (own i) (option_map Sequence (list i))
+
+pub returns-in-Ok-true-clause-ops : goal.returns-in-Ok-true-clause-ops
+returns-in-Ok-true-clause-ops c =
+    let now = c.args.self.now in
+    let edit = c.args.edit.now in
+    let same = c.ops.ensures ∙ ap (λ (v : Summed). v.ops) c.self.view_is in
+    let own : edit_fault now.ops edit ≡ None = ap (λ l. edit_fault l edit) (sym same) ∙ sym c.fault_of.ensures.exact ∙ c.in_default.is in
+    let carried = subst (λ b. OnTrue b (c.carry.new.self.ops ≡ moved now.ops (c.in-Move.from - 1) (c.in-Move.to - 1))) c.in-Ok-true.field-0-test c.in-Ok-true.ensures.ops in
+    carried ∙ is_moved now.ops c.in-Move.from c.in-Move.to (ap (edit_fault now.ops) (sym c.in-Move.is) ∙ own) ∙ ap (edited now.ops) (sym c.in-Move.is)
