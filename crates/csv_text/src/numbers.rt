@@ -47,9 +47,8 @@ fn natural(digits: &[u8]) -> Option<u64>
     Some(value)
 }
 
-/// The number that a field writes: spaces at both ends are skipped, then a minus or none, then 1 to
-/// 18 digits.
-pub fn number(text: &[u8]) -> Option<i64>
+/// The number of any field.
+fn signed(text: &[u8]) -> Option<i64>
     ensures { result ≡ number_in text.now }
 {
     match trim_end(trim_start(text)) {
@@ -61,5 +60,17 @@ pub fn number(text: &[u8]) -> Option<i64>
             Some(size) => Some(size as i64),
             None => None,
         },
+    }
+}
+
+/// The number that a field writes: spaces at both ends are skipped, then a minus or none, then 1 to
+/// 18 digits.
+pub fn number(text: &[u8]) -> Option<i64>
+    ensures { result ≡ number_in text.now }
+{
+    // Most fields are digits alone.
+    match natural(text) {
+        Some(size) => Some(size as i64),
+        None => signed(text),
     }
 }
