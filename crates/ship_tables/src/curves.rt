@@ -83,7 +83,7 @@ pub fn numbers(alloc: Global, rows: &[Row], column: usize) -> Result<Vec<i128>, 
     ensures ok { IfOk result (λ v. v.items ≡ numbers_of column rows.now) }
     ensures memory { IfErr result (λ e. e ≡ TableFault.NoMemory) }
 {
-    let mut numbers = Vec::new(alloc);
+    let mut numbers = Vec::with_capacity(alloc, rows.len())?;
     for row in rows {
         numbers.push(i128::from(row.number(column)))?;
     }

@@ -36,6 +36,7 @@ struct Columns {
 }
 
 /// The length that a field writes, where it is one from `low` on.
+#[inline(always)]
 fn length_in(text: &[u8], low: i64) -> Option<Mm>
     requires { neg_ℤ (pos 1000000) ≤ℤ low }
     ensures { IfSome result (λ m. (line : ℕ) → field_in File.Cells line

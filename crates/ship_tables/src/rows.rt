@@ -1,5 +1,6 @@
-ghost use Rattle.std.specs.Prelude.{◌≡◌, ◌≢◌, IfOk, IfErr, Ok, Err};
+ghost use Rattle.std.specs.Prelude.{◌≡◌, ◌≢◌, ◌++◌, ◌∷◌, [], ℕ, OnOk, IfOk, IfErr, IfSome, Ok, Err};
 ghost use Rattle.csv.specs.Records.{fields_of};
+ghost use Rattle.ship_tables.specs.declared.layouts.Field.TheVariants as field;
 ghost use Rattle.ship_tables.specs.Tables.{form_of, field_in, row_in, number_at, first_cell};
 ghost use Rattle.ship_tables.specs.Tables.{first_name};
 
@@ -88,6 +89,48 @@ pub fn read_field(file: File, line: u32, column: Column, text: &[u8]) -> Result<
     }
 }
 
+/// The number that a text is in its column, where it is one within the limits.
+#[inline(always)]
+fn plain_number(column: Column, text: &[u8]) -> Option<i64>
+    ensures { IfSome result (λ z. (file : File) (line : ℕ)
+        → field_in file line column text.now ≡ Ok (field.Number z)) }
+{
+    let Column::Number { low, high } = column else {
+        return None;
+    };
+    let number = number(text)?;
+    if low <= number && number <= high {
+        Some(number)
+    } else {
+        None
+    }
+}
+
+/// Adds the field that a text is in its column. A number is most often one within the limits, and
+/// is added without a result to be looked into.
+#[inline(always)]
+fn add_field(
+    file: File,
+    line: u32,
+    column: Column,
+    text: &[u8],
+    read: &mut Vec<Field>,
+) -> Result<(), TableFault>
+    ensures ok { OnOk result ((f : Field) × (field_in file line column text.now ≡ Ok f)
+        × (read.new.items ≡ read.old.items ++ f ∷ [])) }
+    ensures refused { IfErr result
+        (λ e. e ≢ TableFault.NoMemory → field_in file line column text.now ≡ Err e) }
+{
+    match plain_number(column, text) {
+        Some(number) => read.push(Field::Number(number))?,
+        None => {
+            let field = read_field(file, line, column, text)?;
+            read.push(field)?;
+        }
+    }
+    Ok(())
+}
+
 /// The row that a record is, each field by its column from left to right.
 pub fn read_row(
     alloc: Global,
@@ -105,8 +148,8 @@ pub fn read_row(
     }
     let mut read = Vec::with_capacity(alloc, layout.columns.len())?;
     for (place, column) in layout.columns.iter().enumerate() {
-        let field = read_field(layout.file, line, *column, text_at(fields, place))?;
-        read.push(field)?;
+        let text = text_at(fields, place);
+        add_field(layout.file, line, *column, text, &mut read)?;
     }
     Ok(Row { fields: read })
 }
