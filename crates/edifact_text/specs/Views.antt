@@ -1,6 +1,6 @@
 -- Bookkeeping: the code's values, as contracts see them.
 use Rattle.std.specs.Prelude.{ℕ, ◌-◌, List, [], ◌∷◌, length, take, Option, Some, None, Bool, false}
-use Rattle.std.specs.Prelude.{◌==◌, ◌||◌, ◌&&◌, nat_le, slice_index_or}
+use Rattle.std.specs.Prelude.{◌==◌, ◌||◌, ◌&&◌, nat_le, not, slice_index_or}
 use Rattle.edifact_text.specs.declared.raw.Raw.{Raw}
 use Rattle.edifact_text.specs.declared.segment_text.SegmentText.{SegmentText}
 use Rattle.edifact_text.specs.declared.cursor.Cursor.{Cursor}
@@ -53,6 +53,14 @@ ahead c = stretches (c.len - length c.rest.now)
 -- The byte is a capital letter: no interchange has one as a service character.
 abbrev pub is_capital : ℕ → Bool
 is_capital b = nat_le 65 b && nat_le b 90
+
+-- The byte is a capital letter other than U, with which the trailers begin.
+abbrev pub is_ordinary_letter : ℕ → Bool
+is_ordinary_letter b = is_capital b && not (b == 85)
+
+abbrev pub begins_ordinary : List ℕ → Bool
+begins_ordinary [] = false
+begins_ordinary (b ∷ bs) = is_ordinary_letter b
 
 -- The letters of a tag.
 abbrev pub letters_of : Tag → List ℕ

@@ -68,8 +68,9 @@ pub(crate) fn is_plain(bytes: &[u8], service: Service) -> bool
         ≡ (take 3 bytes.now ∷ []) ∷ segment_of service (drop 4 bytes.now) }
 {
     match bytes {
-        [a, b, c, d, ..] if is_capital(*a) && is_capital(*b) && is_capital(*c) => {
-            *d == service.element
+        [a, b, c, d, ..]
+            if is_capital(*a) && is_capital(*b) && is_capital(*c) && *d == service.element => {
+            true
         }
         // It is passed a copy, so that the others need no place in memory.
         _ => is_seen_plain(bytes, Service { ..service }),

@@ -4,7 +4,7 @@ ghost use Rattle.std.specs.Prelude.{[], ◌∷◌, true};
 ghost use Rattle.edifact_text.specs.Characters.{serves};
 
 use crate::faults::{EdiCode, EdiFault};
-use crate::pieces::{far_cut, near_cut, skip_blanks};
+use crate::pieces::{far_cut, near_cut, ordinary_text, skip_blanks};
 use crate::segment_text::SegmentText;
 use crate::service::Service;
 
@@ -20,7 +20,7 @@ pub(crate) struct Cursor<'a> {
 }
 
 impl<'a> Cursor<'a> {
-    ghost use Rattle.edifact_text.specs.Stages.{next_of, ended_ones};
+    ghost use Rattle.edifact_text.specs.Stages.{IsOrdinary, next_of, ended_ones};
     ghost use Rattle.edifact_text.specs.Views.{ahead, stretch_of};
 
     /// The text before the next terminator, and the text behind it; without one, all that is left.
@@ -67,11 +67,42 @@ impl<'a> Cursor<'a> {
             × (p.1.len ≡ self.entry.len)) }
         ensures less { IfSome result
             (λ p. length p.1.rest.now < length self.entry.rest.now) }
-        ensures short { IfSome result (λ p. length p.0.bytes.now < 64) }
     {
         let service = self.service;
         let (front, rest) = near_cut(self.rest, service.release, service.terminator)?;
         let bytes = skip_blanks(front);
+        let place = self.len - self.rest.len() + (front.len() - bytes.len());
+        let text = SegmentText {
+            bytes,
+            place,
+            service,
+        };
+        let behind = Cursor {
+            len: self.len,
+            rest,
+            service,
+        };
+        Some((text, behind))
+    }
+
+    /// The next segment and what is behind it, where its terminator is near and it was seen to be
+    /// ordinary by its first letter, as nearly every segment is. Before that may be nothing or a
+    /// line feed, or any blanks.
+    #[inline(always)]
+    #[tactic(auto, using(crate::proofs::FitLemmas::ends_apart))]
+    pub(crate) fn near_ordinary(self, any_blanks: bool) -> Option<(SegmentText<'a>, Cursor<'a>)>
+        ensures first { IfSome result
+            (λ p. (ahead self.entry ≡ stretch_of p.0 ∷ ahead p.1) × (0 < length (ahead p.1))) }
+        ensures same { IfSome result
+            (λ p. (p.1.service ≡ self.entry.service) × (p.1.len ≡ self.entry.len)) }
+        ensures less { IfSome result
+            (λ p. length p.1.rest.now < length self.entry.rest.now) }
+        ensures ordinary { IfSome result
+            (λ p. IsOrdinary self.entry.service (stretch_of p.0)) }
+    {
+        let service = self.service;
+        let (front, rest) = near_cut(self.rest, service.release, service.terminator)?;
+        let bytes = ordinary_text(front, any_blanks)?;
         let place = self.len - self.rest.len() + (front.len() - bytes.len());
         let text = SegmentText {
             bytes,

@@ -82,10 +82,11 @@ struct Place<'a> {
     number: u64,
 }
 
-/// The place behind the ordinary segments that are next, where each has its terminator near. It is
-/// a loop of its own, so that nothing but what it needs is at hand in it.
+/// The place behind the ordinary segments that are next, where each has its terminator near, and
+/// before it nothing or a line feed, or any blanks. It is a loop of its own, so that nothing but
+/// what it needs is at hand in it.
 #[inline(never)]
-fn behind_ordinary(from: Place<'_>) -> Place<'_>
+fn behind_ordinary<const ANY_BLANKS: bool>(from: Place<'_>) -> Place<'_>
     requires { from.number + length from.left.rest.now < 2 ^ 64 }
     ensures value { trailer_of from.entry.left.service from.entry.left.len result.number
         (ahead result.left)
@@ -100,14 +101,34 @@ fn behind_ordinary(from: Place<'_>) -> Place<'_>
 {
     let mut left = from.left;
     let mut number = from.number;
-    while let Some((text, behind)) = left.near() {
-        if !text.is_ordinary() {
-            return Place { left, number };
-        }
+    while let Some((_, behind)) = left.near_ordinary(ANY_BLANKS) {
         left = behind;
         number += 1;
     }
     Place { left, number }
+}
+
+/// The place behind the ordinary segments that are next: behind those on lines that end with LF, or
+/// with nothing, and then those on lines that end with CR LF.
+#[inline(always)]
+fn behind_lines(from: Place<'_>) -> Place<'_>
+    requires { from.number + length from.left.rest.now < 2 ^ 64 }
+    ensures value { trailer_of from.entry.left.service from.entry.left.len result.number
+        (ahead result.left)
+        ≡ trailer_of from.entry.left.service from.entry.left.len from.entry.number
+        (ahead from.entry.left) }
+    ensures same { (result.left.service ≡ from.entry.left.service)
+        × (result.left.len ≡ from.entry.left.len) }
+    ensures less { length result.left.rest.now ≤ length from.entry.left.rest.now }
+    ensures fits { result.number + length result.left.rest.now
+        ≤ from.entry.number + length from.entry.left.rest.now }
+    ensures least { from.entry.number ≤ result.number }
+{
+    let place = behind_ordinary::<false>(from);
+    match place.left.rest {
+        [b'\r', ..] => behind_ordinary::<true>(place),
+        _ => place,
+    }
 }
 
 /// The segments up to the message trailer, each checked.
@@ -127,7 +148,7 @@ fn trailer<'a>(cursor: Cursor<'a>) -> Result<Ended<'a>, EdiFault>
     let mut left = cursor;
     let mut number: u64 = 2;
     'segments: loop {
-        let place = behind_ordinary(Place { left, number });
+        let place = behind_lines(Place { left, number });
         let (text, behind) = place.left.next()?;
         let trailers = text.trailers();
         if trailers.message {

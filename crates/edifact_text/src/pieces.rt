@@ -1,11 +1,12 @@
 //! Cutting bytes at a separator. A separator behind a release character cuts nothing.
 ghost use Rattle.std.specs.Prelude.{◌≡◌, ◌↔◌, ◌<◌, ◌≤◌, IsTrue, false, IfSome, MatchOption, length};
-ghost use Rattle.std.specs.Prelude.{slice_index_or, [], ◌∷◌, ◌+◌, drop, option_map, take, not};
+ghost use Rattle.std.specs.Prelude.{slice_index_or, [], ◌∷◌, ◌+◌, drop, option_map, take, not, true};
 ghost use Rattle.std.specs.Prelude.{◌==◌};
 ghost use Rattle.std.specs.List.{prefix_len};
 ghost use Rattle.edifact_text.specs.Characters.{is_release, is_blank};
 ghost use Rattle.edifact_text.specs.Pieces.{end_from, pieces};
 ghost use Rattle.edifact_text.specs.Reading.{trimmed};
+ghost use Rattle.edifact_text.specs.Views.{begins_ordinary, is_ordinary_letter};
 
 use memchr::memchr2;
 use std::simd::prelude::*;
@@ -275,6 +276,47 @@ pub(crate) fn skip_blanks(bytes: &[u8]) -> &[u8]
     }
 }
 
+/// A letter with which ordinary segments begin: a capital letter that begins no trailer.
+#[inline(always)]
+fn is_ordinary_letter(byte: u8) -> bool
+    ensures { result ≡ is_ordinary_letter byte }
+{
+    byte.is_ascii_uppercase() && byte != b'U'
+}
+
+/// The bytes from the first that is no blank, where that was seen to be a letter with which
+/// ordinary segments begin. What is before it may be nothing or a line feed, or any blanks.
+#[inline(always)]
+pub(crate) fn ordinary_text(bytes: &[u8], any_blanks: bool) -> Option<&[u8]>
+    ensures value { IfSome result (λ text. text.now ≡ trimmed bytes.now) }
+    ensures less { IfSome result (λ text. length text.now ≤ length bytes.now) }
+    ensures letter { IfSome result (λ text. begins_ordinary text.now ≡ true) }
+{
+    if any_blanks {
+        return ordinary_text_behind(bytes);
+    }
+    match bytes {
+        [b'\n', first, ..] if is_ordinary_letter(*first) => Some(&bytes[1..]),
+        [first, _, ..] if is_ordinary_letter(*first) => Some(bytes),
+        _ => None,
+    }
+}
+
+/// The bytes from the first that is no blank, whatever blanks are before it, where that is a letter
+/// with which ordinary segments begin.
+#[inline(always)]
+fn ordinary_text_behind(bytes: &[u8]) -> Option<&[u8]>
+    ensures value { IfSome result (λ text. text.now ≡ trimmed bytes.now) }
+    ensures less { IfSome result (λ text. length text.now ≤ length bytes.now) }
+    ensures letter { IfSome result (λ text. begins_ordinary text.now ≡ true) }
+{
+    let text = skip_any_blanks(bytes);
+    match text {
+        [first, ..] if is_ordinary_letter(*first) => Some(text),
+        _ => None,
+    }
+}
+
 /// The bytes from the first that is no blank, each looked at.
 #[cold]
 #[inline(never)]
@@ -282,6 +324,12 @@ fn skip_any_blanks(bytes: &[u8]) -> &[u8]
     ensures value { result.now ≡ trimmed bytes.now }
     ensures less { length result.now ≤ length bytes.now }
 {
+    // Most of those that come here are at the beginning of a line, behind CR and LF.
+    if let [b'\r', b'\n', first, ..] = bytes {
+        if *first > b' ' {
+            return &bytes[2..];
+        }
+    }
     for (at, byte) in bytes.iter().enumerate() {
         if !is_blank(*byte) {
             return &bytes[at..];

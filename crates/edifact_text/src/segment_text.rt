@@ -1,14 +1,13 @@
 //! A segment at its place in the text, and what can be asked of any segment.
-ghost use Rattle.std.specs.Prelude.{◌≡◌, ◌≤◌, ◌<◌, length, [], true};
-ghost use Rattle.edifact_text.specs.Characters.{serves};
+ghost use Rattle.std.specs.Prelude.{◌≡◌, ◌≤◌, ◌<◌, length, []};
 ghost use Rattle.std.specs.List.{list_any};
 ghost use Rattle.edifact_text.specs.Rows.{is_text, is_number, count_of};
 ghost use Rattle.edifact_text.specs.Pieces.{pieces};
 ghost use Rattle.edifact_text.specs.Reading.{row};
-ghost use Rattle.edifact_text.specs.Stages.{IsOrdinary, part, whole, is_long, is_too_large};
+ghost use Rattle.edifact_text.specs.Stages.{part, whole, is_long, is_too_large};
 ghost use Rattle.edifact_text.specs.Views.{meaning_of, stretch_of};
 
-use crate::components::{component_of, is_capital, is_service};
+use crate::components::{component_of, is_service};
 use crate::faults::{EdiCode, EdiFault};
 use crate::numbers::count;
 use crate::pieces::{are_at_most, cut};
@@ -139,19 +138,5 @@ impl<'a> SegmentText<'a> {
     {
         self.fault(self.is_without_tag(), EdiCode::EmptySegment)?;
         self.fault(self.is_too_large(), EdiCode::TooManyElements)
-    }
-
-    /// It is ordinary by its first letter, as nearly every segment is that is as short. Nothing is
-    /// said of another.
-    #[inline(always)]
-    pub(crate) fn is_ordinary(self) -> bool
-        requires fit { serves self.service ≡ true }
-        requires short { length self.bytes.now < 64 }
-        ensures { result ≡ true → IsOrdinary self.entry.service (stretch_of self.entry) }
-    {
-        match self.bytes {
-            [first, ..] => is_capital(*first) && *first != b'U',
-            [] => false,
-        }
     }
 }
