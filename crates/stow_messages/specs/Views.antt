@@ -2,8 +2,8 @@
 use Rattle.std.specs.Prelude.{List, ◌∷◌, Option, None, Some, option_map}
 use Rattle.edifact_text.specs.Interchange.{Numbered}
 use Rattle.edifact_text.specs.Views.{numbered_view, left_of}
-use Rattle.edifact_text.specs.declared.message.Segment.{Segment}
 use Rattle.stow_messages.specs.declared.groups.Group.{Group}
+use Rattle.stow_messages.specs.declared.known.Known.{Known}
 use Rattle.stow_messages.specs.declared.parts.Part as declared
 use Rattle.stow_messages.specs.declared.parts.Part.TheVariants as code
 use Rattle.stow_messages.specs.declared.parts.Parts.{Parts}
@@ -35,9 +35,9 @@ more_found f behind = record {
 }
 
 -- the segments that are left, with the one that was taken ahead
-abbrev pub with_ahead : Option Segment → List Numbered → List Numbered
+abbrev pub with_ahead : Option Known → List Numbered → List Numbered
 with_ahead None segments = segments
-with_ahead (Some s) segments = numbered_view s ∷ segments
+with_ahead (Some s) segments = numbered_view s.segment ∷ segments
 
 abbrev pub segments_left : Parts → List Numbered
 segments_left parts = with_ahead parts.ahead (left_of parts.left)

@@ -8,6 +8,7 @@ mod faults;
 mod groups;
 mod instructions;
 mod items;
+mod known;
 mod laws;
 mod lifts;
 mod parts;

@@ -6,6 +6,7 @@ ghost use Rattle.stow_messages.specs.Kinds.{kind_of};
 ghost use Rattle.stow_messages.specs.Views.{found_view, part_view, parts_left, segments_left};
 
 use crate::groups::{Group, SegmentKind, kind_of};
+use crate::known::Known;
 use edifact_text::{Segment, Segments};
 
 /// A part of a message.
@@ -23,7 +24,7 @@ pub enum Part<'a> {
 pub struct Parts<'a> {
     left: Segments<'a>,
     /// The segment before those, where it was taken to see that a group ends there.
-    ahead: Option<Segment<'a>>,
+    ahead: Option<Known<'a>>,
     handles: bool,
 }
 
@@ -39,20 +40,24 @@ impl<'a> Parts<'a> {
         }
     }
 
-    /// The next segment.
+    /// The next segment. It is asked once what it is.
     #[inline(always)]
-    fn next_segment(&mut self) -> Option<Segment<'a>>
+    fn next_segment(&mut self) -> Option<Known<'a>>
         ensures segment { MatchOption result
             ((segments_left self.old ≡ []) × (segments_left self.new ≡ []))
-            (λ s. segments_left self.old ≡ numbered_view s ∷ segments_left self.new) }
+            (λ s. segments_left self.old ≡ numbered_view s.segment ∷ segments_left self.new) }
         ensures same { (self.new.handles ≡ self.old.handles) × (self.new.ahead ≡ None) }
     {
         match self.ahead {
-            Some(segment) => {
+            Some(known) => {
                 self.ahead = None;
-                Some(segment)
+                Some(known)
             }
-            None => self.left.next(),
+            None => {
+                let segment = self.left.next()?;
+                let kind = kind_of(&segment);
+                Some(Known { segment, kind })
+            }
         }
     }
 
@@ -84,7 +89,7 @@ impl<'a> Parts<'a> {
             let kind = kind_of(&segment);
             if self.is_begun_by(kind, &segment) {
                 self.left = left;
-                self.ahead = Some(segment);
+                self.ahead = Some(Known { segment, kind });
                 return group;
             }
             group.note(kind, &segment);
@@ -103,10 +108,12 @@ impl<'a> Iterator for Parts<'a> {
 
     #[inline(always)]
     fn next(&mut self) -> Option<Part<'a>> {
-        while let Some(segment) = self.next_segment() {
-            match kind_of(&segment) {
-                SegmentKind::Location => return Some(Part::Located(self.group_at(&segment))),
-                SegmentKind::Handling if self.handles => return Some(Part::Handled(segment)),
+        while let Some(known) = self.next_segment() {
+            match known.kind {
+                SegmentKind::Location => {
+                    return Some(Part::Located(self.group_at(&known.segment)));
+                }
+                SegmentKind::Handling if self.handles => return Some(Part::Handled(known.segment)),
                 _ => {}
             }
         }
