@@ -1,7 +1,7 @@
 //! Cutting bytes at a separator. A separator behind a release character cuts nothing.
 ghost use Rattle.std.specs.Prelude.{◌≡◌, ◌↔◌, ◌<◌, ◌≤◌, IsTrue, false, IfSome, MatchOption, length};
-ghost use Rattle.std.specs.Prelude.{slice_index_or, [], ◌∷◌, ◌+◌, drop, option_map, take, not, true};
-ghost use Rattle.std.specs.Prelude.{◌==◌};
+ghost use Rattle.std.specs.Prelude.{slice_index_or, [], ◌∷◌, ◌+◌, drop, option_map, take, not};
+ghost use Rattle.std.specs.Prelude.{◌==◌, true};
 ghost use Rattle.std.specs.List.{prefix_len};
 ghost use Rattle.edifact_text.specs.Characters.{is_release, is_blank};
 ghost use Rattle.edifact_text.specs.Pieces.{end_from, pieces};

@@ -3,8 +3,8 @@ ghost use Rattle.std.specs.Char.{is_ascii_digit};
 ghost use Rattle.std.specs.List.{list_all};
 ghost use Rattle.std.specs.Str.Parse.{digits_value};
 ghost use Rattle.edifact_text.specs.Views.{meaning_of};
-ghost use Rattle.stow_messages.specs.Weights.{in_six_digits, kg_in, kg_of, digits_of, behind_digits, is_fraction};
-ghost use Rattle.stow_messages.specs.Weights.{is_above_zero, begins_with_digit};
+ghost use Rattle.stow_messages.specs.Weights.{kg_in, kg_of, digits_of, behind_digits, is_fraction};
+ghost use Rattle.stow_messages.specs.Weights.{in_six_digits, is_above_zero, begins_with_digit};
 
 use arrayvec::ArrayVec;
 use edifact_text::Raw;
