@@ -87,7 +87,7 @@ impl<'a> Cursor<'a> {
 
     /// The next segment and what is behind it, where its terminator is near and it was seen to be
     /// ordinary by its first letter, as nearly every segment is. Before that may be nothing or a
-    /// line feed, or any blanks.
+    /// line feed, and if `any_blanks` is set, blanks of any kind and number.
     #[inline(always)]
     #[tactic(auto, using(crate::proofs::FitLemmas::ends_apart))]
     pub(crate) fn near_ordinary(self, any_blanks: bool) -> Option<(SegmentText<'a>, Cursor<'a>)>

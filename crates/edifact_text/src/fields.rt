@@ -12,7 +12,7 @@ use crate::raw::Raw;
 use crate::service::Service;
 use std::simd::prelude::*;
 
-/// The byte is a digit, which serves no interchange.
+/// The byte is a digit. No digit is a service character.
 #[inline(always)]
 fn is_digit(byte: u8) -> bool
     ensures { result ≡ is_digit byte }

@@ -285,7 +285,8 @@ fn is_ordinary_letter(byte: u8) -> bool
 }
 
 /// The bytes from the first that is no blank, where that was seen to be a letter with which
-/// ordinary segments begin. What is before it may be nothing or a line feed, or any blanks.
+/// ordinary segments begin. Before it may be nothing or a line feed, and if `any_blanks` is set,
+/// blanks of any kind and number.
 #[inline(always)]
 pub(crate) fn ordinary_text(bytes: &[u8], any_blanks: bool) -> Option<&[u8]>
     ensures value { IfSome result (λ text. text.now ≡ trimmed bytes.now) }
@@ -317,7 +318,7 @@ fn ordinary_text_behind(bytes: &[u8]) -> Option<&[u8]>
     }
 }
 
-/// The bytes from the first that is no blank, each looked at.
+/// The bytes from the first that is no blank, whatever blanks are before it.
 #[cold]
 #[inline(never)]
 fn skip_any_blanks(bytes: &[u8]) -> &[u8]

@@ -143,7 +143,7 @@ fn is_near(guess: i64, number: i64, divisor: i64, most: i64) -> bool
 }
 
 /// The numbers of 64 bits, with the line in parts: it is guessed in floating point and then tested.
-/// `None` where the numbers are too great, or where the guess is too far off.
+/// `None` where the divisor is too small, a number in parts too great, or a guess too far off.
 fn fitted(unit: i128, base: i64, step: i64, divisor: i64) -> Option<Leading>
     ensures unit { IfSome result (λ l. l.unit ≡ unit) }
     ensures base { IfSome result (λ l. l.base ≡ base) }

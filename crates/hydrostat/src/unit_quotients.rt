@@ -71,13 +71,7 @@ fn is_sure(rest: i64, divisor: i64) -> bool
 
 /// The draught at `x`, rounded down, where the units leave no doubt.
 #[inline(always)]
-pub fn quotient_in_units(
-    base: i64,
-    step: i64,
-    divisor: i64,
-    reciprocal: u64,
-    x: i64,
-) -> Option<i64>
+pub fn quotient_in_units(base: i64, step: i64, divisor: i64, reciprocal: u64, x: i64) -> Option<i64>
     requires short { IsShort base step divisor }
     requires x { unsigned_abs x ≤ 10 ^ 6 }
     ensures { IfSome result (λ q. IsSure q (base -ℤ (step *ℤ x)) divisor) }

@@ -5,7 +5,7 @@ ghost use Rattle.what_if.specs.Desks.{IsOf};
 use crate::desks::Publishing;
 use crate::free_calls::{Readers, are_free};
 use crate::reports::Report;
-use crate::sessions::{Editing, Kind, edit_of, inputs, list_of};
+use crate::sessions::{Editing, Kind, edit_of, inputs, list_of, with_fillings};
 use crate::texts::{FILLED_LINES, NO_STEPS, RESTOW, RESTOW_LINES, TWO_LINES, TWO_LOADS, filled};
 use crate::trials::Trial;
 use crate::watch::{Tally, watch};
@@ -216,7 +216,9 @@ fn sessions<R: AllocGlobal + Threads + Wait + Sync, W: Write>(
 ) -> Result<bool, RunFault> {
     let mut right = tried(rt, out, "session_edits, read", Trial::Read);
     right &= edits(rt, out, session, Kind::Remove)?;
-    right &= edits(rt, out, session, Kind::Move)?;
+    let mut longer = with_fillings(rt.alloc(), session)?;
+    right &= edits(rt, out, &mut longer, Kind::Move)?;
+    right &= edits(rt, out, &mut longer, Kind::MoveFilling)?;
     right &= undos(rt, out, session);
     Ok(right & swaps(rt, out, session))
 }

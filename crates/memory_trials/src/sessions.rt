@@ -6,6 +6,7 @@ use box_ship::{EMPTY_PLAN, files};
 use lift_sequence::Op;
 use seq_report::{Inputs, RunFault};
 use std::alloc::Global;
+use std::sync::Arc;
 use step_edits::{Edit, EditFault, copies};
 use units_core::Kg;
 use what_if::Session;
@@ -29,19 +30,39 @@ pub fn read(alloc: Global) -> Told {
     }
 }
 
-/// Which edit is made of a list of two loads.
+/// Which edit is made: of a list of two loads, or of the same with two fillings of one tank.
 #[derive(Clone, Copy)]
 pub enum Kind {
     Remove,
+    /// A load is moved past the other, of which it is independent.
     Move,
     Insert,
+    /// A filling is moved past that of the same tank.
+    MoveFilling,
 }
 
 /// The tank is filled.
-fn filling() -> Op {
+fn filling(kg: u32) -> Op {
     let mut name = ArrayVec::new();
     let _ = name.try_extend_from_slice(b"DB1".as_slice());
-    Op::Fill { name, kg: 500_000 }
+    Op::Fill { name, kg }
+}
+
+/// A session on the list of another with two fillings of a tank behind it.
+pub fn with_fillings(alloc: Global, session: &Session) -> Result<Session, RunFault> {
+    let mut list = list_of(alloc, session)?;
+    for kg in [500_000, 400_000] {
+        if list.push(filling(kg)).is_err() {
+            return Err(RunFault::NoMemory);
+        }
+    }
+    let Ok(base) = Arc::try_clone(session.base()) else {
+        return Err(RunFault::NoMemory);
+    };
+    match Session::new(alloc, base, list) {
+        Ok(session) => Ok(session),
+        Err(_) => Err(RunFault::NoMemory),
+    }
 }
 
 /// The edit.
@@ -51,8 +72,9 @@ pub fn edit_of(kind: Kind) -> Edit {
         Kind::Move => Edit::Move { from: 1, to: 2 },
         Kind::Insert => Edit::Insert {
             at: 2,
-            lift: filling(),
+            lift: filling(500_000),
         },
+        Kind::MoveFilling => Edit::Move { from: 3, to: 4 },
     }
 }
 
@@ -137,11 +159,13 @@ pub fn sixty_four_undos(session: &mut Session) -> Told {
 }
 
 /// The first of three steps that are independent of each other is exchanged with the last, and with
-/// the second, and each exchange is taken back: none of that asks for memory.
+/// the second, and is moved there, and each of that is taken back: none of it asks for memory.
 pub fn swaps(session: &mut Session) -> Told {
     let mut right = session.lifts().len() == 3;
     for (a, b) in [(1, 3), (3, 1), (1, 2), (2, 1)] {
         right &= session.apply(Edit::Swap { a, b }).is_ok();
+        right &= session.undo() == Ok(true);
+        right &= session.apply(Edit::Move { from: a, to: b }).is_ok();
         right &= session.undo() == Ok(true);
     }
     if right { Told::Right } else { Told::Wrong }

@@ -1,8 +1,8 @@
 //! The rows of a tree: the first is the list of values, and each other has the joins of each two
 //! neighbours of the row below it. A value that is alone at the end of a row is left out of the row
 //! above.
-ghost use Rattle.std.specs.Prelude.{◌≡◌, ℕ, ◌+◌, ◌-◌, ◌*◌, ◌^◌, ◌<◌, ◌≤◌, ◌++◌, length, take, drop, min};
-ghost use Rattle.std.specs.Prelude.{sum_by, slice_index_or, slice_set, IfOk, List, ◌/◌};
+ghost use Rattle.std.specs.Prelude.{◌≡◌, ℕ, ◌+◌, ◌-◌, ◌*◌, ◌/◌, ◌^◌, ◌<◌, ◌≤◌, ◌++◌, List, length};
+ghost use Rattle.std.specs.Prelude.{take, drop, min, sum_by, slice_index_or, slice_set, IfOk};
 ghost use Rattle.prefix_scan.specs.Folds.{prefix};
 ghost use Rattle.prefix_scan.specs.Laws.{most_parts};
 ghost use Rattle.prefix_scan.specs.Rows.{paired, first_row, AreRows, IsWritten};

@@ -169,7 +169,8 @@ impl GrowingList {
         }
     }
 
-    /// Adds a cell; false where the tables have it already, or have no room for it.
+    /// Adds a cell; false where the tables say that they have it already, or have no entry for it.
+    /// The finished list is tested, so nothing rests on what they say.
     pub fn add(&mut self, cell: Cell) -> Result<bool, AllocError>
         ensures { IfOk result
             (λ added. added ≡ true → self.new.cells.items ≡ self.old.cells.items ++ cell ∷ []) }

@@ -97,8 +97,9 @@ impl SummedList {
         true
     }
 
-    /// Moves a step past others, where it is independent of them. It returns whether it did; if not,
-    /// or out of memory, everything is as it was.
+    /// Moves a step past others, where it is independent of them. It returns whether it did; if
+    /// not, or out of memory, everything is as it was. The part of the sums over these steps is
+    /// made anew, each join once; as where all of them are made, none is counted.
     fn carry(&mut self, from: usize, to: usize) -> Result<bool, AllocError>
         requires first { (1 ≤ from) × (1 ≤ to) }
         requires last { (from ≤ length self.old.ops) × (to ≤ length self.old.ops) }
@@ -111,6 +112,9 @@ impl SummedList {
         ensures before { OnErr result (self.new ≡ self.old) }
         ensures joins { self.new.joins ≡ self.old.joins }
     {
+        if !self.sequence.can_shift(from, to) {
+            return Ok(false);
+        }
         let steps = self.sequence.len();
         let end = ((from.max(to) + 3) / 4).min(steps / 4);
         let four = ((from.min(to) - 1) / 4).min(end);
@@ -119,14 +123,15 @@ impl SummedList {
     }
 
     /// Moves a step past others, where it is independent of them, and sets the sums of the fours of
-    /// steps from this number on in the room. It returns whether it did; if not, everything is as it
-    /// was.
+    /// steps from this number on in the room. It returns whether it did; if not, everything is as
+    /// it was.
     fn carry_in(&mut self, from: usize, to: usize, four: usize, room: &mut [Totals]) -> bool
         requires first { (1 ≤ from) × (1 ≤ to) }
         requires last { (from ≤ length self.old.ops) × (to ≤ length self.old.ops) }
         requires begins { (four * 4 < from) × (four * 4 < to) }
         requires within { four + length room.old ≤ length self.old.ops / 4 }
-        requires ends { ((from ≤ (four + length room.old) * 4) × (to ≤ (four + length room.old) * 4))
+        requires ends { ((from ≤ (four + length room.old) * 4)
+            × (to ≤ (four + length room.old) * 4))
             ⊎ (length self.old.ops / 4 ≤ four + length room.old) }
         ensures base { self.new.base ≡ self.old.base }
         ensures ops { OnTrue result (self.new.ops ≡ moved self.old.ops (from - 1) (to - 1)) }

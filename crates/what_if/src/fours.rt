@@ -1,14 +1,16 @@
 //! What the steps of a list change, added up four by four.
 //!
 //! A sum has 608 bytes, and what one step changes says no more than the step does. So the tree is
-//! over the sums of four steps each: a query adds the up to three steps behind the last four one by
-//! one, which takes as many joins as a tree over single steps would.
-ghost use Rattle.std.specs.Prelude.{◌≡◌, ◌≢◌, ℕ, ◌+◌, ◌*◌, ◌/◌, ◌%◌, ◌^◌, ◌<◌, ◌≤◌, length, map};
+//! over the sums of four steps each, and a query adds the up to three steps behind the last four
+//! one by one. Each step that is added counts as a join. So a query or a change may take one join
+//! more than in a tree over single steps, and stays within as many as the clauses allow.
+ghost use Rattle.std.specs.Prelude.{◌≡◌, ℕ, ◌+◌, ◌-◌, ◌*◌, ◌/◌, ◌%◌, ◌^◌, ◌<◌, ◌≤◌, length, map};
 ghost use Rattle.std.specs.Prelude.{slice_index_or, slice_set, drop, IfOk};
 ghost use Rattle.prefix_scan.specs.Cut.{start_of};
 ghost use Rattle.prefix_scan.specs.Folds.{prefix};
 ghost use Rattle.prefix_scan.specs.Rows.{IsWritten};
-ghost use Rattle.moment_sums.specs.Kept.{Kept, both_kept, none_kept};
+ghost use Rattle.prefix_scan.specs.Laws.{most_parts};
+ghost use Rattle.moment_sums.specs.Kept.{Kept, bodies_of, both_kept, none_kept, size_of};
 ghost use Rattle.what_if.specs.Bases.{change_of, changes_on, steps_on};
 ghost use Rattle.what_if.specs.Changes.{AreOfFour, fours};
 
@@ -19,6 +21,7 @@ use prefix_scan::{Cuts, TotalsTree};
 use ship_profile::Frames;
 use std::alloc::{AllocError, Global};
 use std::marker::Model;
+use units_core::Step;
 
 /// The sums of each four steps of a list, and the joins of their parts. Up to three steps that are
 /// left at the end of the list are in no sum.
@@ -42,23 +45,37 @@ impl Model for Fours {
     ghost view = { λ f. record { values = f.tree.values; joins = f.tree.joins + f.single } };
 }
 
-/// What the four steps of a number change together, the first four having the number 0.
-fn sum_of_four(sequence: &Sequence, frames: &Frames, four: usize) -> Totals
+/// Adds what a step changes to a sum, which counts as a join; a count at its greatest value stays.
+fn add_counted(sum: &mut Totals, step: &Step, frames: &Frames, count: &mut u64)
+    requires room { size_of sum.old + bodies_of step.now ≤ most_parts }
+    ensures value { sum.new ≡ both_kept sum.old (change_of frames.now step.now) }
+    ensures one_more { count.old < 2 ^ 64 - 1 → count.new ≡ count.old + 1 }
+    ensures bound { (count.old ≤ count.new) × (count.new ≤ count.old + 1) }
+{
+    *count = count.saturating_add(1);
+    sum.add_step(step, frames);
+}
+
+/// What the four steps of a number change together, the first four having the number 0. It takes
+/// three joins.
+fn sum_of_four(sequence: &Sequence, frames: &Frames, four: usize, count: &mut u64) -> Totals
     requires steps { length sequence.now.steps ≡ length sequence.now.ops }
     requires few { length sequence.now.ops ≤ 120000 }
     requires within { 4 * four + 4 ≤ length sequence.now.ops }
-    ensures { result ≡ slice_index_or
+    ensures value { result ≡ slice_index_or
         (fours (map (change_of frames.now) sequence.now.steps)) four none_kept }
+    ensures bound { (count.old ≤ count.new) × (count.new ≤ count.old + 3) }
+    ensures counted { count.old + 3 < 2 ^ 64 → count.new ≡ count.old + 3 }
 {
     let first = 4 * four;
     let mut sum = Totals::of_step(&sequence.step(first + 1), frames);
-    sum.add_step(&sequence.step(first + 2), frames);
-    sum.add_step(&sequence.step(first + 3), frames);
-    sum.add_step(&sequence.step(first + 4), frames);
+    add_counted(&mut sum, &sequence.step(first + 2), frames, count);
+    add_counted(&mut sum, &sequence.step(first + 3), frames, count);
+    add_counted(&mut sum, &sequence.step(first + 4), frames, count);
     sum
 }
 
-/// What each four steps of a sequence change together.
+/// What each four steps of a sequence change together. The joins made here aren't counted.
 fn sums(alloc: Global, sequence: &Sequence, frames: &Frames) -> Result<Vec<Totals>, AllocError>
     requires steps { length sequence.now.steps ≡ length sequence.now.ops }
     requires few { length sequence.now.ops ≤ 120000 }
@@ -67,8 +84,9 @@ fn sums(alloc: Global, sequence: &Sequence, frames: &Frames) -> Result<Vec<Total
 {
     let number = sequence.len() / 4;
     let mut all = Vec::with_capacity(alloc, number)?;
+    let mut uncounted = 0;
     for four in 0..number {
-        all.push(sum_of_four(sequence, frames, four))?;
+        all.push(sum_of_four(sequence, frames, four, &mut uncounted))?;
     }
     Ok(all)
 }
@@ -94,14 +112,15 @@ fn add_single(sequence: &Sequence, frames: &Frames, k: usize, sum: &mut Totals, 
         (map (change_of frames.now) sequence.now.steps) k }
     ensures grows { count.old ≤ count.new }
     ensures cost { count.new ≤ count.old + k % 4 }
+    ensures counted { count.old + k % 4 < 2 ^ 64 → count.new ≡ count.old + k % 4 }
 {
     for place in k / 4 * 4..k {
-        sum.add_step(&sequence.step(place + 1), frames);
-        *count = count.saturating_add(1);
+        add_counted(sum, &sequence.step(place + 1), frames, count);
     }
 }
 
-/// Sets in the room what each four steps change together, from the four of a number on.
+/// Sets in the room what each four steps change together, from the four of a number on. The joins
+/// made here aren't counted.
 fn set_room(sequence: &Sequence, frames: &Frames, four: usize, room: &mut [Totals])
     requires steps { length sequence.now.steps ≡ length sequence.now.ops }
     requires few { length sequence.now.ops ≤ 120000 }
@@ -111,8 +130,9 @@ fn set_room(sequence: &Sequence, frames: &Frames, four: usize, room: &mut [Total
         ≡ slice_index_or (fours (map (change_of frames.now) sequence.now.steps)) (four + k)
         none_kept }
 {
+    let mut uncounted = 0;
     for k in 0..room.len() {
-        room[k] = sum_of_four(sequence, frames, four + k);
+        room[k] = sum_of_four(sequence, frames, four + k, &mut uncounted);
     }
 }
 
@@ -150,8 +170,8 @@ impl Fours {
         })
     }
 
-    /// What the first `k` steps of the sequence change together. It takes at most l + 1 joins, where
-    /// there are at most 2^l steps.
+    /// What the first `k` steps of the sequence change together. It takes at most l + 1 joins,
+    /// where there are at most 2^l steps, and at least one, unless `k` is 0.
     pub fn prefix(&mut self, sequence: &Sequence, frames: &Frames, k: usize) -> Totals
         requires steps { length sequence.now.steps ≡ length sequence.now.ops }
         requires few { length sequence.now.ops ≤ 120000 }
@@ -164,6 +184,7 @@ impl Fours {
         ensures grows { self.old.joins ≤ self.new.joins }
         ensures cost { (levels : ℕ) → length sequence.now.ops ≤ 2 ^ levels
             → self.new.joins ≤ self.old.joins + (levels + 1) }
+        ensures counted { 0 < k → self.old.joins + 3 < 2 ^ 64 → self.old.joins < self.new.joins }
     {
         let mut sum = self.tree.prefix(k / 4);
         add_single(sequence, frames, k, &mut sum, &mut self.single);
@@ -225,14 +246,15 @@ impl Fours {
         ensures grows { self.old.joins ≤ self.new.joins }
         ensures cost { (levels : ℕ) → length sequence.now.ops ≤ 2 ^ levels
             → self.new.joins ≤ self.old.joins + (levels + 1) }
+        ensures counted { place / 4 < length self.old.values → self.old.joins + 3 < 2 ^ 64
+            → self.old.joins + 3 ≤ self.new.joins }
     {
         let four = place / 4;
         if four >= self.tree.len() {
             return;
         }
-        // Four changes are joined by three joins.
-        self.single = self.single.saturating_add(3);
-        self.tree.set(four, sum_of_four(sequence, frames, four));
+        let sum = sum_of_four(sequence, frames, four, &mut self.single);
+        self.tree.set(four, sum);
     }
 
     /// Sets what each four steps change together, from the four of a number on, as many as there is

@@ -1,5 +1,5 @@
-ghost use Rattle.std.specs.Prelude.{◌≡◌, ℕ, ◌+◌, ◌*◌, ◌/◌, ◌^◌, ◌<◌, ◌≤◌, length, map, drop, slice_set};
-ghost use Rattle.std.specs.Prelude.{slice_index_or, if◌then◌else◌, true, false};
+ghost use Rattle.std.specs.Prelude.{◌≡◌, ℕ, ◌+◌, ◌*◌, ◌/◌, ◌^◌, ◌<◌, ◌≤◌, length, map, drop};
+ghost use Rattle.std.specs.Prelude.{slice_set, slice_index_or, if◌then◌else◌, true, false};
 ghost use Rattle.lift_sequence.specs.Follow.{loaded_at, moves_in};
 ghost use Rattle.moment_sums.specs.Kept.{none_kept};
 ghost use Rattle.what_if.specs.Bases.{change_of};

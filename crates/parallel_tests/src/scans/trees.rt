@@ -202,8 +202,8 @@ fn a_tree_of_its_values(rt: HostRuntime) -> Result<(), Fail> {
     Ok(())
 }
 
-// Another value in each of the first two places: the prefixes are those behind two sets, and no join
-// is counted.
+// Another value in each of the first two places: the prefixes are those behind two sets, and no
+// join is counted.
 #[test]
 fn values_made_anew(rt: HostRuntime) -> Result<(), Fail> {
     let mut tree = TotalsTree::build(rt.alloc(), &VALUES)?;

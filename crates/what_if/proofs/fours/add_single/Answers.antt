@@ -5,8 +5,8 @@ use Rattle.what_if.specs.Bases.{change_of}
 use Rattle.what_if.proofs.ChangeLemmas.{one_more, prefix_size, step_size}
 use Rattle.what_if.proofs.fours.add_single.Goals as goal
 
-pub add_step-requires : goal.add_step-requires
-add_step-requires c =
+pub add_counted-requires : goal.add_counted-requires
+add_counted-requires c =
     let place = c.loop-place.place in
     let steps = c.args.sequence.now.steps in
     let within : place < length steps = omega (arith, c.loop-place-test.true, c.requires.within, c.requires.steps) in
@@ -19,8 +19,13 @@ loop-place-preserved c =
     let steps = c.args.sequence.now.steps in
     let within : place < length steps = omega (arith, c.loop-place-test.true, c.requires.within, c.requires.steps) in
     record {
-      value = one_more c.args.frames.now steps place c.step.result c.loop-place.sum c.add_step.new.self within c.step.ensures c.loop-place.invariant.value c.add_step.ensures;
+      value = one_more c.args.frames.now steps place c.step.result c.loop-place.sum c.add_counted.new.sum within c.step.ensures c.loop-place.invariant.value c.add_counted.ensures.value;
       from = omega (arith, c.loop-place.invariant.from);
-      grows = omega (arith, c.loop-place.invariant.grows);
-      cost = omega (arith, c.loop-place.invariant.cost);
+      within = omega (arith, c.loop-place-test.true);
+      grows = omega (arith, c.loop-place.invariant.grows, c.add_counted.ensures.bound);
+      cost = omega (arith, c.loop-place.invariant.cost, c.add_counted.ensures.bound);
+      counted = λ low. omega (arith, c.loop-place.invariant.counted (omega (arith, low)), c.add_counted.ensures.one_more, low);
     }
+
+pub returns-clause-counted : goal.returns-clause-counted
+returns-clause-counted c = λ low. omega (arith, c.loop-place.invariant.counted (omega (arith, low, c.loop-place-test.false)), c.loop-place-test.false, c.loop-place.invariant.from)

@@ -15,5 +15,5 @@ loop-k-preserved c =
       long = length-set room k v ∙ inv.long;
       each = below_more (λ j. get_or (set room k v) j none_kept ≡ get_or (fours xs) (c.args.four + j) none_kept) k
           (λ j low. get_or-set_other room k j v none_kept (λ e. absurd (omega (arith, e, low))) ∙ inv.each j low)
-          (get_or-set_same room k v none_kept (omega (arith, inv.long, c.loop-k-test.true)) ∙ c.sum_of_four.ensures);
+          (get_or-set_same room k v none_kept (omega (arith, inv.long, c.loop-k-test.true)) ∙ c.sum_of_four.ensures.value);
     }

@@ -13,7 +13,7 @@ loop-four-preserved c =
     let four = c.loop-four.four in
     let long = length-map steps (change_of c.args.frames.now) ∙ c.requires.steps in
     let low : four < length (fours xs) = omega (arith, length-fours xs, long, c.loop-four-test.true, c.len-number.ensures) in
-    c.in_ok-push.ensures.items ∙ (λ j. c.loop-four.invariant j ++ c.sum_of_four.ensures j ∷ []) ∙ sym (take_more (fours xs) four none_kept low)
+    c.in_ok-push.ensures.items ∙ (λ j. c.loop-four.invariant j ++ c.sum_of_four.ensures.value j ∷ []) ∙ sym (take_more (fours xs) four none_kept low)
 
 pub returns : goal.returns
 returns c =
