@@ -1,6 +1,9 @@
 -- A draught decided in whole units is the draught rounded down.
-use Rattle.std.proofs.Common.{◌≡◌, ◌∙◌, ◌*◌, ◌^◌, ◌≤◌, ℤ, pos, ◌+ℤ◌, ◌-ℤ◌, ◌*ℤ◌, ◌≤ℤ◌, ◌<ℤ◌, unsigned_abs, refl, arith}
-use Rattle.units_core.proofs.Signed.{signed_arith, one_part, distributes, product_within}
+use Rattle.std.proofs.Common.{◌≡◌, ◌∙◌, ℕ, ◌*◌, ◌^◌, ◌≤◌, ℤ, pos, negsuc, ◌<◌, ◌+ℤ◌, ◌-ℤ◌, ◌*ℤ◌, ◌≤ℤ◌, ◌<ℤ◌, unsigned_abs, refl, arith}
+use Rattle.std.specs.Int.{int_shr}
+use Rattle.std.specs.Int.Signed.{shr_z}
+use Rattle.std.proofs.lemmas.Nat.{pow_pos}
+use Rattle.units_core.proofs.Signed.{signed_arith, one_part, distributes, int_div_euclid-parts, product_within}
 use Rattle.units_core.proofs.Order.{times_order}
 use Rattle.units_core.proofs.Ring.{diff_of, diff_same, differences, one_times}
 use Rattle.units_core.specs.Ratio.{◌over◌, Is, IsFloor, floor_of}
@@ -56,11 +59,18 @@ is_floor u bh sh dh b s d x q base step divisor hx sure =
 line_is : (m c e t l g x : ℤ) → (((m *ℤ c) *ℤ e) +ℤ (t *ℤ (l -ℤ (pos 0 *ℤ g)))) -ℤ ((t *ℤ g) *ℤ x) ≡ ((m *ℤ c) *ℤ e) +ℤ (t *ℤ (l -ℤ (x *ℤ g)))
 line_is m c e t l g x = rw (diff_of m, diff_of c, diff_of e, diff_of t, diff_of l, diff_of g, diff_of x, diff_of (pos 0)) (simp differences (diff_same _ _ _ _ (omega arith)))
 
-pub draught_is_sure : (a : Afloat) (u bh sh dh x q : ℤ) → IsLedBy u bh sh dh a → unsigned_abs x ≤ 10 ^ 6 → IsSure q (bh -ℤ (sh *ℤ x)) dh
+pub draught_is_sure : (a : Afloat) (k : ℕ) (bh sh dh x q : ℤ) → IsLedBy k bh sh dh a → unsigned_abs x ≤ 10 ^ 6 → IsSure q (bh -ℤ (sh *ℤ x)) dh
     → q ≡ floor_of (draught_at (water a) (load a) a.lbp x)
-draught_is_sure a u bh sh dh x q led hx sure =
+draught_is_sure a k bh sh dh x q led hx sure =
     let top = line_base a -ℤ (line_step a *ℤ x) in
     let is : Is top (line_divisor a) (draught_at (water a) (load a) a.lbp x)
     = rw (line_is a.draught a.mct a.lbp (trim_top a) a.lcf a.gap x) (draught_is a.draught a.gap (trim_top a) a.mct a.lcf x a.lbp (trim (water a) (load a)) (trim_is a.kg a.lcb a.x a.mct a.gap a.kg_positive a.mct_positive a.gap_positive) a.gap_positive a.lbp_positive) in
-    let floor = is_floor u bh sh dh (line_base a) (line_step a) (line_divisor a) x q led.is_base led.is_step led.is_divisor hx sure in
+    let floor = is_floor (pos (2 ^ k)) bh sh dh (line_base a) (line_step a) (line_divisor a) x q led.is_base led.is_step led.is_divisor hx sure in
     floor_unique q (floor_of (top over line_divisor a)) (top over line_divisor a) is.0 floor (floor_is (top over line_divisor a) is.0) ∙ floor_same top (line_divisor a) _ is
+
+-- a shift gives the number in units of a power of 2, rounded down
+pub shift_is_floor : (z : ℤ) (k : ℕ) → IsInUnits (int_shr z k) (pos (2 ^ k)) z
+shift_is_floor z k = by_unit z (2 ^ k) (pow_pos k) where
+  by_unit : (z : ℤ) (m : ℕ) → 0 < m → IsInUnits (shr_z z m) (pos m) z
+  by_unit (pos n) m h = let parts = int_div_euclid-parts (pos n) m h in record { low = omega (arith, signed_arith, parts.0); rest = omega (arith, signed_arith, parts.1) }
+  by_unit (negsuc n) m h = let parts = int_div_euclid-parts (negsuc n) m h in record { low = omega (arith, signed_arith, parts.0); rest = omega (arith, signed_arith, parts.1) }

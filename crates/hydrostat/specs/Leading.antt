@@ -1,6 +1,7 @@
 -- Bookkeeping: the draught along a ship is a straight line, (base - step x) / divisor; and its
 -- numbers in whole units.
-use Rattle.std.specs.Prelude.{◌^◌, ◌≤◌, ℤ, pos, neg_ℤ, unsigned_abs, ◌+ℤ◌, ◌-ℤ◌, ◌*ℤ◌, ◌≤ℤ◌, ◌<ℤ◌}
+use Rattle.std.specs.Prelude.{◌^◌, ◌≤◌, ℕ, ℤ, pos, neg_ℤ, unsigned_abs, ◌+ℤ◌, ◌-ℤ◌, ◌*ℤ◌, ◌≤ℤ◌}
+use Rattle.std.specs.Prelude.{◌<ℤ◌}
 use Rattle.hydrostat.specs.declared.particulars.Afloat.{Afloat}
 
 abbrev pub trim_top : Afloat → ℤ
@@ -20,11 +21,11 @@ pub record IsInUnits (high unit whole : ℤ) : Type 0 where
   pub low : pos 0 ≤ℤ (whole -ℤ (high *ℤ unit))
   pub rest : (whole -ℤ (high *ℤ unit)) <ℤ unit
 
--- the line's numbers in units
-pub record IsLedBy (unit base step divisor : ℤ) (a : Afloat) : Type 0 where
-  pub is_base : IsInUnits base unit (line_base a)
-  pub is_step : IsInUnits step unit (line_step a)
-  pub is_divisor : IsInUnits divisor unit (line_divisor a)
+-- the line's numbers in units of 2^shift
+pub record IsLedBy (shift : ℕ) (base step divisor : ℤ) (a : Afloat) : Type 0 where
+  pub is_base : IsInUnits base (pos (2 ^ shift)) (line_base a)
+  pub is_step : IsInUnits step (pos (2 ^ shift)) (line_step a)
+  pub is_divisor : IsInUnits divisor (pos (2 ^ shift)) (line_divisor a)
 
 -- a guess of number / divisor in parts of 2^40, at most so many parts off
 pub record IsNear (guess number divisor most : ℤ) : Type 0 where

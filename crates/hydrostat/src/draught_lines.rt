@@ -10,7 +10,7 @@ use crate::numerators::trim_top;
 use crate::particulars::Afloat;
 use crate::unit_quotients::{are_short, quotient_in_units};
 use std::num::{nearest_i64_to_f64, saturating_f64_to_i64};
-use units_core::{Mm, floor, is_rest, reciprocal_near};
+use units_core::{Mm, floor, reciprocal_near};
 
 /// The parts of a millimetre in which draughts are read along the line.
 const PARTS: i64 = 1 << 40;
@@ -21,25 +21,27 @@ const PARTS: i64 = 1 << 40;
 const MARGIN: i64 = 6_000_132;
 
 /// The draught along a ship, (base - step x) / divisor, each of base, step and divisor in 64 bits:
-/// in whole units, rounded down. The same line is kept in parts of a millimetre, about start -
-/// slope x, so that reading it takes one product and no division.
+/// in units of 2^`shift`, rounded down. Without a line the divisor is 0. The same line is kept in
+/// parts of a millimetre, about start - slope x, so that reading it takes one product and no
+/// division.
 #[derive(Clone, Copy)]
 struct Leading {
-    unit: i128,
+    shift: u32,
     base: i64,
     step: i64,
     divisor: i64,
-    /// About 2^64 over the divisor. Quotients are guessed by it, and then tested: any number would
-    /// do.
+    /// About 2^64 over the divisor. Quotients in units are guessed by it, and then tested: any
+    /// number would do.
     reciprocal: u64,
     start: i64,
     slope: i64,
-    /// Whether the numbers in units are those of a line, and so small that their products fit too.
+    /// Whether the numbers in units are so small that their products fit 64 bits.
     is_short: bool,
     /// Whether start and slope are those of a line. If they aren't, they are 0, so that no draught
     /// is sure, and it isn't asked for each draught.
     is_known: bool,
     ghost short: { is_short ≡ true → IsShort base step divisor },
+    ghost divided: { is_short ≡ true → pos 1 ≤ℤ divisor },
     ghost scaled: { is_known ≡ true → IsScaled start slope base step divisor },
     ghost idle: { is_known ≡ false → (start ≡ pos 0) × (slope ≡ pos 0) },
 }
@@ -50,31 +52,19 @@ pub struct DraughtLine {
     /// The ship.
     pub of: Afloat,
     leading: Leading,
-    ghost leads: { leading.is_known ≡ true
-        → IsLedBy leading.unit leading.base leading.step leading.divisor of },
-    ghost leads_in_units: { leading.is_short ≡ true
-        → IsLedBy leading.unit leading.base leading.step leading.divisor of },
+    ghost leads: { pos 1 ≤ℤ leading.divisor
+        → IsLedBy leading.shift leading.base leading.step leading.divisor of },
 }
 
-/// A number in whole units, rounded down; `None` where it doesn't fit 64 bits, or where the unit
-/// isn't 2^`shift`.
-fn in_units(whole: i128, unit: i128, shift: u32) -> Option<i64>
+/// A number in units of 2^`shift`, rounded down; `None` where it doesn't fit 64 bits.
+fn in_units(whole: i128, shift: u32) -> Option<i64>
     requires { shift < 128 }
-    ensures { IfSome result (λ high. IsInUnits high unit whole) }
+    ensures { IfSome result (λ high. IsInUnits high (pos (2 ^ shift)) whole) }
 {
     let Ok(high) = i64::try_from(whole >> shift) else {
         return None;
     };
-    let Some(product) = i128::from(high).checked_mul(unit) else {
-        return None;
-    };
-    let Some(rest) = whole.checked_sub(product) else {
-        return None;
-    };
-    if is_rest(rest, unit) {
-        return Some(high);
-    }
-    None
+    Some(high)
 }
 
 /// By how much the numerator of the draught falls for each mm forward.
@@ -144,8 +134,8 @@ fn is_near(guess: i64, number: i64, divisor: i64, most: i64) -> bool
 
 /// The numbers of 64 bits, with the line in parts: it is guessed in floating point and then tested.
 /// `None` where the divisor is too small, a number in parts too great, or a guess too far off.
-fn fitted(unit: i128, base: i64, step: i64, divisor: i64) -> Option<Leading>
-    ensures unit { IfSome result (λ l. l.unit ≡ unit) }
+fn fitted(shift: u32, base: i64, step: i64, divisor: i64) -> Option<Leading>
+    ensures shift { IfSome result (λ l. l.shift ≡ shift) }
     ensures base { IfSome result (λ l. l.base ≡ base) }
     ensures step { IfSome result (λ l. l.step ≡ step) }
     ensures divisor { IfSome result (λ l. l.divisor ≡ divisor) }
@@ -170,7 +160,7 @@ fn fitted(unit: i128, base: i64, step: i64, divisor: i64) -> Option<Leading>
         return None;
     }
     Some(Leading {
-        unit,
+        shift,
         base,
         step,
         divisor,
@@ -183,14 +173,14 @@ fn fitted(unit: i128, base: i64, step: i64, divisor: i64) -> Option<Leading>
 }
 
 /// The numbers of 64 bits, without a line in parts.
-fn in_units_alone(unit: i128, base: i64, step: i64, divisor: i64) -> Leading
-    ensures unit { result.unit ≡ unit }
+fn in_units_alone(shift: u32, base: i64, step: i64, divisor: i64) -> Leading
+    ensures shift { result.shift ≡ shift }
     ensures base { result.base ≡ base }
     ensures step { result.step ≡ step }
     ensures divisor { result.divisor ≡ divisor }
 {
     Leading {
-        unit,
+        shift,
         base,
         step,
         divisor,
@@ -203,44 +193,41 @@ fn in_units_alone(unit: i128, base: i64, step: i64, divisor: i64) -> Leading
 }
 
 /// The numbers of 64 bits, with the line in parts where it is found.
-fn line_of(unit: i128, base: i64, step: i64, divisor: i64) -> Leading
-    ensures unit { result.unit ≡ unit }
+fn line_of(shift: u32, base: i64, step: i64, divisor: i64) -> Leading
+    ensures shift { result.shift ≡ shift }
     ensures base { result.base ≡ base }
     ensures step { result.step ≡ step }
     ensures divisor { result.divisor ≡ divisor }
 {
-    match fitted(unit, base, step, divisor) {
+    match fitted(shift, base, step, divisor) {
         Some(leading) => leading,
-        None => in_units_alone(unit, base, step, divisor),
+        None => in_units_alone(shift, base, step, divisor),
     }
 }
 
 /// The draught along a ship in numbers of 64 bits, the divisor in about 40; `None` where they
 /// aren't enough.
 fn leading_of(a: &Afloat) -> Option<Leading>
-    ensures { IfSome result (λ l. IsLedBy l.unit l.base l.step l.divisor a.now) }
+    ensures { IfSome result (λ l. IsLedBy l.shift l.base l.step l.divisor a.now) }
 {
     let trim = trim_top(a);
     let aft = draught_by(a, trim, 0);
     let shift = 88u32.saturating_sub(aft.den.leading_zeros());
-    let unit = 1i128 << shift;
-    let base = in_units(aft.num, unit, shift)?;
-    let step = in_units(step_by(a, trim), unit, shift)?;
-    let divisor = in_units(aft.den, unit, shift)?;
-    Some(line_of(unit, base, step, divisor))
+    let base = in_units(aft.num, shift)?;
+    let step = in_units(step_by(a, trim), shift)?;
+    let divisor = in_units(aft.den, shift)?;
+    Some(line_of(shift, base, step, divisor))
 }
 
 /// The draught along a ship in numbers of 64 bits, or a line on which no draught is sure.
 fn leading_or_none(a: &Afloat) -> Leading
-    ensures known { result.is_known ≡ true
-        → IsLedBy result.unit result.base result.step result.divisor a.now }
-    ensures short { result.is_short ≡ true
-        → IsLedBy result.unit result.base result.step result.divisor a.now }
+    ensures { pos 1 ≤ℤ result.divisor
+        → IsLedBy result.shift result.base result.step result.divisor a.now }
 {
     match leading_of(a) {
         Some(leading) => leading,
         None => Leading {
-            unit: 1,
+            shift: 0,
             base: 0,
             step: 0,
             divisor: 0,
@@ -317,7 +304,7 @@ impl Leading {
     #[inline(always)]
     fn draught_in_units(&self, x: i64) -> Option<i64>
         requires { unsigned_abs x ≤ 10 ^ 6 }
-        ensures short { IfSome result (λ q. self.now.is_short ≡ true) }
+        ensures divided { IfSome result (λ q. pos 1 ≤ℤ self.now.divisor) }
         ensures sure { IfSome result
             (λ q. IsSure q (self.now.base -ℤ (self.now.step *ℤ x)) self.now.divisor) }
     {

@@ -10,7 +10,8 @@ const SLACK: i64 = 2_000_002;
 
 /// Whether the numbers of a line are so small that their products fit 64 bits too.
 pub fn are_short(base: i64, step: i64, divisor: i64) -> bool
-    ensures { result ≡ true → IsShort base step divisor }
+    ensures short { result ≡ true → IsShort base step divisor }
+    ensures positive { result ≡ true → pos 1 ≤ℤ divisor }
 {
     if base.unsigned_abs() > 1 << 61 {
         return false;

@@ -1,19 +1,19 @@
-use Rattle.std.proofs.Common.{rules, ◌≡◌, ◌∙◌, ℤ, pos, ◌-ℤ◌, ◌*ℤ◌, ◌≤ℤ◌, ◌<ℤ◌, refl, FitsSigned, to_z, of_z, to_z-of_z}
-use Rattle.std.specs.Int.{w64, w128}
+use Rattle.std.proofs.Common.{rules, ◌≡◌, ◌^◌, ℤ, ℕ, pos, FitsSigned, to_z-of_z, arith}
+use Rattle.std.specs.Int.{w64, w128, int_shr}
+use Rattle.std.specs.Int.Signed.{mag_shr}
 use Rattle.hydrostat.specs.Leading.{IsInUnits}
+use Rattle.hydrostat.proofs.Sure.{shift_is_floor}
 use Rattle.hydrostat.proofs.draught_lines.in_units.Goals as goal
 
-is_rest : (whole high unit product rest : ℤ) → product ≡ high *ℤ unit → rest ≡ whole -ℤ product → pos 0 ≤ℤ rest → rest <ℤ unit → IsInUnits high unit whole
-is_rest whole high unit product rest e f low small = record { low = rw (← e, ← f) low; rest = rw (← e, ← f) small }
+shifted : (z : ℤ) (k : ℕ) → FitsSigned w128 z → FitsSigned w128 (int_shr z k)
+shifted z k h = record { sfits = omega (arith, h.sfits, mag_shr z (2 ^ k)) }
 
-pub returns-then-is_rest : goal.returns-then-is_rest
-returns-then-is_rest c =
+is_high : (h z : ℤ) (k : ℕ) → h ≡ int_shr z k → IsInUnits h (pos (2 ^ k)) z
+is_high h z k e = rw e (shift_is_floor z k)
+
+pub returns : goal.returns
+returns c =
     let h : FitsSigned w64 c.in-Ok.high = search rules in
-    let k : FitsSigned w128 c.from.result = search rules in
-    let p : FitsSigned w128 c.in-Some.product = search rules in
-    let r : FitsSigned w128 c.in-Some-checked_sub.rest = search rules in
-    let product = simp (to_z-of_z k, to_z-of_z c.ranges.unit) at c.in-Some.ensures.1 in
-    let rest = simp (to_z-of_z c.ranges.whole, to_z-of_z p) at c.in-Some-checked_sub.ensures.1 in
-    let low = simp (to_z-of_z r) at c.if-is_rest.ensures.low refl in
-    let high = simp (to_z-of_z r, to_z-of_z c.ranges.unit) at c.if-is_rest.ensures.high refl in
-    is_rest c.args.whole (to_z w64 (of_z w64 c.in-Ok.high)) c.args.unit c.in-Some.product c.in-Some-checked_sub.rest (product ∙ (λ i. c.from.ensures i *ℤ c.args.unit)) rest low high
+    let s = shifted c.args.whole c.args.shift c.ranges.whole in
+    let e = simp (to_z-of_z c.ranges.whole, to_z-of_z s) at c.in-Ok.ensures in
+    simp (to_z-of_z h) (is_high c.in-Ok.high c.args.whole c.args.shift e.1)

@@ -14,4 +14,4 @@ returns c =
     let place = to_z-of_z x ∙ (c.from.ensures ∙ (to_z-of_z g ∙ c.get.ensures.value)) in
     let sure = subst (λ (z : ℤ). IsSure c.in-Some.draught (l.base -ℤ (l.step *ℤ z)) l.divisor) place c.in-Some.ensures.sure in
     let within : unsigned_abs c.args.x ≤ 10 ^ 6 = subst (λ (z : ℤ). unsigned_abs z ≤ 10 ^ 6) c.get.ensures.value c.get.ensures.within in
-    to_z-of_z q ∙ draught_is_sure a l.unit l.base l.step l.divisor c.args.x c.in-Some.draught (c.args.self.now.leads_in_units c.in-Some.ensures.short) within sure
+    to_z-of_z q ∙ draught_is_sure a l.shift l.base l.step l.divisor c.args.x c.in-Some.draught (c.args.self.now.leads c.in-Some.ensures.divided) within sure

@@ -1,8 +1,12 @@
-use Rattle.std.proofs.Common.{rules, ◌∙◌, ◌^◌, ◌≤◌, ℤ, ◌-ℤ◌, ◌*ℤ◌, unsigned_abs, FitsSigned, subst, to_z-of_z}
+use Rattle.std.proofs.Common.{rules, ◌∙◌, ◌^◌, ◌≤◌, ℤ, pos, ◌-ℤ◌, ◌*ℤ◌, ◌≤ℤ◌, unsigned_abs, FitsSigned, subst, to_z-of_z, arith}
 use Rattle.std.specs.Int.{w32, w64}
+use Rattle.units_core.proofs.Signed.{signed_arith}
 use Rattle.hydrostat.specs.Leading.{IsSure}
 use Rattle.hydrostat.proofs.Sure.{draught_is_sure}
 use Rattle.hydrostat.proofs.draught_lines.DraughtLine.read_in_parts.Goals as goal
+
+above_half : (d : ℤ) → pos (2 ^ 39) ≤ℤ d → pos 1 ≤ℤ d
+above_half d h = omega (arith, signed_arith, h)
 
 pub returns : goal.returns
 returns c =
@@ -14,4 +18,4 @@ returns c =
     let place = to_z-of_z x ∙ (c.from.ensures ∙ (to_z-of_z g ∙ c.get.ensures.value)) in
     let sure = subst (λ (z : ℤ). IsSure c.in-Some.draught (l.base -ℤ (l.step *ℤ z)) l.divisor) place c.in-Some.ensures.sure in
     let within : unsigned_abs c.args.x ≤ 10 ^ 6 = subst (λ (z : ℤ). unsigned_abs z ≤ 10 ^ 6) c.get.ensures.value c.get.ensures.within in
-    to_z-of_z q ∙ draught_is_sure a l.unit l.base l.step l.divisor c.args.x c.in-Some.draught (c.args.self.now.leads c.in-Some.ensures.known) within sure
+    to_z-of_z q ∙ draught_is_sure a l.shift l.base l.step l.divisor c.args.x c.in-Some.draught (c.args.self.now.leads (above_half l.divisor (l.scaled c.in-Some.ensures.known).divisor_low)) within sure
