@@ -6,19 +6,21 @@ ghost use Rattle.criteria.specs.Measures.{AreMeasures};
 
 use crate::decisions::reaches;
 use crate::measures::CurveMeasures;
-use righting::{Levers, area_over_pairs, best_from_30, greatest_number};
+use righting::{Levers, area_sums, greatest_levers};
 
 /// The measures of a curve of levers.
 pub fn measures_of(levers: &Levers) -> CurveMeasures
     ensures { (y : ℕ → Ratio) → AreOrdinates levers.now.num levers.now.den y
         → AreMeasures result y }
 {
+    let areas = area_sums(levers);
+    let peaks = greatest_levers(levers);
     CurveMeasures {
-        sum_30: area_over_pairs(levers, 0, 3),
-        sum_40: area_over_pairs(levers, 0, 4),
-        sum_30_40: area_over_pairs(levers, 6, 1),
-        best: best_from_30(levers),
-        greatest: greatest_number(levers),
+        sum_30: areas.to_30,
+        sum_40: areas.to_40,
+        sum_30_40: areas.from_30,
+        best: peaks.best,
+        greatest: peaks.greatest,
     }
 }
 

@@ -1,3 +1,4 @@
 pub mod Crossed
+pub mod Simpson
 pub mod Textbook
 pub mod Tops

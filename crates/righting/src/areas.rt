@@ -1,18 +1,33 @@
 ghost use Rattle.std.specs.Prelude.{◌+◌, ◌-◌, ◌*◌, ◌/◌, ◌%◌, ◌^◌, ◌≤◌, ◌<◌, ◌≡◌, unsigned_abs};
 ghost use Rattle.righting.specs.Levers.{DecidesArea, IsBest, IsGreatest, IsGreatestOf, IsSimpsonOf};
-ghost use Rattle.righting.specs.Sums.{pair_top};
+ghost use Rattle.righting.specs.Sums.{pair_top, simpson_top};
 
 use crate::angles::angle_at;
 use crate::ordinates::Levers;
 use units_core::{Angle, Frac};
 
 /// Simpson's sum on the two intervals from the `k`-th angle on.
-fn pair_sum(levers: &Levers, k: usize) -> i128
+#[inline(always)]
+pub fn pair_sum(levers: &Levers, k: usize) -> i128
     requires { k + 2 ≤ 12 }
     ensures value { result ≡ pair_top levers.now.num k }
     ensures size { unsigned_abs result ≤ 6 * 10 ^ 30 }
 {
     levers.num[k] + 4 * levers.num[k + 1] + levers.num[k + 2]
+}
+
+/// The numerator of Simpson's sum on `pairs` pairs of intervals from the `from`-th angle on.
+#[inline(always)]
+pub fn sum_over_pairs(levers: &Levers, from: usize, pairs: usize) -> i128
+    requires { from + 2 * pairs ≤ 12 }
+    ensures value { result ≡ simpson_top levers.now.num from pairs }
+    ensures size { unsigned_abs result ≤ pairs * (6 * 10 ^ 30) }
+{
+    let mut num = 0;
+    for p in 0..pairs {
+        num += pair_sum(levers, from + 2 * p);
+    }
+    num
 }
 
 /// Simpson's sum on `pairs` pairs of intervals from the `from`-th angle on, without its factor.
@@ -22,12 +37,8 @@ pub fn area_over_pairs(levers: &Levers, from: usize, pairs: usize) -> Frac
     ensures size { unsigned_abs result.num ≤ 10 ^ 32 }
     ensures den { unsigned_abs result.den ≤ 10 ^ 23 }
 {
-    let mut num = 0;
-    for p in 0..pairs {
-        num += pair_sum(levers, from + 2 * p);
-    }
     Frac {
-        num,
+        num: sum_over_pairs(levers, from, pairs),
         den: levers.den,
     }
 }
@@ -62,7 +73,8 @@ pub fn area_holds(sum: Frac, limit: i128) -> bool
 
 /// The angle, of those from the `from`-th up to below the `end`-th, that carries the greatest
 /// lever, the least such.
-fn greatest_in(levers: &Levers, from: usize, end: usize) -> usize
+#[inline(always)]
+pub fn greatest_in(levers: &Levers, from: usize, end: usize) -> usize
     requires some { from < end }
     requires inside { end ≤ 13 }
     ensures { IsGreatest levers.now.num from end result }

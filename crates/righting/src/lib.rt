@@ -4,6 +4,7 @@
 mod angles;
 mod areas;
 mod cross_curves;
+mod curves;
 mod heeled;
 mod ordinates;
 
@@ -12,4 +13,5 @@ pub use areas::{
     greatest_number,
 };
 pub use cross_curves::{levers_aboard, levers_of};
+pub use curves::{AreaSums, GreatestLevers, area_sums, greatest_levers};
 pub use ordinates::Levers;
