@@ -5,6 +5,7 @@ pub mod Limits
 pub mod Outcome
 pub mod Printed
 pub mod Record
+pub mod Sections
 pub mod Ship
 pub mod TableFaults
 pub mod Written

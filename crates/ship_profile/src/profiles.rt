@@ -4,14 +4,17 @@ ghost use Rattle.ship_profile.specs.Record.{texts_of, tables_in, record_of, plac
 ghost use Rattle.ship_profile.specs.Record.{tank_of, tank_body, IsSound};
 ghost use Rattle.ship_profile.specs.Ship.{extent_of, IsSoundShip};
 ghost use Rattle.ship_profile.specs.Written.{IsWritten};
+ghost use Rattle.ship_profile.specs.Sections.{AreSectionsOf};
 ghost use Rattle.ship_tables.specs.Record.{IsSound as AreTables};
 
 use crate::faults::ProfileFault;
 use crate::fills::{TankFill, fill_tanks, read_fills};
 use crate::keys::read_document;
+use crate::sections::Sections;
 use crate::ships::{Ship, extent_of, read_ship};
 use ship_tables::{Curves, Hydro, TableTexts, Tables};
 use std::alloc::Global;
+use std::fmt::{self, Debug, Formatter, Write};
 use std::marker::Model;
 use units_core::{Body, Cell, Frames, Mm, Place, same_items};
 
@@ -35,11 +38,24 @@ pub struct ProfileBytes<'a> {
 }
 
 /// A ship's profile. It stays as it was read.
-#[derive(Debug)]
 pub struct Profile {
     ship: Ship,
     tables: Tables,
     fills: Vec<TankFill>,
+    /// What the walk along her stations takes of the two above.
+    sections: Sections,
+    ghost prepared: { AreSectionsOf sections ship.stations tables.bonjean },
+}
+
+impl Debug for Profile {
+    // Written out, since what is worked out of the ship and the tables isn't shown.
+    fn fmt<W: Write>(&self, f: &mut Formatter<W>) -> Result<(), fmt::Error> {
+        f.debug_struct("Profile")
+            .field("ship", &self.ship)
+            .field("tables", &self.tables)
+            .field("fills", &self.fills)
+            .finish()
+    }
 }
 
 impl Drop for Profile {
@@ -49,6 +65,7 @@ impl Drop for Profile {
             ship: _ship,
             tables: _tables,
             fills: _fills,
+            sections: _sections,
         } = self;
     }
 }
@@ -107,10 +124,12 @@ impl Profile {
         let named = read_fills(alloc, &document)?;
         let tables = read_tables(alloc, &ship, bytes)?;
         let fills = fill_tanks(alloc, &tables, named.as_slice())?;
+        let sections = Sections::of(alloc, ship.stations.as_slice(), tables.bonjean())?;
         Ok(Profile {
             ship,
             tables,
             fills,
+            sections,
         })
     }
 
@@ -250,6 +269,15 @@ impl Profile {
         ensures sound { IsSound self.now }
     {
         self.tables.bonjean()
+    }
+
+    /// What a walk along the stations takes of them and of the immersed areas, worked out when the
+    /// profile was read.
+    pub fn sections(&self) -> &Sections
+        ensures value { AreSectionsOf result.now self.now.ship.stations self.now.tables.bonjean }
+        ensures sound { IsSound self.now }
+    {
+        &self.sections
     }
 
     /// The least metacentric height in mm, one curve over the displacement in kg; `None` for a ship

@@ -1,6 +1,6 @@
 -- The immersed areas at the stations of a ship.
-use Rattle.std.specs.Prelude.{ℕ, ℤ, pos, List, length, slice_get, Option, None, Some, option_map}
-use Rattle.std.specs.Prelude.{is_some, if◌then◌else◌}
+use Rattle.std.specs.Prelude.{◌≡◌, ℕ, ◌^◌, ◌≤◌, ℤ, pos, List, length, slice_get, Option, None, Some}
+use Rattle.std.specs.Prelude.{option_map, is_some, if◌then◌else◌, unsigned_abs}
 use Rattle.std.specs.List.{list_all, range_with_len}
 use Rattle.units_core.specs.Interpolation.{interval}
 use Rattle.units_core.specs.Ratio.{Ratio, floor_of}
@@ -22,6 +22,12 @@ area_there t draught k (Some x) = area_in t k (floor_of (draught x))
 
 abbrev pub area_at : CurveTable → (ℤ → Ratio) → List ℤ → ℕ → Option ℤ
 area_at t draught stations k = area_there t draught k (slice_get stations k)
+
+-- it is there, and is this
+pub record IsAreaAt (area : ℤ) (t : CurveTable) (draught : ℤ → Ratio) (stations : List ℤ)
+    (k : ℕ) : Type 0 where
+  pub is : area_at t draught stations k ≡ Some area
+  pub within : unsigned_abs area ≤ 10 ^ 8
 
 abbrev pub or_none : Option ℤ → ℤ
 or_none None = pos 0

@@ -1,57 +1,8 @@
-ghost use Rattle.std.specs.Prelude.{◌≡◌, ℕ, pos, ◌+ℤ◌, ◌-ℤ◌, ◌*ℤ◌, ◌+◌, ◌*◌, ◌/◌, ◌^◌, ◌<◌, ◌≤◌};
-ghost use Rattle.std.specs.Prelude.{◌≤ℤ◌, ◌<ℤ◌, true, unsigned_abs, length};
+ghost use Rattle.std.specs.Prelude.{◌≡◌, pos, ◌-ℤ◌, ◌*ℤ◌, ◌*◌, ◌/◌, ◌^◌, ◌≤◌, unsigned_abs};
 ghost use Rattle.std.specs.Int.{int_div_euclid};
-ghost use Rattle.units_core.specs.Interpolation.{at, IsWithin};
-ghost use Rattle.strength.specs.Buoyancy.{IsBuoyancy, IsMoment, arm_top, force_top, tops};
+ghost use Rattle.strength.specs.Buoyancy.{IsBuoyancy, IsMoment};
 
 use units_core::is_rest;
-
-/// Twice the volume between two stations, by their places and their areas.
-#[inline(always)]
-pub fn force_between(aft: i64, fore: i64, first: i64, second: i64) -> i64
-    requires aft { unsigned_abs aft ≤ 10 ^ 6 }
-    requires fore { unsigned_abs fore ≤ 10 ^ 6 }
-    requires first { unsigned_abs first ≤ 10 ^ 8 }
-    requires second { unsigned_abs second ≤ 10 ^ 8 }
-    ensures value { result ≡ (fore -ℤ aft) *ℤ (first +ℤ second) }
-    ensures size { unsigned_abs result ≤ 4 * 10 ^ 14 }
-{
-    (fore - aft) * (first + second)
-}
-
-/// Three times the place a third of the way from `near` to `far`.
-fn third_from(near: i64, far: i64) -> i64
-    requires near { unsigned_abs near ≤ 10 ^ 6 }
-    requires far { unsigned_abs far ≤ 10 ^ 6 }
-    ensures value { result ≡ (pos 2 *ℤ near) +ℤ far }
-    ensures within { unsigned_abs result ≤ 3 * 10 ^ 6 }
-{
-    2 * near + far
-}
-
-/// The areas of two stations, each times a place.
-#[inline(always)]
-fn weighted(aft: i64, first: i64, fore: i64, second: i64) -> i64
-    requires aft { unsigned_abs aft ≤ 10 ^ 8 }
-    requires first { unsigned_abs first ≤ 3 * 10 ^ 6 }
-    requires fore { unsigned_abs fore ≤ 10 ^ 8 }
-    requires second { unsigned_abs second ≤ 3 * 10 ^ 6 }
-    ensures value { result ≡ (aft *ℤ first) +ℤ (fore *ℤ second) }
-    ensures within { unsigned_abs result ≤ 6 * 10 ^ 14 }
-{
-    aft * first + fore * second
-}
-
-/// How far it is from one place to another.
-#[inline(always)]
-fn distance(aft: i64, fore: i64) -> i64
-    requires aft { unsigned_abs aft ≤ 10 ^ 6 }
-    requires fore { unsigned_abs fore ≤ 10 ^ 6 }
-    ensures value { result ≡ fore -ℤ aft }
-    ensures within { unsigned_abs result ≤ 2 * 10 ^ 6 }
-{
-    fore - aft
-}
 
 /// A product, which takes more than 64 bits.
 #[inline(always)]
@@ -59,23 +10,6 @@ fn product(a: i64, b: i64) -> i128
     ensures { result ≡ a *ℤ b }
 {
     i128::from(a) * i128::from(b)
-}
-
-/// Six times the moment about the after perpendicular of the volume between two stations, by their
-/// places and their areas.
-#[inline(always)]
-pub fn arm_between(aft: i64, fore: i64, first: i64, second: i64) -> i128
-    requires aft { unsigned_abs aft ≤ 10 ^ 6 }
-    requires fore { unsigned_abs fore ≤ 10 ^ 6 }
-    requires first { unsigned_abs first ≤ 10 ^ 8 }
-    requires second { unsigned_abs second ≤ 10 ^ 8 }
-    ensures value { result ≡ (fore -ℤ aft) *ℤ ((first *ℤ ((pos 2 *ℤ aft) +ℤ fore))
-        +ℤ (second *ℤ ((pos 2 *ℤ fore) +ℤ aft))) }
-    ensures size { unsigned_abs result ≤ 12 * 10 ^ 20 }
-{
-    let near = third_from(aft, fore);
-    let far = third_from(fore, aft);
-    product(distance(aft, fore), weighted(first, near, second, far))
 }
 
 /// The buoyancy in kg of twice a volume, rounded down.

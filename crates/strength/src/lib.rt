@@ -11,10 +11,10 @@ mod hull_loads;
 mod hulls;
 mod immersed;
 mod loads;
-mod quotients;
 mod rows;
 mod stations;
 mod strains;
+mod sums;
 mod walks;
 
 pub use aboard::{strains_along, strains_into};

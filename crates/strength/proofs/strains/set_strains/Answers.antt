@@ -1,4 +1,4 @@
-use Rattle.std.proofs.Common.{rules, arith, ◌≡◌, ◌∙◌, ◌-◌, ◌*◌, ◌^◌, ◌<◌, ◌≤◌, ℤ, pos, ◌≤ℤ◌, List, length, length-set, get_or, slice_get, Option, Some, ap, sym, subst, unsigned_abs, FitsSigned, to_z-of_z}
+use Rattle.std.proofs.Common.{rules, arith, ℕ, ◌≡◌, ◌∙◌, ◌-◌, ◌*◌, ◌^◌, ◌<◌, ◌≤◌, ℤ, pos, ◌≤ℤ◌, List, length, length-set, get_or, slice_get, Option, Some, ap, sym, subst, unsigned_abs, FitsSigned, to_z-of_z}
 use Rattle.std.specs.Int.{w64, w128}
 use Rattle.std.specs.Prelude.{IfSome}
 use Rattle.std.proofs.lemmas.Option.{slice_get-get_or, slice_get_past}
@@ -29,25 +29,6 @@ minus-requires-clause-one c =
     let w : FitsSigned w128 c.weight_aft.result = search rules in
     simp (to_z-of_z w) (aft_within c.weight_aft.result _ _ c.weight_aft.ensures (b.weights_low i) (b.weights_high i) c.requires.kg)
 
--- the sums of the intervals aft of a frame are among those of the walk
-pub buoyancy-requires : goal.buoyancy-requires
-buoyancy-requires c =
-    let n = c.intervals_aft-n.result in
-    let v : FitsSigned w64 (get_or c.args.walk.now.volumes n (pos 0)) = search rules in
-    record { within = simp (to_z-of_z v) (c.requires.volumes n (rw c.intervals_aft-n.ensures.value (c.requires.of.inside c.loop-i.i))) }
-
-pub buoyancy_moment-requires-clause-within : goal.buoyancy_moment-requires-clause-within
-buoyancy_moment-requires-clause-within c =
-    let n = c.intervals_aft-n.result in
-    let v : FitsSigned w64 (get_or c.args.walk.now.volumes n (pos 0)) = search rules in
-    simp (to_z-of_z v) (c.requires.volumes n (rw c.intervals_aft-n.ensures.value (c.requires.of.inside c.loop-i.i)))
-
-pub buoyancy_moment-requires-clause-arm_within : goal.buoyancy_moment-requires-clause-arm_within
-buoyancy_moment-requires-clause-arm_within c =
-    let n = c.intervals_aft-n.result in
-    let u : FitsSigned w128 (get_or c.args.walk.now.arms n (pos 0)) = search rules in
-    simp (to_z-of_z u) (c.requires.arms n (rw c.intervals_aft-n.ensures.value (c.requires.of.inside c.loop-i.i)))
-
 pub minus-requires-in-loop-i-clause-one : goal.minus-requires-in-loop-i-clause-one
 minus-requires-in-loop-i-clause-one c =
     let i = c.loop-i.i in
@@ -69,9 +50,10 @@ loop-i-preserved c =
     let here : slice_get ship.frames i ≡ Some frame = ap (λ (fs : List Frame). slice_get fs i) (sym (c.as_slice-frames.ensures.value ∙ c.frames.ensures.value)) ∙ slice_get-get_or frames i c.index-frames-i.result c.loop-i-test.true in
     let aft : n ≡ intervals_aft xs frame.x = c.intervals_aft-n.ensures.value ∙ subst (λ (o : Option Frame). IfSome o (λ f. get_or c.args.hull.now.aft i 0 ≡ intervals_aft xs f.x)) here (of.aft i) in
     let inside : n < length xs = rw c.intervals_aft-n.ensures.value (of.inside i) in
-    let low : n ≤ length xs - 1 = omega (arith, inside) in
-    let v : FitsSigned w64 (get_or c.args.walk.now.volumes n (pos 0)) = search rules in
-    let u : FitsSigned w128 (get_or c.args.walk.now.arms n (pos 0)) = search rules in
+    let st = c.stations-stations.ensures.value in
+    let zs = c.stations-stations.result.now in
+    let v : FitsSigned w64 c.volume_aft-volume.result = search rules in
+    let u : FitsSigned w128 c.arm_aft-arm.result = search rules in
     let m : FitsSigned w64 c.mm-x.result = search rules in
     let w1 : FitsSigned w128 c.weight_aft.result = search rules in
     let b1 : FitsSigned w64 c.buoyancy.result = search rules in
@@ -88,13 +70,14 @@ loop-i-preserved c =
     record {
       shear_size = simp length-set shears;
       shear_done = λ areas run.
-          let force = c.buoyancy.ensures.value (at xs) areas n (to_z-of_z v ∙ run.are_volumes n low) ∙ (λ j. floor_of (force_of (at xs) areas (aft j))) in
+          let force = c.buoyancy.ensures.value (at zs) areas n (to_z-of_z v ∙ c.volume_aft-volume.ensures.value areas (λ k low. run k (omega (arith, inside, low)))) ∙ (λ j. floor_of (force_of (at (st j)) areas (aft j))) in
           let shear_is = less_read c.weight_aft.result c.from.result c.minus.result _ _ w1 f1 r1 c.minus.ensures c.weight_aft.ensures (c.from.ensures ∙ (to_z-of_z b1 ∙ force)) ∙ ap (λ (o : Option Frame). shear_there s areas xs i o) (sym here) in
           set_done c.loop-i.strains.shear (shear_at s areas xs ship.frames) i _ less (inv.shear_done areas run) shear_is;
       shear_rest = set_rest c.loop-i.strains.shear (shear_at s (at xs) xs ship.frames) i _ less inv.shear_rest;
       bending_size = simp length-set bendings;
       bending_done = λ areas run.
-          let moment = c.buoyancy_moment.ensures.value (at xs) areas n (to_z-of_z v ∙ run.are_volumes n low) (to_z-of_z u ∙ run.are_arms n low) ∙ (λ j. floor_of (moment_of_buoyancy (at xs) areas ((to_z-of_z m ∙ c.mm-x.ensures.value) j) (aft j))) in
+          let same : (k : ℕ) → k ≤ n → at c.args.walk.now.areas k ≡ areas k = λ k low. run k (omega (arith, inside, low)) in
+          let moment = c.buoyancy_moment.ensures.value (at zs) areas n (to_z-of_z v ∙ c.volume_aft-volume.ensures.value areas same) (to_z-of_z u ∙ c.arm_aft-arm.ensures.value areas same) ∙ (λ j. floor_of (moment_of_buoyancy (at (st j)) areas ((to_z-of_z m ∙ c.mm-x.ensures.value) j) (aft j))) in
           let bending_is = less_read c.moment_aft.result c.buoyancy_moment.result c.minus-in-loop-i.result _ _ w2 b2 r2 c.minus-in-loop-i.ensures c.moment_aft.ensures moment ∙ ap (λ (o : Option Frame). bending_there s areas xs i o) (sym here) in
           set_done c.loop-i.strains.bending (bending_at s areas xs ship.frames) i _ less2 (inv.bending_done areas run) bending_is;
       bending_rest = set_rest c.loop-i.strains.bending (shear_at s (at xs) xs ship.frames) i _ less2 inv.bending_rest;
@@ -108,8 +91,12 @@ returns c =
     let are : c.as_slice-frames.result.now ≡ ship.frames = c.as_slice-frames.ensures.value ∙ c.frames.ensures.value in
     let ended : length c.as_slice-frames.result.now ≤ c.loop-i.i = omega arith in
     let all : length ship.frames ≤ c.loop-i.i = rw are at ended in
-    let n = length c.stations.result.now - 1 in
-    let v : FitsSigned w64 (get_or c.args.walk.now.volumes n (pos 0)) = search rules in
+    let zs = c.stations-stations.result.now in
+    let st = c.stations-stations.ensures.value in
+    let some = c.stations-stations.ensures.sound.ship.stations.some in
+    let n = length zs - 1 in
+    let many : length zs ≡ length ship.stations = ap (λ (xs : List ℤ). length xs) st in
+    let v : FitsSigned w64 c.volume_aft-volume-2.result = search rules in
     let b : FitsSigned w64 c.buoyancy-2.result = search rules in
     let f : FitsSigned w128 c.from-2.result = search rules in
     let k : FitsSigned w128 c.kg.result = search rules in
@@ -121,5 +108,5 @@ returns c =
       are_bending = all_places c.loop-i.strains.bending (bending_at s areas ship.stations ship.frames) c.loop-i.i (inv.bending_done areas run) inv.bending_rest
           (λ j past. let out : length ship.frames ≤ j = omega (arith, all, past) in ap (λ (o : Option Frame). bending_there s areas ship.stations j o) (slice_get_past ship.frames j out));
       is_closing = less_read c.from-2.result c.kg.result c.minus-strains.result _ _ f k r c.minus-strains.ensures
-          (c.from-2.ensures ∙ (to_z-of_z b ∙ c.buoyancy-2.ensures.value (at ship.stations) areas n (to_z-of_z v ∙ run.are_volumes n (rw c.stations.ensures.value (omega arith)))) ∙ (λ j. floor_of (force_of (at ship.stations) areas (length (c.stations.ensures.value j) - 1)))) c.kg.ensures;
+          (c.from-2.ensures ∙ (to_z-of_z b ∙ c.buoyancy-2.ensures.value (at zs) areas n (to_z-of_z v ∙ c.volume_aft-volume-2.ensures.value areas (λ j low. run j (omega (arith, low, many, some))))) ∙ (λ j. floor_of (force_of (at (st j)) areas (length (st j) - 1)))) c.kg.ensures;
     }
