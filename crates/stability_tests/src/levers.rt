@@ -4,8 +4,8 @@ use crate::checks::{same, same_row};
 use box_ship::{Check, files, on_box_ship, on_ship};
 use hydrostat::Outside;
 use righting::{
-    Levers, area_holds, area_over_pairs, area_sum, best_from_30, best_number_from_30, greatest,
-    greatest_number, levers_of,
+    Levers, area_holds, area_over_pairs, area_sum, area_sums, best_from_30, best_number_from_30,
+    greatest, greatest_levers, greatest_number, levers_of,
 };
 use ship_profile::{Profile, ProfileBytes};
 use std::process::Abort;
@@ -163,6 +163,10 @@ impl<R: Abort + AllocGlobal> Check<R> for Areas {
         // from 10 to 30 degrees: 748.112 + 4 * (1,097.086 + 1,694.292) + 2 * 1,417.880 + 1,900 =
         // 16,649.384
         same(rt, floor(area_over_pairs(&levers, 2, 2)), 16_649);
+        let sums = area_sums(&levers);
+        same(rt, floor(sums.to_30), 18_905);
+        same(rt, floor(sums.to_40), 30_533);
+        same(rt, floor(sums.from_30), 11_627);
         Ok(())
     }
 }
@@ -199,6 +203,9 @@ impl<R: Abort + AllocGlobal> Check<R> for Greatest {
         same(rt, greatest_number(&levers), 4);
         same(rt, floor(best_from_30(&levers)), 4_000);
         same(rt, best_number_from_30(&levers), 6);
+        let peaks = greatest_levers(&levers);
+        same(rt, peaks.greatest, 4);
+        same(rt, floor(peaks.best), 4_000);
         Ok(())
     }
 }

@@ -1,7 +1,8 @@
 //! What a profile gives, compared with the numbers that stand in its files. The ship is one of
 //! which no two numbers are equal, so that one in the place of another shows.
 use super::files::{check_words, seen};
-use ship_profile::{Curves, Hydro, Profile, ProfileBytes, one_array, one_profile};
+use super::profiles::with_text;
+use ship_profile::{Curves, File, Hydro, Profile, ProfileBytes, one_array, one_profile};
 use std::alloc::Global;
 use std::fmt::Debug;
 use std::process::Abort;
@@ -103,6 +104,10 @@ enum Asked {
     Hydro,
     Levers,
     Bonjean,
+    /// The areas between a row of the Bonjean table and the next, as straight lines.
+    Lines(usize),
+    /// By what the areas count.
+    Weights,
     LeastGm,
     /// Where the container of a cell stands.
     Cell(Cell),
@@ -162,6 +167,8 @@ fn shown(alloc: Global, profile: &Profile, asked: Asked) -> Result<String, Fail>
         Asked::Hydro => hydro_text(alloc, profile.hydro()),
         Asked::Levers => curves_text(alloc, profile.levers()),
         Asked::Bonjean => curves_text(alloc, profile.bonjean()),
+        Asked::Lines(row) => debug_text(alloc, profile.sections().row(row)),
+        Asked::Weights => debug_text(alloc, profile.sections().weights()),
         Asked::LeastGm => least_gm_text(alloc, profile),
         Asked::Cell(cell) => debug_text(alloc, profile.cell(cell)),
         Asked::CellNumber(cell) => debug_text(alloc, profile.cell_number(cell)),
@@ -297,5 +304,41 @@ fn profile_of_unlike_numbers(rt: HostRuntime) -> Result<(), Fail> {
     }
     one_array();
     one_profile();
+    Ok(())
+}
+
+/// A Bonjean table of three rows, in which areas fall, stay and rise.
+static BENT_BONJEAN: &[u8] = b"draught,-107,20008,51009,92010
+53,5400,5500,5600,5700
+353,5410,5300,5600,9999
+6058,59000,60000,61000,62000
+";
+
+/// The areas between two rows in 2^-36 cm2: from the lower row on, and how much they rise for each
+/// mm, rounded up, as 200 * 2^36 / 300 down and 10 * 2^36 / 300 up. None lie behind the last row.
+/// The weights are the sums of the lengths on both sides, and of the lengths times twice a place
+/// with the next one's: at 20008 mm 20115 * (40016 - 107) + 31001 * (40016 + 51009).
+static SECTIONS: [(Asked, &str); 4] = [
+    (
+        Asked::Lines(0),
+        "[AreaLine { start: 371085174374400, slope: 2290649225 }, AreaLine { start: 377957122048000, slope: -45812984490 }, AreaLine { start: 384829069721600, slope: 0 }, AreaLine { start: 391701017395200, slope: 984750101627 }]",
+    ),
+    (
+        Asked::Lines(1),
+        "[AreaLine { start: 371772369141760, slope: 645517398472 }, AreaLine { start: 364213226700800, slope: 658887883867 }, AreaLine { start: 384829069721600, slope: 667319721503 }, AreaLine { start: 687126047883264, slope: 626377127038 }]",
+    ),
+    (Asked::Lines(2), "[]"),
+    (
+        Asked::Weights,
+        "[StationWeight { volume: 20115, moment: 398156310 }, StationWeight { volume: 51116, moment: 3624635560 }, StationWeight { volume: 72002, moment: 11738270054 }]",
+    ),
+];
+
+#[test]
+fn areas_as_lines_and_weights(rt: HostRuntime) -> Result<(), Fail> {
+    let files = with_text(unlike_ship(), File::Bonjean, BENT_BONJEAN);
+    for (asked, want) in &SECTIONS {
+        check_answer(&rt, &files, *asked, want)?;
+    }
     Ok(())
 }
