@@ -49,9 +49,9 @@ fn set_areas(profile: &Profile, line: &DraughtLine, walk: &mut Walk) -> bool
 }
 
 /// Works out the loads on the hull of a ship with this aboard, in kg and kg mm, by the draughts at
-/// her stations; `false` where the draught at some station, rounded down,
-/// lies outside of the Bonjean table, and the loads may then be any. They are written where they
-/// are, since a move of them is a copy of 500 bytes.
+/// her stations; `false` where the draught at some station, rounded down, lies outside of the
+/// Bonjean table, and the loads may then be any. They are written where they are, since a move of
+/// them is a copy of 500 bytes.
 #[inline(never)]
 pub fn strains_into(
     profile: &Profile,
