@@ -5,7 +5,7 @@ ghost use Rattle.what_if.specs.Desks.{IsOf};
 use crate::desks::Publishing;
 use crate::free_calls::{Readers, are_free};
 use crate::reports::Report;
-use crate::sessions::{Editing, Kind, edit_of, inputs, list_of, with_fillings};
+use crate::sessions::{Editing, Kind, edit_of, inputs, list_of, with_fillings, with_long_list};
 use crate::texts::{FILLED_LINES, NO_STEPS, RESTOW, RESTOW_LINES, TWO_LINES, TWO_LOADS, filled};
 use crate::trials::Trial;
 use crate::watch::{Tally, watch};
@@ -208,6 +208,21 @@ fn swaps<R: AllocGlobal + Threads + Wait + Sync, W: Write>(
     )
 }
 
+/// Searches of a long list, and edits that make its room too small and too great for what they
+/// keep.
+fn long_lists<R: AllocGlobal + Threads + Wait + Sync, W: Write>(
+    rt: &R,
+    out: &mut W,
+    session: &Session,
+) -> Result<bool, RunFault> {
+    let mut long = with_long_list(rt.alloc(), session)?;
+    let tally = watch(rt, &mut Trial::Searches(&mut long));
+    let free = tally.refused == 0 && tally.wrong == 0;
+    let mut right = note_free(out, "searches of a long list", free);
+    right &= edits(rt, out, &mut long, Kind::Insert)?;
+    Ok(right & edits(rt, out, &mut long, Kind::Remove)?)
+}
+
 /// Edits of a session.
 fn sessions<R: AllocGlobal + Threads + Wait + Sync, W: Write>(
     rt: &R,
@@ -219,6 +234,7 @@ fn sessions<R: AllocGlobal + Threads + Wait + Sync, W: Write>(
     let mut longer = with_fillings(rt.alloc(), session)?;
     right &= edits(rt, out, &mut longer, Kind::Move)?;
     right &= edits(rt, out, &mut longer, Kind::MoveFilling)?;
+    right &= long_lists(rt, out, session)?;
     right &= undos(rt, out, session);
     Ok(right & swaps(rt, out, session))
 }

@@ -5,7 +5,7 @@ use arrayvec::ArrayVec;
 use box_ship::{EMPTY_PLAN, files};
 use lift_sequence::Op;
 use seq_report::{Inputs, RunFault};
-use std::alloc::Global;
+use std::alloc::{AllocError, Global};
 use std::sync::Arc;
 use step_edits::{Edit, EditFault, copies};
 use units_core::Kg;
@@ -63,6 +63,50 @@ pub fn with_fillings(alloc: Global, session: &Session) -> Result<Session, RunFau
         Ok(session) => Ok(session),
         Err(_) => Err(RunFault::NoMemory),
     }
+}
+
+/// How many steps a long list has: just so many that a search keeps what it found to pass.
+const LONG: u32 = 2_000;
+
+/// The steps of a long list: fillings of a tank, and at the end a step of another list.
+fn long_list(alloc: Global, last: &Op) -> Result<Vec<Op>, AllocError> {
+    let mut list = Vec::new(alloc);
+    for kg in 1..LONG {
+        list.push(filling(kg))?;
+    }
+    list.push(last.copy())?;
+    Ok(list)
+}
+
+/// A session on a long list, whose last step is the first of another session's.
+pub fn with_long_list(alloc: Global, session: &Session) -> Result<Session, RunFault> {
+    let Some(last) = session.lifts().first() else {
+        return Err(RunFault::NoMemory);
+    };
+    let Ok(list) = long_list(alloc, last) else {
+        return Err(RunFault::NoMemory);
+    };
+    let Ok(base) = Arc::try_clone(session.base()) else {
+        return Err(RunFault::NoMemory);
+    };
+    match Session::new(alloc, base, list) {
+        Ok(session) => Ok(session),
+        Err(_) => Err(RunFault::NoMemory),
+    }
+}
+
+/// Asks which step of a long list fails first, once more after its last step was given another
+/// weight, and once more after that was taken back: none of it asks for memory.
+pub fn searches(session: &mut Session) -> Told {
+    let mut right = session.first_fail().is_none();
+    right &= match Kg::new(20_501) {
+        Some(kg) => session.apply(Edit::Reweigh { at: LONG, kg }).is_ok(),
+        None => false,
+    };
+    right &= session.first_fail().is_none();
+    right &= session.undo() == Ok(true);
+    right &= session.first_fail().is_none();
+    if right { Told::Right } else { Told::Wrong }
 }
 
 /// The edit.

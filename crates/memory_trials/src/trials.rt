@@ -3,7 +3,7 @@
 use crate::desks::Publishing;
 use crate::free_calls::Readers;
 use crate::reports::{Report, stop_early};
-use crate::sessions::{Editing, read, sixty_four_undos, swaps};
+use crate::sessions::{Editing, read, searches, sixty_four_undos, swaps};
 use crate::wrong_bodies::{LeavesHalf, retry, swallow};
 use std::alloc::Global;
 use std::sync::Wait;
@@ -32,6 +32,7 @@ pub enum Trial<'a> {
     Undo(Editing<'a>),
     SixtyFourUndos(&'a mut Session),
     Swaps(&'a mut Session),
+    Searches(&'a mut Session),
     Publish(Publishing<'a>),
     Open(Publishing<'a>),
     Readers(Readers<'a>),
@@ -52,6 +53,7 @@ impl<'a> Trial<'a> {
             Trial::Undo(of) => of.undo(),
             Trial::SixtyFourUndos(session) => sixty_four_undos(session),
             Trial::Swaps(session) => swaps(session),
+            Trial::Searches(session) => searches(session),
             Trial::Publish(of) => of.publish(rt),
             Trial::Open(of) => of.open(),
             Trial::Readers(of) => of.call(),

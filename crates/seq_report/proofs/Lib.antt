@@ -4,6 +4,7 @@ pub mod FirstLemmas
 pub mod LawLemmas
 pub mod OffsetLemmas
 pub mod PartLemmas
+pub mod PassedLemmas
 pub mod PlanLemmas
 pub mod RunLemmas
 pub mod SumLemmas

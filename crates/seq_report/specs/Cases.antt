@@ -25,7 +25,8 @@ use Rattle.run_inputs.specs.declared.inputs.Inputs.{Inputs}
 use Rattle.run_inputs.specs.Inputs.{items_in, orders_in, ship_in}
 use Rattle.run_inputs.specs.Readings.{HasArrived}
 use Rattle.seq_report.specs.Refusal.{Outcome, outcome_from, outcome_of, outcome_on}
-use Rattle.seq_report.specs.Report.{Line, line_at, lines_of, sum_at}
+use Rattle.criteria.specs.declared.criterion.Criterion.{Criterion}
+use Rattle.seq_report.specs.Report.{Line, failure_of, line_at, lines_of, sum_at}
 
 abbrev pub case_on : ProfileRecord → ArrivalRecord → SequenceRecord → Case
 case_on profile arrival sequence =
@@ -51,6 +52,15 @@ first_step_in case ends c = step_of_first (map (line_in case) (chunk_of ends c))
 -- the least step that fails in any chunk
 abbrev pub IsFirstStep : Case → List ℕ → ℕ → Type 0
 IsFirstStep case ends least = IsLeastFound (Some least) (first_step_in case ends) (length ends)
+
+-- the first n lines pass
+abbrev pub ArePassed : Case → ℕ → Type 0
+ArePassed case n = (k : ℕ) → k < n → failure_of (line_in case k).step ≡ None
+
+-- how many of so many lines pass before the first that fails
+abbrev pub passed_before : Option (ℕ × Criterion) → ℕ → ℕ
+passed_before None lines = lines
+passed_before (Some first) lines = first.0
 
 -- the sum at line k
 abbrev pub sum_in : Case → ℕ → Sum

@@ -1,8 +1,11 @@
-ghost use Rattle.std.specs.Prelude.{◌≡◌, ℕ, ◌≤◌, length, false, true, IfOk, IfErr, Ok, Err};
+ghost use Rattle.std.specs.Prelude.{◌≡◌, ℕ, ◌+◌, ◌≤◌, length, false, true, IfOk, IfErr, Ok, Err};
 ghost use Rattle.prefix_scan.specs.declared.divisions.CutFault.{CutFault as CutFaultValue};
 ghost use Rattle.run_inputs.specs.Readings.{HasArrived, IsMade};
-ghost use Rattle.seq_report.specs.Cases.{IsArrivalTotal, IsFirstStep, IsReady, case_on, outcome_in};
-ghost use Rattle.seq_report.specs.Cases.{case_in_view};
+ghost use Rattle.prefix_scan.specs.Laws.{most_parts};
+ghost use Rattle.moment_sums.specs.Kept.{size_of, values};
+ghost use Rattle.seq_report.specs.Cases.{ArePassed, IsArrivalTotal, IsFirstStep, IsReady, case_on};
+ghost use Rattle.seq_report.specs.Cases.{case_in_view, outcome_in, sum_in};
+ghost use Rattle.seq_report.specs.Chunks.{parts_behind};
 ghost use Rattle.seq_report.specs.Plans.{Fits, IsPlanFault};
 ghost use Rattle.run_inputs.specs.Refusals.{TellsMemory, is_refusal, is_write};
 ghost use Rattle.seq_report.specs.Refusal.{Outcome, outcome_of};
@@ -132,4 +135,49 @@ fn first_of_case(case: CaseView<'_>, total: &Totals) -> Option<(u32, Criterion)>
         first: *total,
     };
     first_failing(case, &Hull::new(case.profile), &whole)
+}
+
+/// As [`first_fail_from`], for whoever knows that all lines before the line `start` pass, and has
+/// everything that is aboard there added up: only the lines from there on are looked at.
+pub fn first_fail_behind(
+    profile: &Profile,
+    arrival: &Arrival,
+    sequence: &Sequence,
+    start: u32,
+    sum: &Totals,
+) -> Option<(u32, Criterion)>
+    requires arrived { HasArrived profile.now arrival.now }
+    requires made { IsMade profile.now arrival.now sequence.now }
+    requires inside { start ≤ length sequence.now.ops }
+    requires sum { values sum.now ≡ sum_in (case_on profile.now arrival.now sequence.now) start }
+    requires room { size_of sum.now + parts_behind sequence.now.steps start ≤ most_parts }
+    requires passed { ArePassed (case_on profile.now arrival.now sequence.now) start }
+    ensures { result ≡ (outcome_in (case_on profile.now arrival.now sequence.now)).summary.first }
+{
+    items_are_light(arrival.items());
+    ops_are_light(sequence.ops());
+    let case = CaseView {
+        profile,
+        arrival,
+        sequence,
+    };
+    first_of_rest(case, start, sum)
+}
+
+/// The first step that fails of a case that is ready for a report, with its first criterion, where
+/// all lines before `start` pass.
+fn first_of_rest(case: CaseView<'_>, start: u32, sum: &Totals) -> Option<(u32, Criterion)>
+    requires ready { IsReady (case_in_view case) }
+    requires inside { start ≤ length case.sequence.now.ops }
+    requires sum { values sum.now ≡ sum_in (case_in_view case) start }
+    requires room { size_of sum.now + parts_behind case.sequence.now.steps start ≤ most_parts }
+    requires passed { ArePassed (case_in_view case) start }
+    ensures { result ≡ (outcome_in (case_in_view case.entry)).summary.first }
+{
+    let rest = Chunk {
+        start,
+        end: case.lines(),
+        first: *sum,
+    };
+    first_failing(case, &Hull::new(case.profile), &rest)
 }

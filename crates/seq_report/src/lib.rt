@@ -26,7 +26,7 @@ pub use cases::{Case, case_of};
 pub use chunks::{arrival_total, joined_to_arrival};
 pub use complete::Summary;
 pub use criteria::Criterion;
-pub use failures::{first_fail, first_fail_from};
+pub use failures::{first_fail, first_fail_behind, first_fail_from};
 pub use laws::sums_are_folds;
 pub use lines::write_last_line;
 pub use plans::{CutPlan, Options, cuts_of};

@@ -15,6 +15,7 @@ mod bases;
 mod desks;
 mod edits;
 mod reports;
+mod searches;
 
 /// The heading of a report.
 const HEADER: &str =

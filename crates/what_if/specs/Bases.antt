@@ -1,6 +1,6 @@
 -- A ship and what is aboard of her on arrival, from which lists of steps go on, and the sums and
 -- verdicts of a list from there.
-use Rattle.std.specs.Prelude.{ℕ, ◌^◌, ◌<◌, ◌≤◌, List, length, map, Option, MatchOption}
+use Rattle.std.specs.Prelude.{◌≡◌, ℕ, ◌^◌, ◌<◌, ◌≤◌, List, length, map, Option, None, MatchOption}
 use Rattle.std.specs.List.{AllByRecursion}
 use Rattle.stow_messages.specs.declared.items.Item.{Item}
 use Rattle.units_core.specs.declared.frames.Frame.{Frame}
@@ -20,7 +20,7 @@ use Rattle.criteria.specs.declared.verdicts.Verdict.{Verdict}
 use Rattle.run_inputs.specs.Readings.{HasArrived}
 use Rattle.seq_report.specs.Cases.{IsArrivalTotal}
 use Rattle.seq_report.specs.Refusal.{Outcome, outcome_on}
-use Rattle.seq_report.specs.Report.{lines_of, sum_at}
+use Rattle.seq_report.specs.Report.{failure_of, lines_of, step_line, sum_at}
 
 -- a ship and her condition on arrival
 pub record Base : Type 0 where
@@ -64,3 +64,8 @@ abbrev pub IsJudgedAt : Option Verdict → Base → List Op → ℕ → Type 0
 IsJudgedAt result base ops k =
     MatchOption result (length ops < k)
     (λ verdict. (k ≤ length ops) × IsVerdict verdict base.ship.ship (assessment_at base ops k))
+
+-- the first n conditions pass, the first being the one on arrival
+abbrev pub Pass : Base → List Op → ℕ → Type 0
+Pass base ops n = (k : ℕ) → k < n
+    → failure_of (step_line base.ship k (sum_at base.ship (aboard_first base) ops k)) ≡ None

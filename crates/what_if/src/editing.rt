@@ -9,6 +9,7 @@ ghost use Rattle.what_if.specs.Bases.{list_fault};
 ghost use Rattle.what_if.specs.Sessions.{IsSummed, refusal, restows_behind, CostsLittle};
 
 use crate::fours::Fours;
+use crate::passing::{move_into, other_room};
 use crate::renewing::{renew, renew_both};
 use crate::summed_lists::SummedList;
 use lift_sequence::{SeqCode, SeqFault, Sequence};
@@ -207,8 +208,12 @@ impl SummedList {
         ensures joins { self.new.joins ≡ self.old.joins }
     {
         let (sequence, sums) = self.rearranged(edit)?;
+        let Ok(room) = other_room(self.passed.get_mut(), self.alloc, sequence.len()) else {
+            return Err(EditFault::NoMemory);
+        };
         self.sequence = sequence;
         self.sums = sums;
+        move_into(self.passed.get_mut(), room);
         Ok(())
     }
 }

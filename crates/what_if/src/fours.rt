@@ -192,7 +192,7 @@ impl Fours {
     }
 
     /// As [`Fours::prefix`], for whoever has the sums only to read; its joins aren't counted.
-    fn peek(&self, sequence: &Sequence, frames: &Frames, k: usize) -> Totals
+    pub fn peek(&self, sequence: &Sequence, frames: &Frames, k: usize) -> Totals
         requires steps { length sequence.now.steps ≡ length sequence.now.ops }
         requires few { length sequence.now.ops ≤ 120000 }
         requires within { k ≤ length sequence.now.ops }

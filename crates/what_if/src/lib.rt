@@ -12,6 +12,7 @@ mod bases;
 mod desks;
 mod editing;
 mod fours;
+mod passing;
 mod renewing;
 mod sessions;
 mod summed_lists;

@@ -8,10 +8,11 @@ ghost use Rattle.lift_sequence.specs.Arrival.{TellsAt};
 ghost use Rattle.seq_report.specs.Chunks.{AreFirstSums};
 ghost use Rattle.seq_report.specs.Plans.{Fits, IsPlanFault};
 ghost use Rattle.run_inputs.specs.Refusals.{TellsMemory, is_refusal, is_write, is_write_fault};
-ghost use Rattle.what_if.specs.Bases.{IsJudgedAt, list_fault, report_on, steps_on};
+ghost use Rattle.what_if.specs.Bases.{IsJudgedAt, Pass, list_fault, report_on, steps_on};
 
 use crate::bases::Ground;
 use crate::fours::Fours;
+use crate::passing::{Passed, keep, passing_before, passing_on};
 use claim_run::Gate;
 use criteria::{Verdict, judge};
 use lift_sequence::{Op, SeqCode, SeqFault, Sequence};
@@ -21,7 +22,7 @@ use run_inputs::ops_are_light;
 use seq_report::{Criterion, Options, RunFault, Sink, Summary, cuts_of, joined_to_arrival};
 use std::alloc::{AllocError, Global};
 use std::marker::Model;
-use std::sync::{Arc, Wait};
+use std::sync::{Arc, Mutex, Wait};
 use std::thread::Threads;
 
 /// Out of memory, for a sequence.
@@ -38,6 +39,9 @@ pub struct SummedList {
     pub(crate) sequence: Sequence,
     /// What the steps change, added up.
     pub(crate) sums: Fours,
+    /// What searches for the first condition that fails found to pass. It is of a list as it was
+    /// then, and no part of what the list is.
+    pub(crate) passed: Mutex<Option<Passed>>,
     pub(crate) alloc: Global,
 }
 
@@ -89,10 +93,12 @@ impl SummedList {
     {
         ops_are_light(sequence.ops());
         let sums = Fours::of(alloc, &base, &sequence)?;
+        let passed = Passed::nothing(alloc, &base, sequence.len())?;
         Ok(SummedList {
             base,
             sequence,
             sums,
+            passed: Mutex::new(Some(passed)),
             alloc,
         })
     }
@@ -132,11 +138,45 @@ impl SummedList {
         Some(judge(self.base.profile(), &sum))
     }
 
-    /// The first step that fails, with its first criterion.
+    /// The first step that fails, with its first criterion. A list of 2,000 steps or more keeps
+    /// which first conditions a search found to pass. As far as its steps are still the same, the
+    /// next search leaves these out, if they are 2,000 or more, and no other thread searches
+    /// meanwhile.
     pub fn first_fail(&self) -> Option<(u32, Criterion)>
         ensures { result ≡ (report_on self.now.base self.now.ops).summary.first }
     {
-        self.base.first_fail(&self.sequence)
+        match self.passed.try_lock() {
+            Some(mut kept) => self.first_fail_kept(&mut kept),
+            None => self.base.first_fail(&self.sequence),
+        }
+    }
+
+    /// The same by what is kept of an earlier search. What this one finds is then kept.
+    fn first_fail_kept(&self, kept: &mut Option<Passed>) -> Option<(u32, Criterion)>
+        ensures { result ≡ (report_on self.now.base self.now.ops).summary.first }
+    {
+        let start = passing_on(kept, &self.base, self.sequence.ops());
+        let first = self.first_fail_from(start);
+        let passing = passing_before(first, self.sequence.len() + 1);
+        if passing > start {
+            keep(kept, &self.base, self.sequence.ops(), passing);
+        }
+        first
+    }
+
+    /// The same where so many conditions are known to pass.
+    fn first_fail_from(&self, passing: usize) -> Option<(u32, Criterion)>
+        requires { Pass self.now.base self.now.ops passing }
+        ensures { result ≡ (report_on self.now.base self.now.ops).summary.first }
+    {
+        if passing > self.sequence.len() {
+            return None;
+        }
+        let frames = self.base.profile().frames();
+        let change = self.sums.peek(&self.sequence, frames, passing);
+        let sum = self.base.total().join(&change);
+        self.base
+            .first_fail_behind(&self.sequence, passing as u32, &sum)
     }
 
     /// The sum at the first line of each chunk of the report.

@@ -1,7 +1,5 @@
-use Rattle.std.proofs.Common.{◌≡◌, ◌∙◌, ◌+◌, ◌<◌, ◌≤◌, List, length, map, sym, ap, subst, arith}
-use Rattle.prefix_scan.specs.Folds.{prefix}
-use Rattle.moment_sums.specs.Kept.{Kept, both_kept, none_kept, size_of}
-use Rattle.what_if.specs.Bases.{change_of}
+use Rattle.std.proofs.Common.{◌<◌, length, ap, arith}
+use Rattle.moment_sums.specs.Kept.{size_of}
 use Rattle.what_if.proofs.ChangeLemmas.{one_more, prefix_size, step_size}
 use Rattle.what_if.proofs.fours.add_single.Goals as goal
 

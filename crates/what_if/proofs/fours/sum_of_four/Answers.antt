@@ -1,4 +1,4 @@
-use Rattle.std.proofs.Common.{suc, ◌+◌, ◌*◌, length, arith}
+use Rattle.std.proofs.Common.{suc, ◌*◌, arith}
 use Rattle.what_if.proofs.ChangeLemmas.{added_size, four_is, step_at, step_size}
 use Rattle.what_if.proofs.fours.sum_of_four.Goals as goal
 

@@ -1,7 +1,7 @@
-use Rattle.std.proofs.Common.{◌≡◌, ◌∙◌, ◌≤◌, ◌<◌, ◌+◌, ◌*◌, ◌/◌, ◌^◌, List, length, map, drop, get_or, true, false, sym, ap, subst, arith}
+use Rattle.std.proofs.Common.{◌≡◌, ◌∙◌, ◌≤◌, ◌<◌, ◌+◌, ◌*◌, ◌/◌, List, length, map, drop, get_or, sym, ap, subst, arith}
 use Rattle.std.specs.Prelude.{if◌then◌else◌}
 use Rattle.std.proofs.lemmas.List.{length-map}
-use Rattle.lift_sequence.specs.Follow.{loaded_at, moves, moves_in}
+use Rattle.lift_sequence.specs.Follow.{loaded_at, moves_in}
 use Rattle.moment_sums.specs.Kept.{Kept, none_kept}
 use Rattle.what_if.specs.Bases.{change_of}
 use Rattle.what_if.specs.Changes.{AreMixed, AreOfFour, fours}

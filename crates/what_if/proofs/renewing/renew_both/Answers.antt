@@ -1,11 +1,10 @@
 use Rattle.std.proofs.Common.{◌≡◌, ◌∙◌, ◌<◌, ◌/◌, List, length, map, ap, sym, subst, get_or}
 use Rattle.std.proofs.lemmas.List.{length-map}
-use Rattle.std.proofs.lemmas.List.Edits.{length-swap}
 use Rattle.moment_sums.specs.Kept.{Kept, none_kept}
 use Rattle.what_if.specs.Bases.{change_of}
 use Rattle.what_if.specs.Changes.{AreOfFour, fours}
 use Rattle.what_if.proofs.ChangeLemmas.{small}
-use Rattle.what_if.proofs.FourLemmas.{length-fours, of_four}
+use Rattle.what_if.proofs.FourLemmas.{of_four}
 use Rattle.what_if.proofs.RenewLemmas.{set_long, set_small}
 use Rattle.what_if.proofs.SwapLemmas.{both_set, were_long}
 use Rattle.what_if.proofs.renewing.renew_both.Goals as goal

@@ -1,10 +1,9 @@
-use Rattle.std.proofs.Common.{◌≡◌, ◌∙◌, ◌+◌, ◌*◌, ◌/◌, ◌^◌, ◌<◌, ◌≤◌, ℕ, List, length, map, sym, ap, arith, subst}
+use Rattle.std.proofs.Common.{◌∙◌, ◌/◌, List, length, map, ap, arith}
 use Rattle.std.proofs.lemmas.List.{length-map}
 use Rattle.prefix_scan.specs.Counted.{Counted}
 use Rattle.prefix_scan.specs.Folds.{prefix}
 use Rattle.moment_sums.specs.Kept.{Kept, both_kept, none_kept}
 use Rattle.what_if.specs.Bases.{change_of}
-use Rattle.what_if.specs.Changes.{fours}
 use Rattle.what_if.proofs.ChangeLemmas.{sizes_few}
 use Rattle.what_if.proofs.FourLemmas.{fours-prefix, length-fours, prefix_cost}
 use Rattle.what_if.proofs.fours.Fours.prefix.Goals as goal

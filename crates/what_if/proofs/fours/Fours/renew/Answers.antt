@@ -1,12 +1,12 @@
-use Rattle.std.proofs.Common.{◌≡◌, ◌∙◌, ◌+◌, ◌*◌, ◌/◌, ◌^◌, ◌<◌, ◌≤◌, ◌++◌, ℕ, List, length, map, take, drop, get_or, sum_by, refl, sym, ap, arith, subst}
-use Rattle.std.proofs.lemmas.List.{get_or-drop, length-map}
+use Rattle.std.proofs.Common.{◌∙◌, ◌+◌, ◌≤◌, ◌++◌, List, length, map, take, drop, get_or, sym, ap, arith, subst}
+use Rattle.std.proofs.lemmas.List.{get_or-drop}
 use Rattle.prefix_scan.specs.Counted.{Counted}
 use Rattle.prefix_scan.proofs.StretchLemmas.{length-with, with_before, with_behind, with_inside}
 use Rattle.moment_sums.specs.Kept.{Kept, both_kept, none_kept, size_of}
 use Rattle.what_if.specs.Bases.{change_of}
 use Rattle.what_if.specs.Changes.{AreOfFour, fours}
 use Rattle.what_if.proofs.ChangeLemmas.{small}
-use Rattle.what_if.proofs.FourLemmas.{length-fours, of_four, of_four_at, of_four_sum}
+use Rattle.what_if.proofs.FourLemmas.{of_four, of_four_at, of_four_sum}
 use Rattle.what_if.proofs.MoveLemmas.{of_four_append, of_four_drop, of_four_from, of_four_take}
 use Rattle.what_if.proofs.fours.Fours.renew.Goals as goal
 

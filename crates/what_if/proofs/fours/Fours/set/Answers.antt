@@ -1,11 +1,11 @@
-use Rattle.std.proofs.Common.{◌≡◌, ◌∙◌, ◌+◌, ◌-◌, ◌*◌, ◌/◌, ◌^◌, ◌<◌, ◌≤◌, ℕ, List, length, map, set, get_or, sum_by, sym, ap, arith, subst}
-use Rattle.std.proofs.lemmas.List.{length-map, length-set, set_past}
+use Rattle.std.proofs.Common.{◌∙◌, ◌-◌, ◌/◌, ◌^◌, ◌≤◌, List, length, map, set, get_or, sum_by, sym, ap, arith, subst}
+use Rattle.std.proofs.lemmas.List.{length-set}
 use Rattle.prefix_scan.specs.Counted.{Counted}
 use Rattle.moment_sums.specs.Kept.{Kept, none_kept, size_of}
 use Rattle.what_if.specs.Bases.{change_of}
 use Rattle.what_if.specs.Changes.{AreOfFour, fours}
 use Rattle.what_if.proofs.ChangeLemmas.{small}
-use Rattle.what_if.proofs.FourLemmas.{length-fours, of_four, of_four_at, of_four_set, of_four_sum, quarter}
+use Rattle.what_if.proofs.FourLemmas.{of_four, of_four_at, of_four_set, of_four_sum, quarter}
 use Rattle.what_if.proofs.fours.Fours.set.Goals as goal
 
 pub set-requires-clause-sizes : goal.set-requires-clause-sizes

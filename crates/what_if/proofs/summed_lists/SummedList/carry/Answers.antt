@@ -1,4 +1,4 @@
-use Rattle.std.proofs.Common.{◌≡◌, ◌+◌, ◌/◌, ◌≤◌, length, ap, arith, inl, inr, lt_of_not-le}
+use Rattle.std.proofs.Common.{◌≡◌, ◌+◌, ◌/◌, length, ap, arith, inl, inr, lt_of_not-le}
 use mathlib.Core.Logic.{dite}
 use native.Mathlib.Decide.{dec_le}
 use Rattle.what_if.specs.Sessions.{Summed}

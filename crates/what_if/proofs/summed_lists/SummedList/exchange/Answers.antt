@@ -6,7 +6,6 @@ use Rattle.ship_profile.specs.Record.{ProfileRecord}
 use Rattle.lift_sequence.specs.declared.operations.Op.{Op}
 use Rattle.lift_sequence.proofs.States.{as_many}
 use Rattle.bounded_sums.specs.Laws.{IsLight}
-use Rattle.moment_sums.specs.Kept.{Kept}
 use Rattle.what_if.specs.Bases.{Base, aboard_first, change_of}
 use Rattle.what_if.specs.Sessions.{IsSummed, Summed}
 use Rattle.what_if.specs.Changes.{WereExchanged, fours}

@@ -1,0 +1,173 @@
+//! The first step that fails of a long list, after one edit and another. A session keeps what a
+//! search found to pass, so each answer is compared with that of a session that was just made of
+//! the same list.
+use super::session;
+use crate::checks::same;
+use arrayvec::ArrayVec;
+use box_ship::NO_MOVES;
+use criteria::Criterion;
+use lift_sequence::Op;
+use std::alloc::{AllocError, Global};
+use std::process::Abort;
+use std::sync::{Arc, Wait};
+use std::test::Fail;
+use std::thread;
+use std::thread::Threads;
+use step_edits::copies;
+use stow_messages::{Item, Lift};
+use units_core::{Cell, Kg};
+use what_if::{Edit, Session};
+
+/// A cell on deck, 8 m to starboard.
+const STARBOARD: Cell = Cell {
+    bay: 3,
+    row: 7,
+    tier: 82,
+};
+
+/// A mass by which the ship lists beyond her limit there, a tangent of 0.05: 20.5 t make 0.0046.
+const HEAVY: u32 = 999_999;
+
+/// This mass in kg.
+fn mass(kg: u32) -> Kg {
+    let Some(mass) = Kg::new(kg.min(Kg::MAX)) else {
+        unreachable!()
+    };
+    mass
+}
+
+/// A container comes aboard to starboard.
+fn load(kg: u32) -> Op {
+    Op::Lift(Lift::Load(Item {
+        cell: STARBOARD,
+        id: ArrayVec::new(),
+        kg: mass(kg),
+    }))
+}
+
+/// It goes ashore.
+fn discharge() -> Op {
+    Op::Lift(Lift::Discharge {
+        cell: STARBOARD,
+        id: ArrayVec::new(),
+    })
+}
+
+/// So many containers of 1 t come aboard and go ashore in turn.
+fn turns(alloc: Global, count: u32) -> Result<Vec<Op>, AllocError> {
+    let mut list = Vec::new(alloc);
+    for _ in 0..count {
+        list.push(load(1_000))?;
+        list.push(discharge())?;
+    }
+    Ok(list)
+}
+
+/// A session on a list, from the base of another.
+fn session_on(
+    rt: &impl Abort,
+    alloc: Global,
+    other: &Session,
+    list: Vec<Op>,
+) -> Result<Session, Fail> {
+    let base = Arc::try_clone(other.base())?;
+    let made = Session::new(alloc, base, list);
+    assert!(rt; made.is_ok());
+    match made {
+        Ok(session) => Ok(session),
+        Err(_) => unreachable!(),
+    }
+}
+
+/// The step of a failure.
+fn step_of(first: Option<(u32, Criterion)>) -> Option<u32> {
+    match first {
+        Some((step, _)) => Some(step),
+        None => None,
+    }
+}
+
+/// The step that fails first, which a session that is made of the same list says too, with the same
+/// criterion.
+fn check_first(
+    rt: &(impl Abort + AllocGlobal),
+    session: &Session,
+    step: Option<u32>,
+) -> Result<(), Fail> {
+    let list = copies(rt.alloc(), session.lifts())?;
+    let fresh = session_on(rt, rt.alloc(), session, list)?;
+    let first = session.first_fail();
+    same(rt, first, fresh.first_fail());
+    same(rt, step_of(first), step);
+    Ok(())
+}
+
+/// A load is given another weight, and then this step fails first.
+fn check_reweighed(
+    rt: &(impl Abort + AllocGlobal),
+    session: &mut Session,
+    at: u32,
+    kg: u32,
+    step: Option<u32>,
+) -> Result<(), Fail> {
+    let edit = Edit::Reweigh { at, kg: mass(kg) };
+    same(rt, session.apply(edit), Ok(()));
+    check_first(rt, session, step)
+}
+
+/// The last edit is taken back, and then this step fails first.
+fn check_undone(
+    rt: &(impl Abort + AllocGlobal),
+    session: &mut Session,
+    step: Option<u32>,
+) -> Result<(), Fail> {
+    same(rt, session.undo(), Ok(true));
+    check_first(rt, session, step)
+}
+
+/// Edits of a list of 3,000 steps, near its end and near its head.
+fn edited(rt: &(impl Abort + AllocGlobal), session: &mut Session) -> Result<(), Fail> {
+    check_first(rt, session, None)?;
+    check_reweighed(rt, session, 2_801, HEAVY, Some(2_801))?;
+    check_reweighed(rt, session, 2_301, HEAVY, Some(2_301))?;
+    check_reweighed(rt, session, 2_301, 2_000, Some(2_801))?;
+    check_reweighed(rt, session, 301, HEAVY, Some(301))?;
+    check_undone(rt, session, Some(2_801))?;
+    check_undone(rt, session, Some(2_301))?;
+    check_undone(rt, session, Some(2_801))?;
+    check_undone(rt, session, None)?;
+    let insert = Edit::Insert {
+        at: 3_001,
+        lift: load(HEAVY),
+    };
+    same(rt, session.apply(insert), Ok(()));
+    check_first(rt, session, Some(3_001))?;
+    check_undone(rt, session, None)
+}
+
+/// Two threads ask at once what fails first, twenty times. One of them may find that the other has
+/// what is kept, and goes through the whole list.
+fn check_by_two(rt: &(impl Abort + Threads + Wait + Sync), session: &Session, step: Option<u32>) {
+    for _ in 0..20 {
+        let (one, other) = thread::join(rt, || session.first_fail(), || session.first_fail());
+        same(rt, step_of(one), step);
+        same(rt, step_of(other), step);
+    }
+}
+
+#[test]
+fn searched_by_two(rt: HostRuntime) -> Result<(), Fail> {
+    let read = session(rt.alloc(), NO_MOVES)?;
+    let mut long = session_on(&rt, rt.alloc(), &read, turns(rt.alloc(), 1_500)?)?;
+    check_by_two(&rt, &long, None);
+    check_reweighed(&rt, &mut long, 2_801, HEAVY, Some(2_801))?;
+    check_by_two(&rt, &long, Some(2_801));
+    Ok(())
+}
+
+#[test]
+fn searched_again(rt: HostRuntime) -> Result<(), Fail> {
+    let read = session(rt.alloc(), NO_MOVES)?;
+    let mut long = session_on(&rt, rt.alloc(), &read, turns(rt.alloc(), 1_500)?)?;
+    edited(&rt, &mut long)
+}
