@@ -31,6 +31,13 @@ can_be_done ship at ops legal = by (nat_lt 120000 (length ops)) refl legal where
   by true e h = absurd (none-some (fault_at 120001 TooManySteps) (sym h))
   by false e h = record { few = let not = ltb-false 120000 (length ops) e in omega (arith, not); each = h }
 
+-- a sequence that was made has few steps
+pub few_steps : (ship : ProfileRecord) (arrival : ArrivalRecord) (sequence : SequenceRecord) → IsMade ship arrival sequence → length sequence.steps ≤ 120000
+few_steps ship arrival sequence made =
+    let can = can_be_done ship (cargo_on arrival) sequence.ops made.legal in
+    let long : length sequence.steps ≡ length sequence.ops = ap (λ steps. length steps) made.steps ∙ as_many ship (cargo_on arrival) sequence.ops in
+    omega (arith, can.few, long)
+
 pub ready : (ship : ProfileRecord) (arrival : ArrivalRecord) (sequence : SequenceRecord) → HasArrived ship arrival → IsMade ship arrival sequence
     → AllByRecursion (λ (item : Item). item.kg ≤ 10 ^ 9) arrival.items → AllByRecursion IsLight sequence.ops → IsReady (case_on ship arrival sequence)
 ready ship arrival sequence arrived made items ops =

@@ -113,28 +113,7 @@ pub fn first_fail_from(
     requires total { IsArrivalTotal profile.now arrival.now total.now }
     ensures { result ≡ (outcome_in (case_on profile.now arrival.now sequence.now)).summary.first }
 {
-    items_are_light(arrival.items());
-    ops_are_light(sequence.ops());
-    let case = CaseView {
-        profile,
-        arrival,
-        sequence,
-    };
-    first_of_case(case, total)
-}
-
-/// The first step that fails of a case that is ready for a report, with its first criterion.
-fn first_of_case(case: CaseView<'_>, total: &Totals) -> Option<(u32, Criterion)>
-    requires ready { IsReady (case_in_view case) }
-    requires total { IsArrivalTotal case.profile.now case.arrival.now total.now }
-    ensures { result ≡ (outcome_in (case_in_view case.entry)).summary.first }
-{
-    let whole = Chunk {
-        start: 0,
-        end: case.lines(),
-        first: *total,
-    };
-    first_failing(case, &Hull::new(case.profile), &whole)
+    first_fail_behind(profile, arrival, sequence, 0, total)
 }
 
 /// As [`first_fail_from`], for whoever knows that all lines before the line `start` pass, and has
