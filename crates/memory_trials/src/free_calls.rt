@@ -33,7 +33,7 @@ impl<'a> Readers<'a> {
         right &= self.session.judge(3).is_none();
         right &= self.session.first_fail().is_none();
         right &= self.session.base().same(self.session.base());
-        right &= reweigh(self.session, 65) && self.session.undo() == Ok(true);
+        right &= reweigh(self.session, 1, 65) && self.session.undo() == Ok(true);
         right &= self.ticket.place() == 0;
         right &= matches!(self.desk.find(0), Some(ticket) if ticket.place() == 0);
         if right { Told::Right } else { Told::Wrong }

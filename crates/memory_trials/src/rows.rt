@@ -5,7 +5,9 @@ ghost use Rattle.what_if.specs.Desks.{IsOf};
 use crate::desks::Publishing;
 use crate::free_calls::{Readers, are_free};
 use crate::reports::Report;
-use crate::sessions::{Editing, Kind, edit_of, inputs, list_of, with_fillings, with_long_list};
+use crate::sessions::{
+    Editing, Kind, LONG, edit_of, inputs, list_of, with_fillings, with_long_list,
+};
 use crate::texts::{FILLED_LINES, NO_STEPS, RESTOW, RESTOW_LINES, TWO_LINES, TWO_LOADS, filled};
 use crate::trials::Trial;
 use crate::watch::{Tally, watch};
@@ -208,19 +210,21 @@ fn swaps<R: AllocGlobal + Threads + Wait + Sync, W: Write>(
     )
 }
 
-/// Searches of a long list, and edits that make its room too small and too great for what they
-/// keep.
+/// Searches and edits of a long list, and an edit that makes a list so long that room is asked for
+/// what searches keep of it.
 fn long_lists<R: AllocGlobal + Threads + Wait + Sync, W: Write>(
     rt: &R,
     out: &mut W,
     session: &Session,
 ) -> Result<bool, RunFault> {
-    let mut long = with_long_list(rt.alloc(), session)?;
+    let mut long = with_long_list(rt.alloc(), session, LONG)?;
     let tally = watch(rt, &mut Trial::Searches(&mut long));
     let free = tally.refused == 0 && tally.wrong == 0;
     let mut right = note_free(out, "searches of a long list", free);
     right &= edits(rt, out, &mut long, Kind::Insert)?;
-    Ok(right & edits(rt, out, &mut long, Kind::Remove)?)
+    right &= edits(rt, out, &mut long, Kind::Remove)?;
+    let mut shorter = with_long_list(rt.alloc(), session, LONG - 1)?;
+    Ok(right & edits(rt, out, &mut shorter, Kind::Lengthen)?)
 }
 
 /// Edits of a session.

@@ -39,6 +39,8 @@ pub enum Kind {
     Insert,
     /// A filling is moved past that of the same tank.
     MoveFilling,
+    /// A filling is put into a list that is one step too short for searches to keep anything.
+    Lengthen,
 }
 
 /// The tank is filled.
@@ -46,6 +48,17 @@ fn filling(kg: u32) -> Op {
     let mut name = ArrayVec::new();
     let _ = name.try_extend_from_slice(b"DB1".as_slice());
     Op::Fill { name, kg }
+}
+
+/// A session on a list, from the base of another.
+fn session_on(alloc: Global, other: &Session, list: Vec<Op>) -> Result<Session, RunFault> {
+    let Ok(base) = Arc::try_clone(other.base()) else {
+        return Err(RunFault::NoMemory);
+    };
+    match Session::new(alloc, base, list) {
+        Ok(session) => Ok(session),
+        Err(_) => Err(RunFault::NoMemory),
+    }
 }
 
 /// A session on the list of another with two fillings of a tank behind it.
@@ -56,53 +69,38 @@ pub fn with_fillings(alloc: Global, session: &Session) -> Result<Session, RunFau
             return Err(RunFault::NoMemory);
         }
     }
-    let Ok(base) = Arc::try_clone(session.base()) else {
-        return Err(RunFault::NoMemory);
-    };
-    match Session::new(alloc, base, list) {
-        Ok(session) => Ok(session),
-        Err(_) => Err(RunFault::NoMemory),
-    }
+    session_on(alloc, session, list)
 }
 
 /// How many steps a long list has: just so many that a search keeps what it found to pass.
-const LONG: u32 = 2_000;
+pub const LONG: u32 = 2_000;
 
-/// The steps of a long list: fillings of a tank, and at the end a step of another list.
-fn long_list(alloc: Global, last: &Op) -> Result<Vec<Op>, AllocError> {
+/// So many steps: fillings of a tank, and at the end a step of another list.
+fn long_list(alloc: Global, steps: u32, last: &Op) -> Result<Vec<Op>, AllocError> {
     let mut list = Vec::new(alloc);
-    for kg in 1..LONG {
+    for kg in 1..steps {
         list.push(filling(kg))?;
     }
     list.push(last.copy())?;
     Ok(list)
 }
 
-/// A session on a long list, whose last step is the first of another session's.
-pub fn with_long_list(alloc: Global, session: &Session) -> Result<Session, RunFault> {
+/// A session on a list of so many steps, of which the last is the first of another session's.
+pub fn with_long_list(alloc: Global, session: &Session, steps: u32) -> Result<Session, RunFault> {
     let Some(last) = session.lifts().first() else {
         return Err(RunFault::NoMemory);
     };
-    let Ok(list) = long_list(alloc, last) else {
+    let Ok(list) = long_list(alloc, steps, last) else {
         return Err(RunFault::NoMemory);
     };
-    let Ok(base) = Arc::try_clone(session.base()) else {
-        return Err(RunFault::NoMemory);
-    };
-    match Session::new(alloc, base, list) {
-        Ok(session) => Ok(session),
-        Err(_) => Err(RunFault::NoMemory),
-    }
+    session_on(alloc, session, list)
 }
 
 /// Asks which step of a long list fails first, once more after its last step was given another
 /// weight, and once more after that was taken back: none of it asks for memory.
 pub fn searches(session: &mut Session) -> Told {
     let mut right = session.first_fail().is_none();
-    right &= match Kg::new(20_501) {
-        Some(kg) => session.apply(Edit::Reweigh { at: LONG, kg }).is_ok(),
-        None => false,
-    };
+    right &= reweigh(session, LONG, 20_501);
     right &= session.first_fail().is_none();
     right &= session.undo() == Ok(true);
     right &= session.first_fail().is_none();
@@ -114,7 +112,7 @@ pub fn edit_of(kind: Kind) -> Edit {
     match kind {
         Kind::Remove => Edit::Remove { at: 2 },
         Kind::Move => Edit::Move { from: 1, to: 2 },
-        Kind::Insert => Edit::Insert {
+        Kind::Insert | Kind::Lengthen => Edit::Insert {
             at: 2,
             lift: filling(500_000),
         },
@@ -160,7 +158,19 @@ impl<'a> Editing<'a> {
     pub fn is_edited(&mut self) -> bool {
         let edited = self.is_after();
         let back = self.session.undo() == Ok(true) && self.session.undo() == Ok(false);
-        edited && back && self.is_before()
+        edited && back && self.gives_back() && self.is_before()
+    }
+
+    /// Gives back the room that an edit got for what searches keep, so that it asks for it the next
+    /// time too: a shorter list needs none, and an undo leaves it so.
+    fn gives_back(&mut self) -> bool {
+        match self.kind {
+            Kind::Lengthen => {
+                let shortened = self.session.apply(edit_of(Kind::Remove)).is_ok();
+                shortened && self.session.undo() == Ok(true)
+            }
+            _ => true,
+        }
     }
 
     /// Takes the edit back.
@@ -180,10 +190,10 @@ impl<'a> Editing<'a> {
     }
 }
 
-/// Gives the first load another weight.
-pub fn reweigh(session: &mut Session, kg: u32) -> bool {
+/// Gives the load at a step another weight.
+pub fn reweigh(session: &mut Session, at: u32, kg: u32) -> bool {
     match Kg::new(kg) {
-        Some(kg) => session.apply(Edit::Reweigh { at: 1, kg }).is_ok(),
+        Some(kg) => session.apply(Edit::Reweigh { at, kg }).is_ok(),
         None => false,
     }
 }
@@ -193,7 +203,7 @@ pub fn reweigh(session: &mut Session, kg: u32) -> bool {
 pub fn sixty_four_undos(session: &mut Session) -> Told {
     let mut right = true;
     for kg in 1..66 {
-        right &= reweigh(session, kg);
+        right &= reweigh(session, 1, kg);
     }
     for _ in 0..64 {
         right &= session.undo() == Ok(true);

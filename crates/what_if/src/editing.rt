@@ -9,7 +9,7 @@ ghost use Rattle.what_if.specs.Bases.{list_fault};
 ghost use Rattle.what_if.specs.Sessions.{IsSummed, refusal, restows_behind, CostsLittle};
 
 use crate::fours::Fours;
-use crate::passing::{move_into, other_room};
+use crate::passing::{Room, move_into, other_room};
 use crate::renewing::{renew, renew_both};
 use crate::summed_lists::SummedList;
 use lift_sequence::{SeqCode, SeqFault, Sequence};
@@ -37,8 +37,8 @@ impl SummedList {
     /// weight of a load checks no step and takes no memory; nor does an exchange of two steps that
     /// are independent of each other and of all steps between. A move of a step past others that it
     /// is independent of makes the sums of these steps anew. Any other edit makes the sequence and
-    /// all of its sums anew.
-    pub fn edit(&mut self, edit: &Edit) -> Result<(), EditFault>
+    /// all of its sums anew, and sees to the room for what searches keep, or leaves it.
+    pub fn edit(&mut self, edit: &Edit, room: Room) -> Result<(), EditFault>
         ensures legal { OnOk result (refusal self.old.base self.old.ops edit.now ≡ None) }
         ensures base { self.new.base ≡ self.old.base }
         ensures ops { OnOk result (self.new.ops ≡ edited self.old.ops edit.now) }
@@ -61,14 +61,14 @@ impl SummedList {
                 if self.exchange(*a as usize, *b as usize) {
                     return Ok(());
                 }
-                self.rearrange(edit)
+                self.rearrange(edit, room)
             }
             Edit::Move { from, to } => match self.carry(*from as usize, *to as usize) {
                 Ok(true) => Ok(()),
-                Ok(false) => self.rearrange(edit),
+                Ok(false) => self.rearrange(edit, room),
                 Err(AllocError) => Err(EditFault::NoMemory),
             },
-            _ => self.rearrange(edit),
+            _ => self.rearrange(edit, room),
         }
     }
 
@@ -195,8 +195,8 @@ impl SummedList {
         }
     }
 
-    /// Makes an edit other than a new weight.
-    fn rearrange(&mut self, edit: &Edit) -> Result<(), EditFault>
+    /// Makes an edit other than a new weight. All memory is there before anything changes.
+    fn rearrange(&mut self, edit: &Edit, room: Room) -> Result<(), EditFault>
         requires { edit_fault self.old.ops edit.now ≡ None }
         ensures legal { OnOk result (refusal self.old.base self.old.ops edit.now ≡ None) }
         ensures base { self.new.base ≡ self.old.base }
@@ -208,12 +208,12 @@ impl SummedList {
         ensures joins { self.new.joins ≡ self.old.joins }
     {
         let (sequence, sums) = self.rearranged(edit)?;
-        let Ok(room) = other_room(self.passed.get_mut(), self.alloc, sequence.len()) else {
+        let Ok(other) = other_room(self.passed.get_mut(), self.alloc, room, sequence.len()) else {
             return Err(EditFault::NoMemory);
         };
         self.sequence = sequence;
         self.sums = sums;
-        move_into(self.passed.get_mut(), room);
+        move_into(self.passed.get_mut(), other);
         Ok(())
     }
 }

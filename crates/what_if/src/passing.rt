@@ -14,9 +14,9 @@ use seq_report::Criterion;
 use std::alloc::{AllocError, Global};
 use std::sync::Arc;
 
-/// The least number of conditions that is worth keeping. To judge so many of a ship with the fewest
-/// stations and frames takes about as long as to compare two bases of a ship with the most cells,
-/// all of them taken.
+/// The least number of conditions that is worth keeping. By an estimate, to judge so many of a ship
+/// with the fewest stations and frames takes about as long as to compare two bases of a ship with
+/// the most cells, all of them taken.
 const LEAST: usize = 2_000;
 
 /// Conditions of a list that are known to pass.
@@ -104,8 +104,9 @@ impl Passed {
         count
     }
 
-    /// That so many conditions of another list pass, with the steps that they follow from, as far
-    /// as there is room for these; as it was where they are too few.
+    /// What is to be kept now: that so many conditions of another list pass, with the steps that
+    /// they follow from, as far as there is room for these. It is what was kept before where they
+    /// are too few, or where the base has too many owners for one more.
     fn renewed(self, base: &Arc<Ground, Global>, ops: &[Op], count: usize) -> Passed
         requires { Pass (arc_value base.now) ops.now count }
     {
@@ -132,15 +133,20 @@ impl Passed {
     }
 
     /// Other room for a list of so many steps, where this is too small for it, or more than twice
-    /// too great. It has a quarter to spare, since lists grow by single steps.
+    /// too great. More of it has a quarter to spare, since lists grow by single steps. In place of
+    /// too much comes none, for which no memory is asked: the next edit then asks for what it
+    /// takes.
     fn other_room(&self, alloc: Global, steps: usize) -> Result<Option<Vec<Op>>, AllocError> {
         let room = room_for(steps);
         let has = self.ops.capacity();
-        if room <= has && has / 2 <= room {
-            return Ok(None);
+        if room > has {
+            let more = Vec::with_capacity(alloc, room.saturating_add(room / 4))?;
+            return Ok(Some(more));
         }
-        let other = Vec::with_capacity(alloc, room.saturating_add(room / 4))?;
-        Ok(Some(other))
+        if has / 2 > room {
+            return Ok(Some(Vec::new(alloc)));
+        }
+        Ok(None)
     }
 
     /// The same in other room, as far as that goes.
@@ -187,15 +193,27 @@ pub fn keep(kept: &mut Option<Passed>, base: &Arc<Ground, Global>, ops: &[Op], c
     }
 }
 
-/// Other room for what is kept, for a list of so many steps; `None` where its room will do.
+/// Whether an edit sees to the room for what is kept.
+#[derive(Clone, Copy)]
+pub enum Room {
+    /// It asks for more where the list outgrows it, and gives too much of it back.
+    Fitted,
+    /// It leaves the room as it is, for an edit that is taken back, which asks for no memory that
+    /// it can do without.
+    Left,
+}
+
+/// Other room for what is kept, for a list of so many steps; `None` where its room will do, or is
+/// to be left.
 pub fn other_room(
     kept: &Option<Passed>,
     alloc: Global,
+    room: Room,
     steps: usize,
 ) -> Result<Option<Vec<Op>>, AllocError> {
-    match kept {
-        Some(passed) => passed.other_room(alloc, steps),
-        None => Ok(None),
+    match (room, kept) {
+        (Room::Fitted, Some(passed)) => passed.other_room(alloc, steps),
+        _ => Ok(None),
     }
 }
 

@@ -13,6 +13,7 @@ ghost use Rattle.what_if.specs.Bases.{IsJudgedAt, list_fault, report_on};
 ghost use Rattle.what_if.specs.Sessions.{AreTold, CostsLittle, refusal};
 
 use crate::bases::Ground;
+use crate::passing::Room;
 use crate::summed_lists::SummedList;
 use circular_buffer::HeapCircularBuffer;
 use claim_run::Gate;
@@ -160,7 +161,7 @@ impl Session {
         ensures cost { CostsLittle edit self.old.ops self.old.joins self.new.joins }
     {
         let back = inverse(self.list.ops(), &edit);
-        self.list.edit(&edit)?;
+        self.list.edit(&edit, Room::Fitted)?;
         self.past.push_front(back);
         Ok(())
     }
@@ -178,7 +179,7 @@ impl Session {
         let Some(edit) = self.past.front() else {
             return Ok(false);
         };
-        let Ok(()) = self.list.edit(edit) else {
+        let Ok(()) = self.list.edit(edit, Room::Left) else {
             return Err(AllocError);
         };
         self.past.pop_front();

@@ -40,7 +40,8 @@ pub struct SummedList {
     /// What the steps change, added up.
     pub(crate) sums: Fours,
     /// What searches for the first condition that fails found to pass. It is of a list as it was
-    /// then, and no part of what the list is.
+    /// then, and no part of what the list is. It is taken out whole to be changed, and `None` only
+    /// meanwhile.
     pub(crate) passed: Mutex<Option<Passed>>,
     pub(crate) alloc: Global,
 }
@@ -156,7 +157,7 @@ impl SummedList {
         ensures { result ≡ (report_on self.now.base self.now.ops).summary.first }
     {
         let start = passing_on(kept, &self.base, self.sequence.ops());
-        let first = self.first_fail_from(start);
+        let first = self.first_fail_behind(start);
         let passing = passing_before(first, self.sequence.len() + 1);
         if passing > start {
             keep(kept, &self.base, self.sequence.ops(), passing);
@@ -165,7 +166,7 @@ impl SummedList {
     }
 
     /// The same where so many conditions are known to pass.
-    fn first_fail_from(&self, passing: usize) -> Option<(u32, Criterion)>
+    fn first_fail_behind(&self, passing: usize) -> Option<(u32, Criterion)>
         requires { Pass self.now.base self.now.ops passing }
         ensures { result ≡ (report_on self.now.base self.now.ops).summary.first }
     {

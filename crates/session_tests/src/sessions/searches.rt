@@ -125,6 +125,21 @@ fn check_undone(
     check_first(rt, session, step)
 }
 
+/// A container by which the ship fails is loaded behind all steps, and that is taken back.
+fn check_lengthened(
+    rt: &(impl Abort + AllocGlobal),
+    session: &mut Session,
+    at: u32,
+) -> Result<(), Fail> {
+    let insert = Edit::Insert {
+        at,
+        lift: load(HEAVY),
+    };
+    same(rt, session.apply(insert), Ok(()));
+    check_first(rt, session, Some(at))?;
+    check_undone(rt, session, None)
+}
+
 /// Edits of a list of 3,000 steps, near its end and near its head.
 fn edited(rt: &(impl Abort + AllocGlobal), session: &mut Session) -> Result<(), Fail> {
     check_first(rt, session, None)?;
@@ -136,13 +151,18 @@ fn edited(rt: &(impl Abort + AllocGlobal), session: &mut Session) -> Result<(), 
     check_undone(rt, session, Some(2_301))?;
     check_undone(rt, session, Some(2_801))?;
     check_undone(rt, session, None)?;
-    let insert = Edit::Insert {
-        at: 3_001,
-        lift: load(HEAVY),
-    };
-    same(rt, session.apply(insert), Ok(()));
-    check_first(rt, session, Some(3_001))?;
-    check_undone(rt, session, None)
+    check_lengthened(rt, session, 3_001)
+}
+
+/// The last of 2,000 steps is left out, and that is taken back: of a shorter list nothing is kept,
+/// and room for it is asked for only when the list has become longer.
+fn shortened(rt: &(impl Abort + AllocGlobal), session: &mut Session) -> Result<(), Fail> {
+    check_first(rt, session, None)?;
+    same(rt, session.apply(Edit::Remove { at: 2_000 }), Ok(()));
+    check_first(rt, session, None)?;
+    check_undone(rt, session, None)?;
+    check_lengthened(rt, session, 2_001)?;
+    check_lengthened(rt, session, 2_001)
 }
 
 /// Two threads ask at once what fails first, twenty times. One of them may find that the other has
@@ -170,4 +190,11 @@ fn searched_again(rt: HostRuntime) -> Result<(), Fail> {
     let read = session(rt.alloc(), NO_MOVES)?;
     let mut long = session_on(&rt, rt.alloc(), &read, turns(rt.alloc(), 1_500)?)?;
     edited(&rt, &mut long)
+}
+
+#[test]
+fn searched_after_a_removal(rt: HostRuntime) -> Result<(), Fail> {
+    let read = session(rt.alloc(), NO_MOVES)?;
+    let mut long = session_on(&rt, rt.alloc(), &read, turns(rt.alloc(), 1_000)?)?;
+    shortened(&rt, &mut long)
 }

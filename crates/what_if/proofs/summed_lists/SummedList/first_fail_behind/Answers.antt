@@ -10,7 +10,7 @@ use Rattle.seq_report.proofs.PassedLemmas.{none_fails}
 use Rattle.what_if.specs.Bases.{Base, IsBase, Pass, change_of, report_on}
 use Rattle.what_if.specs.Sessions.{Summed}
 use Rattle.what_if.proofs.ChangeLemmas.{as_many_steps, joined_fits, reports, room_after, sum_to_line}
-use Rattle.what_if.proofs.summed_lists.SummedList.first_fail_from.Goals as goal
+use Rattle.what_if.proofs.summed_lists.SummedList.first_fail_behind.Goals as goal
 
 pub returns-then-passing-len : goal.returns-then-passing-len
 returns-then-passing-len c =
