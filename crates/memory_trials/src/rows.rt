@@ -32,6 +32,11 @@ fn note<W: Write>(out: &mut W, name: &str, tally: Tally) -> bool {
     said && tally.wrong == 0
 }
 
+/// Whether nothing was asked for, and all was right.
+fn is_free(tally: Tally) -> bool {
+    tally.refused == 0 && tally.wrong == 0
+}
+
 /// The same of a row that asks for none.
 fn note_free<W: Write>(out: &mut W, name: &str, free: bool) -> bool {
     let said = if free {
@@ -188,8 +193,7 @@ fn undos<R: AllocGlobal + Threads + Wait + Sync, W: Write>(
     out: &mut W,
     session: &mut Session,
 ) -> bool {
-    let tally = watch(rt, &mut Trial::SixtyFourUndos(session));
-    let free = tally.refused == 0 && tally.wrong == 0;
+    let free = is_free(watch(rt, &mut Trial::SixtyFourUndos(session)));
     note_free(out, "sixty_four_undos", free)
 }
 
@@ -200,9 +204,8 @@ fn swaps<R: AllocGlobal + Threads + Wait + Sync, W: Write>(
     session: &mut Session,
 ) -> bool {
     let inserted = session.apply(edit_of(Kind::Insert)).is_ok();
-    let tally = watch(rt, &mut Trial::Swaps(session));
+    let free = is_free(watch(rt, &mut Trial::Swaps(session)));
     let back = session.undo() == Ok(true);
-    let free = tally.refused == 0 && tally.wrong == 0;
     note_free(
         out,
         "exchanges of independent steps",
@@ -218,8 +221,7 @@ fn long_lists<R: AllocGlobal + Threads + Wait + Sync, W: Write>(
     session: &Session,
 ) -> Result<bool, RunFault> {
     let mut long = with_long_list(rt.alloc(), session, LONG)?;
-    let tally = watch(rt, &mut Trial::Searches(&mut long));
-    let free = tally.refused == 0 && tally.wrong == 0;
+    let free = is_free(watch(rt, &mut Trial::Searches(&mut long)));
     let mut right = note_free(out, "searches of a long list", free);
     right &= edits(rt, out, &mut long, Kind::Insert)?;
     right &= edits(rt, out, &mut long, Kind::Remove)?;
@@ -350,8 +352,7 @@ fn desk_rows<R: AllocGlobal + Threads + Wait + Sync, W: Write>(
         desk,
         ticket: &early,
     });
-    let tally = watch(rt, &mut readers);
-    let free = tally.refused == 0 && tally.wrong == 0;
+    let free = is_free(watch(rt, &mut readers));
     let said = note_free(out, "readers of a session and a desk", free);
     match right {
         Ok(right) => Ok(right && said),

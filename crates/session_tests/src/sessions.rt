@@ -1,12 +1,13 @@
-ghost use Rattle.std.specs.Prelude.{◌≤◌};
+ghost use Rattle.std.specs.Prelude.{◌≡◌, ◌≤◌, IfOk};
 
 use crate::checks::same;
 use box_ship::{EMPTY_PLAN, files};
 use claim_run::{Open, Workers};
+use lift_sequence::Op;
 use seq_report::{CutPlan, Inputs, Options, RunFault, Through};
 use std::alloc::Global;
 use std::process::Abort;
-use std::sync::Wait;
+use std::sync::{Arc, Wait};
 use std::test::Fail;
 use std::thread::Threads;
 use what_if::Session;
@@ -55,6 +56,14 @@ fn inputs<'a>(baplie: &'a [u8], movins: &'a [u8]) -> Inputs<'a> {
 /// A session on the box ship with no container aboard.
 fn session(alloc: Global, movins: &[u8]) -> Result<Session, RunFault> {
     Session::read(alloc, &inputs(EMPTY_PLAN, movins))
+}
+
+/// A session on a list, from the base of another.
+fn session_on(alloc: Global, other: &Session, list: Vec<Op>) -> Result<Session, Fail>
+    ensures { IfOk result (λ s. s.base ≡ other.now.base) }
+{
+    let base = Arc::try_clone(other.base())?;
+    Ok(Session::new(alloc, base, list)?)
 }
 
 /// The report of a session, as text, made by two workers in chunks of two lines.

@@ -1,5 +1,5 @@
 -- Conditions that pass in one list pass in another that begins alike.
-use Rattle.std.proofs.Common.{◌≡◌, ◌∙◌, ℕ, zero, suc, ◌+◌, ◌<◌, ◌≤◌, List, [], ◌∷◌, ◌++◌, length, take, get_or, Option, refl, sym, ap, arith}
+use Rattle.std.proofs.Common.{◌≡◌, ◌∙◌, ℕ, ◌+◌, ◌<◌, ◌≤◌, List, [], ◌∷◌, ◌++◌, length, take, take-take, get_or, Option, refl, sym, ap, arith}
 use Rattle.std.proofs.lemmas.List.{take_more}
 use Rattle.criteria.specs.declared.criterion.Criterion.{Criterion}
 use Rattle.lift_sequence.specs.declared.operations.Op.{Op}
@@ -8,12 +8,6 @@ use Rattle.lift_sequence.specs.Bodies.{bodies}
 use Rattle.moment_sums.specs.Sum.{sum_of}
 use Rattle.seq_report.specs.Report.{failure_of, step_line}
 use Rattle.what_if.specs.Bases.{Base, Pass, aboard_first}
-
-take_take : {A : Type 0} (k n : ℕ) (xs : List A) → k ≤ n → take k (take n xs) ≡ take k xs
-take_take zero n xs h = refl
-take_take (suc k) zero xs h = absurd (omega (arith, h))
-take_take (suc k) (suc n) [] h = refl
-take_take (suc k) (suc n) (x ∷ xs) h = ap (λ ys. x ∷ ys) (take_take k n xs (omega (arith, h)))
 
 -- what is told of the condition after these steps
 told : Base → ℕ → List Op → Option (ℕ × Criterion)
@@ -24,7 +18,7 @@ pub pass_alike : (base : Base) (ops others : List Op) (count same n : ℕ) → t
 unfolding told
 pass_alike base ops others count same n alike few near pass k low =
     let inside : k ≤ same = omega (arith, low, near) in
-    let eq : take k ops ≡ take k others = sym (take_take k same ops inside) ∙ ap (λ (l : List Op). take k l) alike ∙ take_take k same others inside in
+    let eq : take k ops ≡ take k others = sym (take-take k same ops inside) ∙ ap (λ (l : List Op). take k l) alike ∙ take-take k same others inside in
     ap (told base k) (sym eq) ∙ pass k (omega (arith, low, few))
 
 -- one equal step more

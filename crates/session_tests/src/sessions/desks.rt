@@ -2,7 +2,7 @@
 ghost use Rattle.std.specs.Prelude.{◌≡◌, IfOk};
 ghost use Rattle.what_if.specs.Desks.{IsOf, list_of};
 
-use super::{TWO_LOADS, session};
+use super::{TWO_LOADS, session, session_on};
 use crate::checks::holds;
 use box_ship::NO_MOVES;
 use lift_sequence::Op;
@@ -26,9 +26,8 @@ fn first_of(alloc: Global, ops: &[Op]) -> Result<Vec<Op>, AllocError> {
 fn first_step_of(alloc: Global, session: &Session) -> Result<Session, Fail>
     ensures { IfOk result (λ s. s.base ≡ session.now.base) }
 {
-    let base = Arc::try_clone(session.base())?;
     let list = first_of(alloc, session.lifts())?;
-    Ok(Session::new(alloc, base, list)?)
+    session_on(alloc, session, list)
 }
 
 /// Each of two threads publishes a list.

@@ -1,7 +1,7 @@
 //! The first step that fails of a long list, after one edit and another. A session keeps what a
 //! search found to pass, so each answer is compared with that of a session that was just made of
 //! the same list.
-use super::session;
+use super::{session, session_on};
 use crate::checks::same;
 use arrayvec::ArrayVec;
 use box_ship::NO_MOVES;
@@ -9,7 +9,7 @@ use criteria::Criterion;
 use lift_sequence::Op;
 use std::alloc::{AllocError, Global};
 use std::process::Abort;
-use std::sync::{Arc, Wait};
+use std::sync::Wait;
 use std::test::Fail;
 use std::thread;
 use std::thread::Threads;
@@ -63,22 +63,6 @@ fn turns(alloc: Global, count: u32) -> Result<Vec<Op>, AllocError> {
     Ok(list)
 }
 
-/// A session on a list, from the base of another.
-fn session_on(
-    rt: &impl Abort,
-    alloc: Global,
-    other: &Session,
-    list: Vec<Op>,
-) -> Result<Session, Fail> {
-    let base = Arc::try_clone(other.base())?;
-    let made = Session::new(alloc, base, list);
-    assert!(rt; made.is_ok());
-    match made {
-        Ok(session) => Ok(session),
-        Err(_) => unreachable!(),
-    }
-}
-
 /// The step of a failure.
 fn step_of(first: Option<(u32, Criterion)>) -> Option<u32> {
     match first {
@@ -95,7 +79,7 @@ fn check_first(
     step: Option<u32>,
 ) -> Result<(), Fail> {
     let list = copies(rt.alloc(), session.lifts())?;
-    let fresh = session_on(rt, rt.alloc(), session, list)?;
+    let fresh = session_on(rt.alloc(), session, list)?;
     let first = session.first_fail();
     same(rt, first, fresh.first_fail());
     same(rt, step_of(first), step);
@@ -178,7 +162,7 @@ fn check_by_two(rt: &(impl Abort + Threads + Wait + Sync), session: &Session, st
 #[test]
 fn searched_by_two(rt: HostRuntime) -> Result<(), Fail> {
     let read = session(rt.alloc(), NO_MOVES)?;
-    let mut long = session_on(&rt, rt.alloc(), &read, turns(rt.alloc(), 1_500)?)?;
+    let mut long = session_on(rt.alloc(), &read, turns(rt.alloc(), 1_500)?)?;
     check_by_two(&rt, &long, None);
     check_reweighed(&rt, &mut long, 2_801, HEAVY, Some(2_801))?;
     check_by_two(&rt, &long, Some(2_801));
@@ -188,13 +172,13 @@ fn searched_by_two(rt: HostRuntime) -> Result<(), Fail> {
 #[test]
 fn searched_again(rt: HostRuntime) -> Result<(), Fail> {
     let read = session(rt.alloc(), NO_MOVES)?;
-    let mut long = session_on(&rt, rt.alloc(), &read, turns(rt.alloc(), 1_500)?)?;
+    let mut long = session_on(rt.alloc(), &read, turns(rt.alloc(), 1_500)?)?;
     edited(&rt, &mut long)
 }
 
 #[test]
 fn searched_after_a_removal(rt: HostRuntime) -> Result<(), Fail> {
     let read = session(rt.alloc(), NO_MOVES)?;
-    let mut long = session_on(&rt, rt.alloc(), &read, turns(rt.alloc(), 1_000)?)?;
+    let mut long = session_on(rt.alloc(), &read, turns(rt.alloc(), 1_000)?)?;
     shortened(&rt, &mut long)
 }

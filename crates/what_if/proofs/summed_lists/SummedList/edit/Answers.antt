@@ -55,9 +55,7 @@ returns-in-Ok-true-clause-legal c =
     let edit = c.args.edit.now in
     let same = c.ops.ensures ∙ ap (λ (v : Summed). v.ops) c.self.view_is in
     let own : edit_fault now.ops edit ≡ None = ap (λ l. edit_fault l edit) (sym same) ∙ sym c.fault_of.ensures.exact ∙ c.in_default.is in
-    let carried = subst (λ b. OnTrue b (c.carry.new.self.ops ≡ moved now.ops (c.in-Move.from - 1) (c.in-Move.to - 1))) c.in-Ok-true.field-0-test c.in-Ok-true.ensures.ops in
-    let made : c.carry.new.self.ops ≡ edited now.ops edit
-    = carried ∙ is_moved now.ops c.in-Move.from c.in-Move.to (ap (edit_fault now.ops) (sym c.in-Move.is) ∙ own) ∙ ap (edited now.ops) (sym c.in-Move.is) in
+    let made : c.carry.new.self.ops ≡ edited now.ops edit = returns-in-Ok-true-clause-ops c in
     let legal = subst (λ b. OnTrue b (list_fault now.base c.carry.new.self.ops ≡ None)) c.in-Ok-true.field-0-test c.in-Ok-true.ensures.legal in
     let list : list_fault now.base (edited now.ops edit) ≡ None = ap (list_fault now.base) (sym made) ∙ legal in
     λ i. option_or (own i) (option_map Sequence (list i))
