@@ -1,3 +1,2 @@
 pub mod NumberLemmas
-pub mod PlainLemmas
 pub mod ReadingLemmas

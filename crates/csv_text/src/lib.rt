@@ -14,9 +14,7 @@
 #![tactic(auto)]
 
 mod numbers;
-mod plain;
 mod records;
 
 pub use numbers::number;
-pub use plain::{begins_plain, behind_line_ends, field_before_comma, last_field, unmarked};
 pub use records::{next_record, open_records, text_at};

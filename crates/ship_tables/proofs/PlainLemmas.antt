@@ -4,7 +4,7 @@ use Rattle.std.proofs.lemmas.Bool.Decides.{nat_tests}
 use Rattle.std.proofs.Math.Seq.{get_or-append_seam}
 use Rattle.std.proofs.Math.ListN.{get_or-append}
 use Rattle.std.specs.List.{list_any}
-use Rattle.csv_text.specs.Plain.{Spells}
+use Rattle.csv.specs.Records.{field_at}
 use Rattle.csv_text.specs.Reading.{Fields, records_of}
 use Rattle.units_core.specs.declared.bodies.Place.{Place}
 use Rattle.units_core.specs.declared.cells.Cell.{Cell}
@@ -15,7 +15,7 @@ use Rattle.ship_tables.specs.declared.layouts.Field.TheVariants as field
 use Rattle.ship_tables.specs.Extents.{holds}
 use Rattle.ship_tables.specs.Lookup.{index_in, AreApart}
 use Rattle.ship_tables.specs.Outcome.{in_turn}
-use Rattle.ship_tables.specs.Plain.{plain_row, plain_rows, AddsRow, IsPlain, ArePlain}
+use Rattle.ship_tables.specs.Plain.{plain_row, plain_rows, IsPlain, ArePlain}
 use Rattle.ship_tables.specs.Record.{cells_form, place_at, places_in, length_column, size_column}
 use Rattle.ship_tables.specs.Tables.{Row, so_far, heading_read, cells_in, field_in, row_in, row_fault, added, enough, read_under, file_in}
 use Rattle.ship_tables.proofs.CellLemmas.{cells_same}
@@ -49,6 +49,19 @@ module _ (tell : Cell → ℕ) where
       let at : tell (get_or xs i d) ≡ i = ap tell (sym (get_or-append xs (c ∷ cs) d i inside)) ∙ all i d (omega (arith, len)) in
       omega (arith, at)) (omega (arith, here))
 
+-- a list of five fields
+five : (fields : Fields) (t0 t1 t2 t3 t4 : List ℕ) → length fields ≡ 5
+    → field_at fields 0 ≡ Some t0 → field_at fields 1 ≡ Some t1 → field_at fields 2 ≡ Some t2 → field_at fields 3 ≡ Some t3 → field_at fields 4 ≡ Some t4
+    → fields ≡ t0 ∷ t1 ∷ t2 ∷ t3 ∷ t4 ∷ []
+unfolding field_at
+five [] t0 t1 t2 t3 t4 len e0 e1 e2 e3 e4 = absurd (omega (arith, len))
+five (a0 ∷ []) t0 t1 t2 t3 t4 len e0 e1 e2 e3 e4 = absurd (omega (arith, len))
+five (a0 ∷ a1 ∷ []) t0 t1 t2 t3 t4 len e0 e1 e2 e3 e4 = absurd (omega (arith, len))
+five (a0 ∷ a1 ∷ a2 ∷ []) t0 t1 t2 t3 t4 len e0 e1 e2 e3 e4 = absurd (omega (arith, len))
+five (a0 ∷ a1 ∷ a2 ∷ a3 ∷ []) t0 t1 t2 t3 t4 len e0 e1 e2 e3 e4 = absurd (omega (arith, len))
+five (a0 ∷ a1 ∷ a2 ∷ a3 ∷ a4 ∷ []) t0 t1 t2 t3 t4 len e0 e1 e2 e3 e4 = cc
+five (a0 ∷ a1 ∷ a2 ∷ a3 ∷ a4 ∷ a5 ∷ more) t0 t1 t2 t3 t4 len e0 e1 e2 e3 e4 = absurd (omega (arith, len))
+
 -- the columns of such rows
 plain-zip : (cs : List Cell) (ps : List Place) → zip (cells_in (plain_rows cs ps)) (map place_at (plain_rows cs ps)) ≡ zip cs ps
 plain-zip [] ps = refl
@@ -64,21 +77,6 @@ module _ (extent : Extent) where
   plain-push (g ∷ fs) [] ps f c p h is = absurd h
   plain-push (g ∷ fs) (d ∷ cs) [] f c p h is = absurd h
   plain-push (g ∷ fs) (d ∷ cs) (q ∷ ps) f c p h is = (h.0, plain-push fs cs ps f c p h.1 is)
-
-  -- what a row that was added says of the records that are left, and of the columns
-  pub plain-step : (cells : List Cell) (places : List Place) (cells2 : List Cell) (places2 : List Place) (text behind : List ℕ) → AddsRow extent cells places cells2 places2 text behind
-      → (rows done more : List Fields) → rows ≡ done ++ more → Spells text more → ArePlain extent done cells places
-      → (done2 : List Fields) × (more2 : List Fields) × (rows ≡ done2 ++ more2) × Spells behind more2 × ArePlain extent done2 cells2 places2
-  plain-step cells places cells2 places2 text behind added rows done more are spelt plain =
-      let one = added.4 in
-      let next = added.6 more spelt in
-      let follows : rows ≡ (done ++ one ∷ []) ++ next.0 = are ∙ (ap (λ (l : List Fields). done ++ l) next.1 ∙ sym (append_assoc done (one ∷ []) next.0)) in
-      (done ++ one ∷ [], next.0, follows, next.2, rw (added.2, added.3) (plain-push done cells places one added.0 added.1 plain added.5))
-
-  pub plain-longer : (cells : List Cell) (places : List Place) (cells2 : List Cell) (places2 : List Place) (text behind : List ℕ) → AddsRow extent cells places cells2 places2 text behind
-      → (length cells2 ≡ length cells + 1) × (length places2 ≡ length places + 1)
-  plain-longer cells places cells2 places2 text behind added =
-      (rw added.2 (length-append cells (added.0 ∷ [])), rw added.3 (length-append places (added.1 ∷ [])))
 
   plain-length : (fs : List Fields) (cs : List Cell) (ps : List Place) → ArePlain extent fs cs ps → length fs ≡ length ps
   plain-length [] [] [] h = refl
@@ -144,13 +142,17 @@ module _ (extent : Extent) where
       (read_of-heading (cells_form extent) (records_of text) fs heading is five ∙ under fs cs ps h apart some few) (ap Ok (plain-zip cs ps))
 
   -- a record of five fields that are a cell and the lengths of a place
-  pub plain-row : (t0 t1 t2 t3 t4 : List ℕ) (c : Cell) (p : Place) → cell_in t0 ≡ Some c
+  pub plain-row : (fields : Fields) (t0 t1 t2 t3 t4 : List ℕ) (c : Cell) (p : Place) → length fields ≡ 5
+      → field_at fields 0 ≡ Some t0 → field_at fields 1 ≡ Some t1 → field_at fields 2 ≡ Some t2 → field_at fields 3 ≡ Some t3 → field_at fields 4 ≡ Some t4
+      → cell_in t0 ≡ Some c
       → ((line : ℕ) → field_in file.Cells line length_column t1 ≡ Ok (field.Number p.x))
       → ((line : ℕ) → field_in file.Cells line length_column t2 ≡ Ok (field.Number p.y))
       → ((line : ℕ) → field_in file.Cells line length_column t3 ≡ Ok (field.Number p.z))
       → ((line : ℕ) → field_in file.Cells line size_column t4 ≡ Ok (field.Number p.half))
-      → (line : ℕ) → row_in (cells_form extent) line (t0 ∷ t1 ∷ t2 ∷ t3 ∷ t4 ∷ []) ≡ Ok (plain_row c p)
-  plain-row t0 t1 t2 t3 t4 c p cell x y z half line = rw (cell, x line, y line, z line, half line) refl
+      → (line : ℕ) → row_in (cells_form extent) line fields ≡ Ok (plain_row c p)
+  plain-row fields t0 t1 t2 t3 t4 c p len e0 e1 e2 e3 e4 cell x y z half line =
+      let same : fields ≡ t0 ∷ t1 ∷ t2 ∷ t3 ∷ t4 ∷ [] = five fields t0 t1 t2 t3 t4 len e0 e1 e2 e3 e4 in
+      rw (same, cell, x line, y line, z line, half line) refl
 
 -- what is known of cells that were settled, where that they are some and apart says what they are
 pub if_settled : {P Q : Type 0} {T : Type 0} (of : T → Type 0) (v : T) (o : Option T) → IfSome o (λ c. c ≡ v) → IfSome o (λ c. P) → IfSome o (λ c. Q) → (P → Q → of v) → IfSome o of

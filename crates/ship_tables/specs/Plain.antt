@@ -1,8 +1,7 @@
 -- Bookkeeping: records of `cells.csv` that are rows whatever came before them, and the rows that
 -- cells and places in two columns are.
-use Rattle.std.specs.Prelude.{◌≡◌, ℕ, true, List, [], ◌∷◌, ◌++◌, Ok}
+use Rattle.std.specs.Prelude.{◌≡◌, ℕ, true, List, [], ◌∷◌, Ok}
 use Rattle.std.specs.Bool.{⊤}
-use Rattle.csv_text.specs.Plain.{EndsBy, Spells}
 use Rattle.csv_text.specs.Reading.{Fields}
 use Rattle.units_core.specs.declared.bodies.Place.{Place}
 use Rattle.units_core.specs.declared.cells.Cell.{Cell}
@@ -26,15 +25,6 @@ plain_rows _ _ = []
 pub record IsPlain (extent : Extent) (fields : Fields) (c : Cell) (p : Place) : Type 0 where
   pub row : (line : ℕ) → row_in (cells_form extent) line fields ≡ Ok (plain_row c p)
   pub within : holds extent p ≡ true
-
--- to these cells and places those of the row were added that is the first record of the text; what
--- is behind it spells the others
-abbrev pub AddsRow : Extent → List Cell → List Place → List Cell → List Place → List ℕ → List ℕ
-    → Type 0
-AddsRow extent cells places more_cells more_places text behind =
-    (c : Cell) × (p : Place) × (more_cells ≡ cells ++ c ∷ []) × (more_places ≡ places ++ p ∷ [])
-    × (fields : Fields) × IsPlain extent fields c p
-    × ((rows : List Fields) → Spells text rows → EndsBy fields behind rows)
 
 -- each record is the row of its cell and place
 abbrev pub ArePlain : Extent → List Fields → List Cell → List Place → Type 0

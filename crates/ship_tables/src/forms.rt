@@ -7,16 +7,22 @@ use crate::extents::Extent;
 use crate::faults::File;
 use crate::layouts::{Column, Layout, Rule, Stands};
 
+/// The greatest length, in mm.
+pub const MAX_LENGTH: i64 = 1_000_000;
+
+/// The greatest number of cells of a ship.
+pub const MAX_CELLS: u16 = 30_000;
+
 /// A length in mm along one of the ship's axes.
 const LENGTH: Column = Column::Number {
-    low: -1_000_000,
-    high: 1_000_000,
+    low: -MAX_LENGTH,
+    high: MAX_LENGTH,
 };
 
 /// A length in mm that is not below 0.
 const SIZE: Column = Column::Number {
     low: 0,
-    high: 1_000_000,
+    high: MAX_LENGTH,
 };
 
 /// A draught in mm.
@@ -63,7 +69,7 @@ pub fn cells_layout(extent: Extent) -> Layout<'static>
         file: File::Cells,
         columns: &[Column::Cell, LENGTH, LENGTH, LENGTH, SIZE],
         least: 1,
-        most: 30_000,
+        most: MAX_CELLS,
         rule: Rule::Distinct,
         stands: Some(Stands {
             extent,

@@ -458,7 +458,7 @@ fn nothing_gathered(alloc: Global) -> Gathered
 }
 
 /// Reads the next record; false at the end of the text.
-fn found_record(reader: &mut Reader<&[u8]>, fields: &mut ByteRecord) -> Result<bool, TableFault>
+pub fn found_record(reader: &mut Reader<&[u8]>, fields: &mut ByteRecord) -> Result<bool, TableFault>
     ensures ok { IfOk result (λ found. (rest : List Fields) → HasLeft reader.old rest
         → Gave found (fields_of fields.new) rest reader.new) }
     ensures memory { IfErr result (λ e. e ≡ TableFault.NoMemory) }

@@ -1,9 +1,6 @@
 use crate::checks::{same, same_row};
 use csv::ByteRecord;
-use csv_text::{
-    begins_plain, behind_line_ends, field_before_comma, last_field, next_record, number,
-    open_records, text_at, unmarked,
-};
+use csv_text::{next_record, number, open_records, text_at};
 use std::alloc::{AllocError, Global};
 use std::process::Abort;
 use std::test::Fail;
@@ -63,48 +60,6 @@ fn a_spreadsheets_habits(rt: HostRuntime) -> Result<(), Fail> {
             (b"\"a\nb\",c\n", "a\nb|c|/"),
         ],
     )
-}
-
-/// The two fields of the first record of a text in which nothing is quoted, and the text behind it.
-fn first_two(text: &[u8]) -> Option<(&[u8], &[u8], &[u8])> {
-    let whole = behind_line_ends(unmarked(text));
-    if !begins_plain(whole) {
-        return None;
-    }
-    let (first, rest) = field_before_comma(whole)?;
-    let (second, behind) = last_field(rest)?;
-    Some((first, second, behind))
-}
-
-/// Texts with their first record, read where it stands, behind a byte order mark and lines without
-/// a byte; a part of a mark, or one behind a line, belongs to the first field. A record with a
-/// quoted field isn't read so, and neither is one of one field or of three, or one that a lone CR
-/// ends.
-static PLAIN: [(&[u8], Option<(&[u8], &[u8], &[u8])>); 17] = [
-    (b"kg,x\n1,2", Some((b"kg", b"x", b"1,2"))),
-    (b"a,b\r\nc", Some((b"a", b"b", b"c"))),
-    (b"a,bc", Some((b"a", b"bc", b""))),
-    (b",\n\n", Some((b"", b"", b"\n"))),
-    (b" a ,+b!\n", Some((b" a ", b"+b!", b""))),
-    (b"", None),
-    (b"\xef\xbb\xbfa,b\n", Some((b"a", b"b", b""))),
-    (b"\xef\xbb\xbf\r\n\na,b\n", Some((b"a", b"b", b""))),
-    (b"\xef\xbba,b\n", Some((b"\xef\xbba", b"b", b""))),
-    (b"\na,b\n", Some((b"a", b"b", b""))),
-    (b"\r\xef\xbb\xbfa,b\n", Some((b"\xef\xbb\xbfa", b"b", b""))),
-    (b"\n\n", None),
-    (b"\"a\",b\n", None),
-    (b"a,\"b\"\n", None),
-    (b"a\nb,c\n", None),
-    (b"a,b,c\n", None),
-    (b"a,b\rc", None),
-];
-
-#[test]
-fn a_plain_record_where_it_stands(rt: HostRuntime) {
-    for (text, want) in &PLAIN {
-        same_row(&rt, *text, first_two(text), *want);
-    }
 }
 
 /// Fields and their numbers: 18 digits are taken, 19 aren't; bytes 47 and 58 stand beside the
