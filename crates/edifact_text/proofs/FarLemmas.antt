@@ -1,6 +1,7 @@
 -- Bytes that are neither the separator nor the release character are passed over.
 use Rattle.std.proofs.Common.{◌≡◌, ℕ, zero, suc, ◌+◌, ◌<◌, ◌≤◌, List, [], ◌∷◌, Option, Some, None, Bool, true, false, refl, sym, ap, option_map, length, drop, get_or, arith, nat_eq, ◌==◌}
 use Rattle.std.proofs.Common.{take, drop-cons, ◌∙◌, not}
+use Rattle.std.proofs.lemmas.List.{drop-drop}
 use Rattle.std.proofs.lemmas.Simd.{run_in_chunk_fails}
 use Rattle.std.specs.List.{prefix_len}
 use Rattle.std.proofs.lemmas.Grind.{common_steps}
@@ -62,7 +63,7 @@ up_to_end r sep other xs None is e h = none_passes r sep (length xs) 0 xs (omega
 up_to_end r sep other xs (Some n) is e h = cc
 
 -- Before the places of both in a vector stands neither.
-pub up_to_near : (r : Option ℕ) (sep other at : ℕ) (xs : List ℕ) → other ≡ other_of r sep → 32 ≤ length xs → at < 32 →
+pub up_to_near : (r : Option ℕ) (sep other at : ℕ) (xs : List ℕ) → other ≡ other_of r sep → 32 ≤ length xs → at ≤ 32 →
     at ≤ prefix_len (λ b. not (b == sep)) (take 32 xs) → at ≤ prefix_len (λ b. not (b == other)) (take 32 xs) →
     end_from r sep false xs ≡ option_map (λ k. at + k) (end_from r sep false (drop at xs))
 up_to_near r sep other at xs is room here h k =
@@ -70,6 +71,18 @@ up_to_near r sep other at xs is room here h k =
     let e : (get_or xs j 0 == sep) ≡ false = run_in_chunk_fails (λ b. b == sep) xs 0 32 _ 0 room refl j (omega arith) (omega (arith, h, less)) in
     let f : (get_or xs j 0 == other) ≡ false = run_in_chunk_fails (λ b. b == other) xs 0 32 _ 0 room refl j (omega arith) (omega (arith, k, less)) in
     quiet_byte r sep (get_or xs j 0) (rw (← is, e, f) refl))
+
+map_both : (m n : ℕ) (o : Option ℕ) → option_map (λ k. m + k) (option_map (λ k. n + k) o) ≡ option_map (λ k. (m + n) + k) o
+map_both m n None = refl
+map_both m n (Some k) = let e : m + (n + k) ≡ (m + n) + k = omega arith in ap (λ j. Some j) e
+
+-- Bytes that are passed over, and more behind them.
+pub up_to_both : (r : Option ℕ) (sep m n : ℕ) (xs : List ℕ) → end_from r sep false xs ≡ option_map (λ k. m + k) (end_from r sep false (drop m xs)) →
+    end_from r sep false (drop m xs) ≡ option_map (λ k. n + k) (end_from r sep false (drop n (drop m xs))) →
+    end_from r sep false xs ≡ option_map (λ k. (m + n) + k) (end_from r sep false (drop (m + n) xs))
+up_to_both r sep m n xs first second =
+    first ∙ ap (option_map (λ k. m + k)) second ∙ map_both m n (end_from r sep false (drop n (drop m xs)))
+    ∙ ap (λ l. option_map (λ k. (m + n) + k) (end_from r sep false l)) (drop-drop n m xs)
 
 -- A separator behind bytes that are passed over.
 pub ends_at : (r : Option ℕ) (sep at : ℕ) (xs : List ℕ) → at < length xs → get_or xs at 0 ≡ sep → is_release r sep ≡ false →

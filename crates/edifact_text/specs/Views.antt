@@ -50,7 +50,8 @@ abbrev pub ahead : Cursor → List Stretch
 ahead c = stretches (c.len - length c.rest.now)
     (pieces c.service.release c.service.terminator c.rest.now)
 
--- The byte is a capital letter: no interchange has one as a service character.
+-- The byte is a capital letter: no interchange has one as a separator, as its terminator or as its
+-- release character.
 abbrev pub is_capital : ℕ → Bool
 is_capital b = nat_le 65 b && nat_le b 90
 

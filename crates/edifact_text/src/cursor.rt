@@ -117,6 +117,23 @@ impl<'a> Cursor<'a> {
         Some((text, behind))
     }
 
+    /// As [`Cursor::take`], with a look at the nearest bytes first: most segments are short.
+    #[inline(always)]
+    fn take_nearest(self) -> (SegmentText<'a>, Option<Cursor<'a>>)
+        ensures first { MatchOption result.1 (ahead self.entry ≡ stretch_of result.0 ∷ [])
+            (λ rest. (ahead self.entry ≡ stretch_of result.0 ∷ ahead rest)
+            × (0 < length (ahead rest))) }
+        ensures service { result.0.service ≡ self.entry.service }
+        ensures same { IfSome result.1
+            (λ rest. (rest.service ≡ self.entry.service) × (rest.len ≡ self.entry.len)
+            × (length rest.rest.now < length self.entry.rest.now)) }
+    {
+        match self.near() {
+            Some((text, rest)) => (text, Some(rest)),
+            None => self.take(),
+        }
+    }
+
     /// The next segment that has a terminator, and what is behind it.
     #[inline(always)]
     pub(crate) fn split_first(self) -> Option<(SegmentText<'a>, Cursor<'a>)>
@@ -143,7 +160,7 @@ impl<'a> Cursor<'a> {
             (λ p. (p.0.service ≡ self.entry.service) × (p.1.service ≡ self.entry.service)
             × (p.1.len ≡ self.entry.len) × (length p.1.rest.now < length self.entry.rest.now)) }
     {
-        let (text, behind) = self.take();
+        let (text, behind) = self.take_nearest();
         let rest = match behind {
             Some(rest) => rest,
             None => {

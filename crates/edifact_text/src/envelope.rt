@@ -11,7 +11,7 @@ use crate::advice::start_of;
 use crate::cursor::Cursor;
 use crate::faults::{EdiCode, EdiFault, Kind};
 use crate::message::Message;
-use crate::pieces::skip_blanks;
+use crate::pieces::{is_blank, is_ordinary_letter, skip_blanks};
 use crate::segment_text::SegmentText;
 
 /// The interchange's header, the message's, and what is behind them.
@@ -108,8 +108,15 @@ fn behind_ordinary<const ANY_BLANKS: bool>(from: Place<'_>) -> Place<'_>
     Place { left, number }
 }
 
+/// Whether a byte behind a blank may be before an ordinary segment, or begin one.
+#[inline(always)]
+fn may_follow(byte: u8) -> bool {
+    is_blank(byte) || is_ordinary_letter(byte)
+}
+
 /// The place behind the ordinary segments that are next: behind those on lines that end with LF, or
-/// with nothing, and then those on lines that end with CR LF.
+/// with nothing, or, where the next one is behind other blanks, behind those that are behind any.
+/// The loops are entered only where the next segment may be ordinary by how it begins.
 #[inline(always)]
 fn behind_lines(from: Place<'_>) -> Place<'_>
     requires { from.number + length from.left.rest.now < 2 ^ 64 }
@@ -124,10 +131,13 @@ fn behind_lines(from: Place<'_>) -> Place<'_>
         ≤ from.entry.number + length from.entry.left.rest.now }
     ensures least { from.entry.number ≤ result.number }
 {
-    let place = behind_ordinary::<false>(from);
-    match place.left.rest {
-        [b'\r', ..] => behind_ordinary::<true>(place),
-        _ => place,
+    match from.left.rest {
+        [b'\n', second, ..] if is_ordinary_letter(*second) => behind_ordinary::<false>(from),
+        [first, second, ..] if is_blank(*first) && may_follow(*second) => {
+            behind_ordinary::<true>(from)
+        }
+        [first, ..] if is_ordinary_letter(*first) => behind_ordinary::<false>(from),
+        _ => from,
     }
 }
 

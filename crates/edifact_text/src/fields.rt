@@ -12,7 +12,7 @@ use crate::raw::Raw;
 use crate::service::Service;
 use std::simd::prelude::*;
 
-/// The byte is a digit. No digit is a service character.
+/// The byte is a digit. No digit separates, ends or releases.
 #[inline(always)]
 fn is_digit(byte: u8) -> bool
     ensures { result ≡ is_digit byte }

@@ -97,23 +97,58 @@ fn place_in_vector(bytes: &[u8], byte: u8) -> usize
     }
 }
 
-/// How many bytes in front neither cut nor release, where those end within 32 bytes.
+/// How many of the first 32 bytes are before one that cuts or releases: 32 where none does.
+#[inline(always)]
+fn quiet_in_vector(bytes: &[u8], release: Option<u8>, separator: u8) -> usize
+    requires { 32 ≤ length bytes.now }
+    ensures quiet { end_from release separator false bytes.now ≡ option_map
+        (λ n. result + n) (end_from release separator false (drop result bytes.now)) }
+    ensures within { result ≤ 32 }
+{
+    let other = match release {
+        Some(other) => other,
+        None => separator,
+    };
+    place_in_vector(bytes, separator).min(place_in_vector(bytes, other))
+}
+
+/// How many bytes in front neither cut nor release, where that is sure of the first 32, and they end
+/// within the 32 behind these. Out of line, so that the look at the first 32 takes no more than it
+/// must.
+#[cold]
+#[inline(never)]
+fn second_length(bytes: &[u8], release: Option<u8>, separator: u8) -> Option<usize>
+    requires { end_from release separator false bytes.now ≡ option_map
+        (λ k. 32 + k) (end_from release separator false (drop 32 bytes.now)) }
+    ensures quiet { IfSome result (λ n. end_from release separator false bytes.now ≡ option_map
+        (λ k. n + k) (end_from release separator false (drop n bytes.now))) }
+    ensures within { IfSome result (λ n. n < length bytes.now) }
+    ensures near { IfSome result (λ n. n < 64) }
+{
+    if bytes.len() < 64 {
+        return None;
+    }
+    let (_, rest) = bytes.split_at(32);
+    let behind = quiet_in_vector(rest, release, separator);
+    if behind < 32 { Some(32 + behind) } else { None }
+}
+
+/// How many bytes in front neither cut nor release, where those end within 64 bytes.
 #[inline(always)]
 fn near_length(bytes: &[u8], release: Option<u8>, separator: u8) -> Option<usize>
     ensures quiet { IfSome result (λ n. end_from release separator false bytes.now ≡ option_map
         (λ k. n + k) (end_from release separator false (drop n bytes.now))) }
     ensures within { IfSome result (λ n. n < length bytes.now) }
-    ensures near { IfSome result (λ n. n < 32) }
+    ensures near { IfSome result (λ n. n < 64) }
 {
     if bytes.len() < 32 {
         return None;
     }
-    let other = match release {
-        Some(other) => other,
-        None => separator,
-    };
-    let at = place_in_vector(bytes, separator).min(place_in_vector(bytes, other));
-    if at < 32 { Some(at) } else { None }
+    let at = quiet_in_vector(bytes, release, separator);
+    if at < 32 {
+        return Some(at);
+    }
+    second_length(bytes, release, separator)
 }
 
 /// The index of the first separator that cuts, where it may be far off. Only from a release
@@ -205,7 +240,7 @@ pub(crate) fn near_cut(bytes: &[u8], release: Option<u8>, separator: u8) -> Opti
     ensures first { IfSome result (λ p. pieces release separator bytes.now
         ≡ p.0.now ∷ pieces release separator p.1.now) }
     ensures len { IfSome result (λ p. length p.0.now + 1 + length p.1.now ≡ length bytes.now) }
-    ensures near { IfSome result (λ p. length p.0.now < 32) }
+    ensures near { IfSome result (λ p. length p.0.now < 64) }
 {
     let end = near_length(bytes, release, separator)?;
     if bytes[end] != separator {
@@ -278,7 +313,7 @@ pub(crate) fn skip_blanks(bytes: &[u8]) -> &[u8]
 
 /// A letter with which ordinary segments begin: a capital letter that begins no trailer.
 #[inline(always)]
-fn is_ordinary_letter(byte: u8) -> bool
+pub(crate) fn is_ordinary_letter(byte: u8) -> bool
     ensures { result ≡ is_ordinary_letter byte }
 {
     byte.is_ascii_uppercase() && byte != b'U'
@@ -298,7 +333,7 @@ pub(crate) fn ordinary_text(bytes: &[u8], any_blanks: bool) -> Option<&[u8]>
     }
     match bytes {
         [b'\n', first, ..] if is_ordinary_letter(*first) => Some(&bytes[1..]),
-        [first, _, ..] if is_ordinary_letter(*first) => Some(bytes),
+        [first, ..] if is_ordinary_letter(*first) => Some(bytes),
         _ => None,
     }
 }

@@ -1,13 +1,11 @@
-use Rattle.std.proofs.Common.{◌≡◌, refl, arith}
-use Rattle.edifact_text.proofs.FarLemmas.{other_of, up_to_near}
+use Rattle.std.proofs.Common.{◌≡◌, ◌+◌, drop, subst, option_map, false, arith}
+use Rattle.edifact_text.specs.Pieces.{end_from}
 use Rattle.edifact_text.proofs.pieces.near_length.Goals as goal
-use Rattle.edifact_text.proofs.pieces.near_length.Goals.{in-Some, in-None}
 
-pub returns-then-at-lt32-clause-quiet : goal.returns-then-at-lt32-clause-quiet
-returns-then-at-lt32-clause-quiet c =
-    let other : c.match-release.other ≡ other_of c.args.release c.args.separator = elim c.match-release.branch [
-      | in-Some w ↦ rw (w.in-Some.is, w.other-is) refl
-      | in-None w ↦ rw (w.in-None.is, w.other-is) refl
-    ] in
-    up_to_near c.args.release c.args.separator c.match-release.other c.min-at.result c.args.bytes.now other c.if-bytes-lt32.false c.if-at-lt32.true
-    (omega (arith, c.min-at.ensures, c.place_in_vector.ensures)) (omega (arith, c.min-at.ensures, c.place_in_vector-2.ensures))
+pub second_length-requires : goal.second_length-requires
+second_length-requires c =
+    let r = c.args.release in
+    let sep = c.args.separator in
+    let xs = c.args.bytes.now in
+    let all : c.quiet_in_vector-at.result ≡ 32 = omega (arith, c.quiet_in_vector-at.ensures.within, c.if-at-lt32.false) in
+    subst (λ n. end_from r sep false xs ≡ option_map (λ k. n + k) (end_from r sep false (drop n xs))) all c.quiet_in_vector-at.ensures.quiet
