@@ -1,6 +1,5 @@
 -- Where the line in parts leaves no doubt of a draught, neither do its numbers in units.
-use Rattle.std.proofs.Common.{Bool, true, false, ◌≡◌, ◌*◌, ◌^◌, ◌≤◌, ℤ, pos, neg_ℤ, negsuc, ◌+ℤ◌, ◌-ℤ◌, ◌*ℤ◌, ◌≤ℤ◌, unsigned_abs, refl, arith}
-use Rattle.std.specs.Int.{int_shr}
+use Rattle.std.proofs.Common.{Bool, true, false, ◌≡◌, ◌*◌, ◌^◌, ◌≤◌, ℤ, pos, neg_ℤ, ◌+ℤ◌, ◌-ℤ◌, ◌*ℤ◌, ◌≤ℤ◌, unsigned_abs, refl, arith}
 use Rattle.units_core.proofs.Signed.{signed_arith, one_part, distributes, product_within}
 use Rattle.units_core.proofs.Order.{cancel_order, times_order}
 use Rattle.units_core.proofs.Ring.{diff_of, diff_same, differences}
@@ -51,11 +50,6 @@ scaled_is_sure a s b t d x q scaled hx hq above below =
       above = cancel_order (pos 2000002) r m one (rw same (low_end (p *ℤ d) e f d scaled.divisor_low low eu fu));
       below = cancel_order (r +ℤ pos 2000002) d m one (rw (distributes r (pos 2000002) m, same) (high_end (p *ℤ d) e f d scaled.divisor_low apart eu fu));
     }
-
--- a shift gives so many whole millimetres at most
-pub whole_within : (z : ℤ) → unsigned_abs z ≤ 2 ^ 59 → unsigned_abs (int_shr z 40) ≤ 10 ^ 6
-whole_within (pos n) h = omega arith
-whole_within (negsuc n) h = omega arith
 
 -- a draught is sure on a known line alone: where start and slope are 0, nothing is left over
 -- whole millimetres

@@ -353,13 +353,28 @@ impl DraughtLine {
         Some(draught)
     }
 
+    /// The draught in mm at `x`, rounded down, as [`DraughtLine::draught_down`] gives it, where 64
+    /// bits decide it: as [`DraughtLine::read_in_parts`] does where the line is known in parts of a
+    /// millimetre, and where it isn't, as a steep one, as [`DraughtLine::decided`] does.
+    #[inline(always)]
+    pub fn read(&self, x: Mm) -> Option<i64>
+        ensures { IfSome result (λ q. q
+            ≡ floor_of (draught_at (water self.now.of) (load self.now.of) self.now.of.lbp x)) }
+    {
+        if self.leading.is_known {
+            self.read_in_parts(x)
+        } else {
+            self.decided(x)
+        }
+    }
+
     /// The draught in mm at `x`, which is measured forward from the after perpendicular, rounded
     /// down: the floor of [`draught`].
     pub fn draught_down(&self, x: Mm) -> i128
         ensures { result
             ≡ floor_of (draught_at (water self.now.of) (load self.now.of) self.now.of.lbp x) }
     {
-        match self.read_in_parts(x) {
+        match self.read(x) {
             Some(draught) => i128::from(draught),
             None => floor(draught(&self.of, i128::from(x.get()))),
         }

@@ -20,6 +20,6 @@ pub use faults::{Key, ProfileFault};
 pub use fills::TankFill;
 pub use laws::{one_array, one_profile};
 pub use profiles::{Profile, ProfileBytes};
-pub use sections::{AreaLine, Sections, StationWeight};
+pub use sections::{AREA_PARTS_LOG, AreaLine, Sections, StationWeight};
 pub use ship_tables::{Curves, File, Hydro};
 pub use units_core::{Frame, Frames};

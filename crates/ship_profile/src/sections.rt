@@ -12,8 +12,11 @@ use std::alloc::Global;
 use std::marker::Model;
 use units_core::Mm;
 
-/// In how many parts of a cm2 an area is read on a line.
-const PARTS: i64 = 1 << 36;
+/// In how many parts of a cm2 an area is read on a line, as a power of 2.
+pub const AREA_PARTS_LOG: u32 = 36;
+
+/// In how many parts that is.
+const PARTS: i64 = 1 << AREA_PARTS_LOG;
 
 /// The immersed area at a station over the draughts between two rows of the Bonjean table, a
 /// straight line.

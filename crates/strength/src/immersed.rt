@@ -125,7 +125,7 @@ pub fn area_near<'a>(
         (floor_of (draught_at (water line.now.of) (load line.now.of) line.now.of.lbp x)) }
     ensures within { IfSome result (λ a. unsigned_abs a ≤ 10 ^ 8) }
 {
-    match line.read_in_parts(x) {
+    match line.read(x) {
         Some(draught) => area_in_rows(profile, number, draught, row),
         None => area_exactly(profile, line, number, x),
     }
