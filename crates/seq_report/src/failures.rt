@@ -11,6 +11,7 @@ ghost use Rattle.run_inputs.specs.Refusals.{TellsMemory, is_refusal, is_write};
 ghost use Rattle.seq_report.specs.Refusal.{Outcome, outcome_of};
 
 use crate::cases::CaseView;
+use crate::chunks::pass_line;
 use crate::jobs::Lines;
 use crate::plans::Options;
 use crate::prepared::{Prepared, prepare};
@@ -116,20 +117,19 @@ pub fn first_fail_from(
     first_fail_behind(profile, arrival, sequence, 0, total)
 }
 
-/// As [`first_fail_from`], for whoever knows that all lines before the line `start` pass, and has
-/// everything that is aboard there added up: only the lines from there on are looked at.
+/// As [`first_fail_from`], for whoever knows that all lines before the line `start` pass: the steps
+/// before it are added up, and only the lines from there on are judged.
 pub fn first_fail_behind(
     profile: &Profile,
     arrival: &Arrival,
     sequence: &Sequence,
     start: u32,
-    sum: &Totals,
+    total: &Totals,
 ) -> Option<(u32, Criterion)>
     requires arrived { HasArrived profile.now arrival.now }
     requires made { IsMade profile.now arrival.now sequence.now }
+    requires total { IsArrivalTotal profile.now arrival.now total.now }
     requires inside { start ≤ length sequence.now.ops }
-    requires sum { values sum.now ≡ sum_in (case_on profile.now arrival.now sequence.now) start }
-    requires room { size_of sum.now + parts_behind sequence.now.steps start ≤ most_parts }
     requires passed { ArePassed (case_on profile.now arrival.now sequence.now) start }
     ensures { result ≡ (outcome_in (case_on profile.now arrival.now sequence.now)).summary.first }
 {
@@ -140,23 +140,40 @@ pub fn first_fail_behind(
         arrival,
         sequence,
     };
-    first_of_rest(case, start, sum)
+    first_of_rest(case, start, total)
+}
+
+/// Everything that is aboard at line `k` of a case that is ready for a report, added up step by
+/// step from what is aboard on arrival.
+fn sum_at(case: CaseView<'_>, k: u32, total: &Totals) -> Totals
+    requires ready { IsReady (case_in_view case) }
+    requires there { k ≤ length case.sequence.now.ops }
+    requires sum { values total.now ≡ sum_in (case_in_view case) 0 }
+    requires room { size_of total.now + parts_behind case.sequence.now.steps 0 ≤ most_parts }
+    ensures sum { values result ≡ sum_in (case_in_view case.entry) k }
+    ensures room { size_of result + parts_behind case.entry.sequence.now.steps k ≤ most_parts }
+{
+    let mut sum = *total;
+    for line in 0..k {
+        pass_line(case, line, &mut sum);
+    }
+    sum
 }
 
 /// The first step that fails of a case that is ready for a report, with its first criterion, where
 /// all lines before `start` pass.
-fn first_of_rest(case: CaseView<'_>, start: u32, sum: &Totals) -> Option<(u32, Criterion)>
+fn first_of_rest(case: CaseView<'_>, start: u32, total: &Totals) -> Option<(u32, Criterion)>
     requires ready { IsReady (case_in_view case) }
     requires inside { start ≤ length case.sequence.now.ops }
-    requires sum { values sum.now ≡ sum_in (case_in_view case) start }
-    requires room { size_of sum.now + parts_behind case.sequence.now.steps start ≤ most_parts }
+    requires sum { values total.now ≡ sum_in (case_in_view case) 0 }
+    requires room { size_of total.now + parts_behind case.sequence.now.steps 0 ≤ most_parts }
     requires passed { ArePassed (case_in_view case) start }
     ensures { result ≡ (outcome_in (case_in_view case.entry)).summary.first }
 {
     let rest = Chunk {
         start,
         end: case.lines(),
-        first: *sum,
+        first: sum_at(case, start, total),
     };
     first_failing(case, &Hull::new(case.profile), &rest)
 }

@@ -1,5 +1,5 @@
 -- Conditions that pass in one list pass in another that begins alike.
-use Rattle.std.proofs.Common.{◌≡◌, ◌∙◌, ℕ, ◌+◌, ◌<◌, ◌≤◌, List, [], ◌∷◌, ◌++◌, length, take, take-take, get_or, Option, refl, sym, ap, arith}
+use Rattle.std.proofs.Common.{◌≡◌, ◌∙◌, ℕ, ◌+◌, ◌<◌, ◌≤◌, List, [], ◌∷◌, ◌++◌, length, take, take-take, get_or, Option, sym, ap, arith}
 use Rattle.std.proofs.lemmas.List.{take_more}
 use Rattle.criteria.specs.declared.criterion.Criterion.{Criterion}
 use Rattle.lift_sequence.specs.declared.operations.Op.{Op}

@@ -34,81 +34,106 @@ module _ (ys : List Kept) (place : ℕ) where
       record {
         olds = olds;
         long = were.long;
+        set_to = place / 4 * 4 + 4;
         ahead = omega arith;
+        low = λ l. omega (arith, l);
+        high = λ h. refl;
         are = sets ∙ ap (λ l. set l (place / 4) (get_or (fours ys) (place / 4) none_kept)) (were.are ∙ ap fours before) ∙ mixed_set place ys olds (get_or (fours ys) (place / 4) none_kept) were.long refl;
         near = subst (λ w. AreNear w (drop (place + 1) ops) (drop (place + 1) olds) (drop (place + 1) ys)) (sym in_cell) were.near.behind;
       }
 
   pub goes_on : (cell : Option Cell) (ops : List Op) (op : Op) (done next : ℕ) (now after : List Kept) → length ops ≡ length ys → place < length ys → get_or ops place op ≡ op
-      → AreMixed cell place done ops ys now → (place < done → (next ≡ done) × (after ≡ now)) → (done ≤ place → moves cell op ≡ false → (next ≡ place + 1) × (after ≡ now))
-      → (done ≤ place → moves cell op ≡ true → (next ≡ place / 4 * 4 + 4) × (after ≡ set now (place / 4) (get_or (fours ys) (place / 4) none_kept)))
+      → AreMixed cell place done ops ys now → (moves cell op ≡ false → (next ≡ done) × (after ≡ now)) → (moves cell op ≡ true → place < done → (next ≡ done) × (after ≡ now))
+      → (moves cell op ≡ true → done ≤ place → (next ≡ place / 4 * 4 + 4) × (after ≡ set now (place / 4) (get_or (fours ys) (place / 4) none_kept)))
       → AreMixed (next_cell cell op) (place + 1) next ops ys after
-  goes_on cell ops op done next now after same_ops within at mixed inside still sets =
-      dite (dec_le (suc place) done)
-      (λ low. let n = (inside (omega (arith, low))).0 in
-      let a = (inside (omega (arith, low))).1 in
-      record {
-        olds = olds;
-        long = mixed.long;
-        ahead = omega (arith, n, low);
-        are = a ∙ mixed.are ∙ ap (λ m. fours (take m ys ++ drop m olds)) (sym n);
-        near = parts.1;
-      })
-      (λ not. let high = lt_of_not-le not in by_cases (omega (arith, high)) (moves cell op) refl) where
-        olds : List Kept
-        olds = mixed.olds
+  goes_on cell ops op done next now after same_ops within at mixed still inside sets = by_cases (moves cell op) refl where
+    olds : List Kept
+    olds = mixed.olds
 
-        x : Kept
-        x = get_or olds place none_kept
+    x : Kept
+    x = get_or olds place none_kept
 
-        y : Kept
-        y = get_or ys place none_kept
+    y : Kept
+    y = get_or ys place none_kept
 
-        front_old : drop place olds ≡ x ∷ drop (place + 1) olds
-        front_old = drop_more olds place none_kept (omega (arith, mixed.long, within))
+    front_old : drop place olds ≡ x ∷ drop (place + 1) olds
+    front_old = drop_more olds place none_kept (omega (arith, mixed.long, within))
 
-        front_new : drop place ys ≡ y ∷ drop (place + 1) ys
-        front_new = drop_more ys place none_kept within
+    front_new : drop place ys ≡ y ∷ drop (place + 1) ys
+    front_new = drop_more ys place none_kept within
 
-        front_ops : drop place ops ≡ op ∷ drop (place + 1) ops
-        front_ops = drop_more ops place op (omega (arith, same_ops, within)) ∙ ap (λ o. o ∷ drop (place + 1) ops) at
+    front_ops : drop place ops ≡ op ∷ drop (place + 1) ops
+    front_ops = drop_more ops place op (omega (arith, same_ops, within)) ∙ ap (λ o. o ∷ drop (place + 1) ops) at
 
-        parts : (moves cell op ≡ false → x ≡ y) × AreNear (next_cell cell op) (drop (place + 1) ops) (drop (place + 1) olds) (drop (place + 1) ys)
-        parts = subst (λ zs. AreNear cell zs (x ∷ drop (place + 1) olds) (y ∷ drop (place + 1) ys)) front_ops
-            (subst (λ zs. AreNear cell (drop place ops) zs (y ∷ drop (place + 1) ys)) front_old
-            (subst (λ zs. AreNear cell (drop place ops) (drop place olds) zs) front_new mixed.near))
+    parts : (moves cell op ≡ false → x ≡ y) × AreNear (next_cell cell op) (drop (place + 1) ops) (drop (place + 1) olds) (drop (place + 1) ys)
+    parts = subst (λ zs. AreNear cell zs (x ∷ drop (place + 1) olds) (y ∷ drop (place + 1) ys)) front_ops
+        (subst (λ zs. AreNear cell (drop place ops) zs (y ∷ drop (place + 1) ys)) front_old
+        (subst (λ zs. AreNear cell (drop place ops) (drop place olds) zs) front_new mixed.near))
 
-        by_cases : done ≤ place → (b : Bool) → moves cell op ≡ b → AreMixed (next_cell cell op) (place + 1) next ops ys after
-        by_cases le true e =
-            let n = (sets le e).0 in
-            let a = (sets le e).1 in
-            let here : done ≡ place = omega (arith, le, mixed.ahead) in
-            record {
-              olds = olds;
-              long = mixed.long;
-              ahead = omega (arith, n);
-              are = a ∙ ap (λ l. set l (place / 4) (get_or (fours ys) (place / 4) none_kept)) (mixed.are ∙ ap (λ m. fours (take m ys ++ drop m olds)) here)
-                  ∙ mixed_set place ys olds (get_or (fours ys) (place / 4) none_kept) mixed.long refl ∙ ap (λ m. fours (take m ys ++ drop m olds)) (sym n);
-              near = parts.1;
-            }
-        by_cases le false e =
-            let n = (still le e).0 in
-            let a = (still le e).1 in
-            let here : done ≡ place = omega (arith, le, mixed.ahead) in
-            record {
-              olds = olds;
-              long = mixed.long;
-              ahead = omega (arith, n);
-              are = a ∙ mixed.are ∙ ap (λ m. fours (take m ys ++ drop m olds)) here ∙ ap fours (mixed_still place ys olds mixed.long (parts.0 e))
-                  ∙ ap (λ m. fours (take m ys ++ drop m olds)) (sym n);
-              near = parts.1;
-            }
+    -- the four that the step is in were set before
+    past : place < done → (next ≡ done) × (after ≡ now) → AreMixed (next_cell cell op) (place + 1) next ops ys after
+    past low same =
+        let n = same.0 in
+        let there : mixed.set_to ≡ next = mixed.high (omega (arith, low)) ∙ sym n in
+        record {
+          olds = olds;
+          long = mixed.long;
+          set_to = next;
+          ahead = omega (arith, n, low);
+          low = λ l. omega (arith, l, n, low);
+          high = λ h. refl;
+          are = same.1 ∙ mixed.are ∙ ap (λ m. fours (take m ys ++ drop m olds)) there;
+          near = parts.1;
+        }
+
+    -- it is the first behind those that were set
+    here : done ≤ place → mixed.set_to ≡ place
+    here high = mixed.low high
+
+    by_cases : (b : Bool) → moves cell op ≡ b → AreMixed (next_cell cell op) (place + 1) next ops ys after
+    by_cases true e =
+        dite (dec_le (suc place) done)
+        (λ less. let low : place < done = omega (arith, less) in past low (inside e low))
+        (λ not.
+        let more = lt_of_not-le not in
+        let high : done ≤ place = omega (arith, more) in
+        let n = (sets e high).0 in
+        let a = (sets e high).1 in
+        record {
+          olds = olds;
+          long = mixed.long;
+          set_to = next;
+          ahead = omega (arith, n);
+          low = λ l. omega (arith, l, n);
+          high = λ h. refl;
+          are = a ∙ ap (λ l. set l (place / 4) (get_or (fours ys) (place / 4) none_kept)) (mixed.are ∙ ap (λ m. fours (take m ys ++ drop m olds)) (here high))
+              ∙ mixed_set place ys olds (get_or (fours ys) (place / 4) none_kept) mixed.long refl ∙ ap (λ m. fours (take m ys ++ drop m olds)) (sym n);
+          near = parts.1;
+        })
+    by_cases false e =
+        dite (dec_le (suc place) done)
+        (λ less. past (omega (arith, less)) (still e))
+        (λ not.
+        let more = lt_of_not-le not in
+        let high : done ≤ place = omega (arith, more) in
+        let n = (still e).0 in
+        record {
+          olds = olds;
+          long = mixed.long;
+          set_to = place + 1;
+          ahead = omega arith;
+          low = λ l. refl;
+          high = λ h. omega (arith, h, n, high);
+          are = (still e).1 ∙ mixed.are ∙ ap (λ m. fours (take m ys ++ drop m olds)) (here high) ∙ ap fours (mixed_still place ys olds mixed.long (parts.0 e));
+          near = parts.1;
+        })
 
 -- all were looked at
 pub whole : (cell : Option Cell) (ops : List Op) (ys now : List Kept) (behind done : ℕ) → length ys ≤ behind → AreMixed cell behind done ops ys now → now ≡ fours ys
 whole cell ops ys now behind done h mixed =
     let olds : List Kept = mixed.olds in
-    mixed.are ∙ ap fours ((λ i. take_all done ys (omega (arith, h, mixed.ahead)) i ++ drop_all done olds (omega (arith, h, mixed.ahead, mixed.long)) i) ∙ append-nil ys)
+    let to : ℕ = mixed.set_to in
+    mixed.are ∙ ap fours ((λ i. take_all to ys (omega (arith, h, mixed.ahead)) i ++ drop_all to olds (omega (arith, h, mixed.ahead, mixed.long)) i) ∙ append-nil ys)
 
 -- sums that were set, or none
 pub set_small : (ys : List Kept) (place : ℕ) (now after : List Kept) → AreOfFour now → AreSmall ys → after ≡ set now place (get_or (fours ys) place none_kept) → AreOfFour after
@@ -117,17 +142,17 @@ set_small ys place now after h k e = subst AreOfFour (sym e) (of_four_set now pl
 pub set_long : (now after : List Kept) (y : Kept) (place : ℕ) → after ≡ set now place y → length after ≡ length now
 set_long now after y place e = ap length e ∙ length-set now place y
 
-module _ (ys : List Kept) (place done next : ℕ) (now after : List Kept) (moved : Bool) (inside : place < done → (next ≡ done) × (after ≡ now))
-    (still : done ≤ place → moved ≡ false → (next ≡ place + 1) × (after ≡ now))
-    (sets : done ≤ place → moved ≡ true → (next ≡ place / 4 * 4 + 4) × (after ≡ set now (place / 4) (get_or (fours ys) (place / 4) none_kept))) where
+module _ (ys : List Kept) (place done next : ℕ) (now after : List Kept) (moved : Bool) (still : moved ≡ false → (next ≡ done) × (after ≡ now))
+    (inside : moved ≡ true → place < done → (next ≡ done) × (after ≡ now))
+    (sets : moved ≡ true → done ≤ place → (next ≡ place / 4 * 4 + 4) × (after ≡ set now (place / 4) (get_or (fours ys) (place / 4) none_kept))) where
   by_case : (P : List Kept → Type 0) → P now → P (set now (place / 4) (get_or (fours ys) (place / 4) none_kept)) → P after
-  by_case P same set_there =
-      dite (dec_le (suc place) done)
-      (λ low. subst P (sym ((inside (omega (arith, low))).1)) same)
-      (λ not. let high = lt_of_not-le not in by_moved (omega (arith, high)) moved refl) where
-        by_moved : done ≤ place → (b : Bool) → moved ≡ b → P after
-        by_moved le true e = subst P (sym ((sets le e).1)) set_there
-        by_moved le false e = subst P (sym ((still le e).1)) same
+  by_case P same set_there = by_moved moved refl where
+    by_moved : (b : Bool) → moved ≡ b → P after
+    by_moved true e =
+        dite (dec_le (suc place) done)
+        (λ low. subst P (sym ((inside e (omega (arith, low))).1)) same)
+        (λ not. let high = lt_of_not-le not in subst P (sym ((sets e (omega (arith, high))).1)) set_there)
+    by_moved false e = subst P (sym ((still e).1)) same
 
   pub renewed_small : AreOfFour now → AreSmall ys → AreOfFour after
   renewed_small h k = by_case AreOfFour h (of_four_set now (place / 4) (get_or (fours ys) (place / 4) none_kept) h (of_four_at (fours ys) (place / 4) (of_four ys k)))

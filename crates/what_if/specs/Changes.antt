@@ -45,14 +45,17 @@ pub record WereNear (place : ℕ) (ops : List Op) (changes sums : List Kept) : T
   pub are : sums ≡ fours olds
   pub near : IsNear (loaded_at ops place) place ops olds changes
 
--- the same where the first `done` changes are as they are now; those from the place `behind` on
--- weren't looked at
+-- the same where the first changes are as they are now: up to `behind`, from which on they weren't
+-- looked at, or up to `done`, whichever is more
 pub record AreMixed (cell : Option Cell) (behind done : ℕ) (ops : List Op)
     (changes sums : List Kept) : Type 0 where
   pub olds : List Kept
   pub long : length olds ≡ length changes
-  pub ahead : behind ≤ done
-  pub are : sums ≡ fours (take done changes ++ drop done olds)
+  pub set_to : ℕ
+  pub ahead : behind ≤ set_to
+  pub low : done ≤ behind → set_to ≡ behind
+  pub high : behind ≤ done → set_to ≡ done
+  pub are : sums ≡ fours (take set_to changes ++ drop set_to olds)
   pub near : AreNear cell (drop behind ops) (drop behind olds) (drop behind changes)
 
 -- the sums of fours of changes before two of them were exchanged

@@ -5,10 +5,8 @@ ghost use Rattle.std.specs.List.{AllByRecursion};
 ghost use Rattle.prefix_scan.specs.Cut.{Divides};
 ghost use Rattle.lift_sequence.specs.Arrival.{TellsAt};
 ghost use Rattle.run_inputs.specs.Readings.{HasArrived};
-ghost use Rattle.prefix_scan.specs.Laws.{most_parts};
-ghost use Rattle.moment_sums.specs.Kept.{size_of, values};
 ghost use Rattle.seq_report.specs.Cases.{IsArrivalTotal};
-ghost use Rattle.seq_report.specs.Chunks.{AreFirstSums, parts_behind, sum_to};
+ghost use Rattle.seq_report.specs.Chunks.{AreFirstSums};
 ghost use Rattle.run_inputs.specs.Refusals.{IsOfRun, is_write, is_write_fault};
 ghost use Rattle.what_if.specs.Bases.{IsBase, Pass, list_fault, report_on, steps_on};
 
@@ -124,24 +122,19 @@ impl Ground {
         first_fail_from(&self.profile, &self.arrival, sequence, &self.total)
     }
 
-    /// The same of a sequence whose first `start` conditions pass, by the sum of what is aboard
-    /// after `start` steps.
+    /// The same of a sequence whose first `start` conditions pass, which aren't judged again.
     pub(crate) fn first_fail_behind(
         &self,
         sequence: &Sequence,
         start: u32,
-        sum: &Totals,
     ) -> Option<(u32, Criterion)>
         requires legal { list_fault self.now sequence.now.ops ≡ None }
         requires steps { sequence.now.steps ≡ steps_on self.now sequence.now.ops }
         requires inside { start ≤ length sequence.now.ops }
-        requires sum { values sum.now ≡ sum_to self.now.ship.ship.frames self.now.arrival.bodies
-            sequence.now.steps start }
-        requires room { size_of sum.now + parts_behind sequence.now.steps start ≤ most_parts }
         requires pass { Pass self.now sequence.now.ops start }
         ensures { result ≡ (report_on self.now sequence.now.ops).summary.first }
     {
-        first_fail_behind(&self.profile, &self.arrival, sequence, start, sum)
+        first_fail_behind(&self.profile, &self.arrival, sequence, start, &self.total)
     }
 
     /// Writes the report on a sequence from here to a sink that has not failed, in these chunks,

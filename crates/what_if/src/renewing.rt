@@ -17,8 +17,41 @@ fn end_of_four(place: usize) -> usize
     place / 4 * 4 + 4
 }
 
-/// Sets what the step at a place changes, if it is to be set and its four weren't set before. The
-/// sums of all steps below `done` are set; returns below which step they are then.
+/// Sets what the four steps change together one of which is at a place, unless they were set
+/// before: the sums of all steps below `done` are set. Returns below which step they are then. Out
+/// of line: most steps behind a load don't move its container, and the loop of [`renew`] is to take
+/// no more for these than to see that.
+#[inline(never)]
+fn set_moved(
+    sums: &mut Fours,
+    sequence: &Sequence,
+    frames: &Frames,
+    place: usize,
+    done: usize,
+) -> usize
+    requires within { place < length sequence.now.ops }
+    requires steps { length sequence.now.steps ≡ length sequence.now.ops }
+    requires few { length sequence.now.ops ≤ 120000 }
+    requires long { length sums.old.values ≡ length sequence.now.ops / 4 }
+    requires small { AreOfFour sums.old.values }
+    ensures inside { place < done → (result ≡ done) × (sums.new.values ≡ sums.old.values) }
+    ensures set { done ≤ place → (result ≡ place / 4 * 4 + 4)
+        × (sums.new.values ≡ slice_set sums.old.values (place / 4) (slice_index_or
+        (fours (map (change_of frames.now) sequence.now.steps)) (place / 4) none_kept)) }
+    ensures grows { sums.old.joins ≤ sums.new.joins }
+    ensures cost { (levels : ℕ) → length sequence.now.ops ≤ 2 ^ levels
+        → sums.new.joins ≤ sums.old.joins + (levels + 1) }
+{
+    if place < done {
+        return done;
+    }
+    sums.set(sequence, frames, place);
+    end_of_four(place)
+}
+
+/// Sets what the step at a place changes, if it is moved and its four weren't set before. The sums
+/// of all steps below `done` are set; returns below which step they are then.
+#[inline(always)]
 fn renew_step(
     sums: &mut Fours,
     sequence: &Sequence,
@@ -32,24 +65,21 @@ fn renew_step(
     requires few { length sequence.now.ops ≤ 120000 }
     requires long { length sums.old.values ≡ length sequence.now.ops / 4 }
     requires small { AreOfFour sums.old.values }
-    ensures inside { place < done → (result ≡ done) × (sums.new.values ≡ sums.old.values) }
-    ensures still { done ≤ place → moved ≡ false
-        → (result ≡ place + 1) × (sums.new.values ≡ sums.old.values) }
-    ensures set { done ≤ place → moved ≡ true → (result ≡ place / 4 * 4 + 4)
+    ensures still { moved ≡ false → (result ≡ done) × (sums.new.values ≡ sums.old.values) }
+    ensures inside { moved ≡ true → place < done
+        → (result ≡ done) × (sums.new.values ≡ sums.old.values) }
+    ensures set { moved ≡ true → done ≤ place → (result ≡ place / 4 * 4 + 4)
         × (sums.new.values ≡ slice_set sums.old.values (place / 4) (slice_index_or
         (fours (map (change_of frames.now) sequence.now.steps)) (place / 4) none_kept)) }
     ensures grows { sums.old.joins ≤ sums.new.joins }
     ensures cost { (levels : ℕ) → length sequence.now.ops ≤ 2 ^ levels
         → sums.new.joins ≤ sums.old.joins + (if moved then 1 else 0) * (levels + 1) }
 {
-    if place < done {
-        return done;
+    if moved {
+        set_moved(sums, sequence, frames, place, done)
+    } else {
+        done
     }
-    if !moved {
-        return place + 1;
-    }
-    sums.set(sequence, frames, place);
-    end_of_four(place)
 }
 
 /// Sets what the load at a place changes, and those steps behind it that move its container. The

@@ -173,11 +173,7 @@ impl SummedList {
         if passing > self.sequence.len() {
             return None;
         }
-        let frames = self.base.profile().frames();
-        let change = self.sums.peek(&self.sequence, frames, passing);
-        let sum = self.base.total().join(&change);
-        self.base
-            .first_fail_behind(&self.sequence, passing as u32, &sum)
+        self.base.first_fail_behind(&self.sequence, passing as u32)
     }
 
     /// The sum at the first line of each chunk of the report.

@@ -10,8 +10,8 @@ first_failing-requires-clause-chunk c =
     record {
       some = omega (arith, c.lines.ensures, c.requires.inside);
       inside = omega (arith, c.lines.ensures);
-      sum = c.requires.sum;
-      size = c.requires.room;
+      sum = c.sum_at.ensures.sum;
+      size = c.sum_at.ensures.room;
     }
 
 pub returns : goal.returns

@@ -59,9 +59,9 @@ loop-behind-preserved c =
     let next = c.renew_step-done.result in
     record {
       mixed = subst (λ w. AreMixed w (behind + 1) next ops ys after) (sym c.next_cell-cell.ensures)
-          (goes_on ys behind c.loop-behind.cell ops op done next now after (sym same) within at c.loop-behind.invariant.mixed step.inside (λ le e. step.still le (c.moves.ensures ∙ e)) (λ le e. step.set le (c.moves.ensures ∙ e)));
-      long = renewed_long ys behind done next now after c.moves.result step.inside step.still step.set ∙ c.loop-behind.invariant.long;
-      small = renewed_small ys behind done next now after c.moves.result step.inside step.still step.set c.loop-behind.invariant.small (small c.args.frames.now c.args.sequence.now.steps);
+          (goes_on ys behind c.loop-behind.cell ops op done next now after (sym same) within at c.loop-behind.invariant.mixed (λ e. step.still (c.moves.ensures ∙ e)) (λ e. step.inside (c.moves.ensures ∙ e)) (λ e. step.set (c.moves.ensures ∙ e)));
+      long = renewed_long ys behind done next now after c.moves.result step.still step.inside step.set ∙ c.loop-behind.invariant.long;
+      small = renewed_small ys behind done next now after c.moves.result step.still step.inside step.set c.loop-behind.invariant.small (small c.args.frames.now c.args.sequence.now.steps);
       grows = omega (arith, c.loop-behind.invariant.grows, step.grows);
       cost = λ k h.
           subst (λ w. c.renew_step-done.new.sums.joins + moves_in w (drop (behind + 1) ops) * (k + 1)

@@ -1,0 +1,21 @@
+use Rattle.std.proofs.Common.{refl, arith}
+use Rattle.seq_report.specs.Cases.{case_in_view}
+use Rattle.seq_report.specs.Chunks.{change_behind}
+use Rattle.seq_report.proofs.SumLemmas.{next_size, next_sum, parts_split}
+use Rattle.seq_report.proofs.failures.sum_at.Goals as goal
+
+pub pass_line-requires-clause-room : goal.pass_line-requires-clause-room
+pass_line-requires-clause-room c =
+    let split = parts_split (case_in_view c.args.case).sequence.steps c.loop-line.line in
+    omega (arith, split, c.loop-line.invariant.room)
+
+pub loop-line-preserved : goal.loop-line-preserved
+loop-line-preserved c =
+    let case = case_in_view c.args.case in
+    let ready = c.requires.ready in
+    let k = c.loop-line.line in
+    let change = change_behind case.profile.ship.frames case.sequence.steps k in
+    record {
+      sum = next_sum case ready k c.loop-line.sum change c.pass_line.new.sum c.loop-line.invariant.sum refl c.pass_line.ensures;
+      room = next_size case ready k c.loop-line.sum change c.pass_line.new.sum c.loop-line.invariant.room refl c.pass_line.ensures;
+    }
