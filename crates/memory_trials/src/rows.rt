@@ -6,15 +6,17 @@ use crate::desks::Publishing;
 use crate::free_calls::{Readers, are_free};
 use crate::reports::Report;
 use crate::sessions::{
-    Editing, Kind, LONG, edit_of, inputs, list_of, with_fillings, with_long_list,
+    Editing, Kind, LONG, Reading, edit_of, inputs, list_of, with_fillings, with_long_list,
 };
-use crate::texts::{FILLED_LINES, NO_STEPS, RESTOW, RESTOW_LINES, TWO_LINES, TWO_LOADS, filled};
+use crate::texts::{
+    FILLED_LINES, NO_STEPS, RESTOW, RESTOW_LINES, TWO_LINES, TWO_LOADS, filled, long_steps,
+};
 use crate::trials::Trial;
 use crate::watch::{Tally, watch};
 use crate::wrong_bodies::LeavesHalf;
 use box_ship::{LOAD_TO_STARBOARD, NO_MOVES, files};
 use lift_sequence::Op;
-use seq_report::RunFault;
+use seq_report::{Inputs, RunFault};
 use ship_profile::ProfileBytes;
 use std::alloc::Global;
 use std::io::Write;
@@ -213,6 +215,62 @@ fn swaps<R: AllocGlobal + Threads + Wait + Sync, W: Write>(
     )
 }
 
+/// A session that is read.
+fn reads<R: AllocGlobal + Threads + Wait + Sync, W: Write>(
+    rt: &R,
+    out: &mut W,
+    name: &str,
+    inputs: Inputs<'_>,
+    steps: u32,
+) -> bool {
+    tried(rt, out, name, Trial::Read(Reading { inputs, steps }))
+}
+
+/// The list of a session is opened at a desk.
+fn opens_long<R: AllocGlobal + Threads + Wait + Sync, W: Write>(
+    rt: &R,
+    out: &mut W,
+    session: &Session,
+    desk: &Desk,
+) -> Result<bool, RunFault>
+    requires { session.now.base ≡ desk.now.base }
+{
+    let (ticket, list) = match published(rt, desk, session) {
+        Ok(published) => published,
+        Err(fault) => return Err(fault),
+    };
+    let opened = Trial::Open(Publishing {
+        desk,
+        session,
+        early: &ticket,
+        list: &list,
+        second: &ticket,
+        short: &list,
+    });
+    Ok(tried(rt, out, "long list, opened", opened))
+}
+
+/// Sessions that are read and made, and a list that is opened, so long that room is asked for what
+/// searches keep of them.
+fn long_sessions<R: AllocGlobal + Threads + Wait + Sync, W: Write>(
+    rt: &R,
+    out: &mut W,
+    session: &Session,
+) -> Result<bool, RunFault> {
+    let steps = long_steps(rt.alloc(), LONG - 2)?;
+    let long = Inputs {
+        steps: Some(steps.as_bytes()),
+        ..inputs()
+    };
+    let mut right = reads(rt, out, "long list, read", long, LONG);
+    right &= tried(rt, out, "long list, made", Trial::MakeLong(session));
+    let made = with_long_list(rt.alloc(), session, LONG)?;
+    match desk_of(rt.alloc(), &made) {
+        Ok(desk) => Ok(right & opens_long(rt, out, &made, &desk)?),
+        Err(fault) => Err(fault),
+    }
+}
+
 /// Searches and edits of a long list, and an edit that makes a list so long that room is asked for
 /// what searches keep of it.
 fn long_lists<R: AllocGlobal + Threads + Wait + Sync, W: Write>(
@@ -235,12 +293,13 @@ fn sessions<R: AllocGlobal + Threads + Wait + Sync, W: Write>(
     out: &mut W,
     session: &mut Session,
 ) -> Result<bool, RunFault> {
-    let mut right = tried(rt, out, "session_edits, read", Trial::Read);
+    let mut right = reads(rt, out, "session_edits, read", inputs(), 2);
     right &= edits(rt, out, session, Kind::Remove)?;
     let mut longer = with_fillings(rt.alloc(), session)?;
     right &= edits(rt, out, &mut longer, Kind::Move)?;
     right &= edits(rt, out, &mut longer, Kind::MoveFilling)?;
     right &= long_lists(rt, out, session)?;
+    right &= long_sessions(rt, out, session)?;
     right &= undos(rt, out, session);
     Ok(right & swaps(rt, out, session))
 }

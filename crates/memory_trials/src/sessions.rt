@@ -3,7 +3,7 @@ use crate::texts::TWO_LOADS;
 use crate::trials::Told;
 use arrayvec::ArrayVec;
 use box_ship::{EMPTY_PLAN, files};
-use lift_sequence::Op;
+use lift_sequence::{Op, SeqCode};
 use seq_report::{Inputs, RunFault};
 use std::alloc::{AllocError, Global};
 use std::sync::Arc;
@@ -21,10 +21,17 @@ pub fn inputs() -> Inputs<'static> {
     }
 }
 
-/// Reads a session.
-pub fn read(alloc: Global) -> Told {
-    match Session::read(alloc, &inputs()) {
-        Ok(session) if session.lifts().len() == 2 => Told::Right,
+/// A session that is read, and how many steps it has.
+#[derive(Clone, Copy, Drop)]
+pub struct Reading<'a> {
+    pub inputs: Inputs<'a>,
+    pub steps: u32,
+}
+
+/// Reads it.
+pub fn read(alloc: Global, reading: &Reading<'_>) -> Told {
+    match Session::read(alloc, &reading.inputs) {
+        Ok(session) if session.lifts().len() == reading.steps as usize => Told::Right,
         Err(RunFault::NoMemory) => Told::Short,
         _ => Told::Wrong,
     }
@@ -94,6 +101,22 @@ pub fn with_long_list(alloc: Global, session: &Session, steps: u32) -> Result<Se
         return Err(RunFault::NoMemory);
     };
     session_on(alloc, session, list)
+}
+
+/// Makes a session on the base of another and a list so long that room is asked for what searches
+/// keep of it.
+pub fn make_long(alloc: Global, other: &Session) -> Told {
+    let (Some(last), Ok(base)) = (other.lifts().first(), Arc::try_clone(other.base())) else {
+        return Told::Wrong;
+    };
+    let Ok(list) = long_list(alloc, LONG, last) else {
+        return Told::Short;
+    };
+    match Session::new(alloc, base, list) {
+        Ok(made) if made.lifts().len() == LONG as usize => Told::Right,
+        Err(fault) if fault.code == SeqCode::NoMemory => Told::Short,
+        _ => Told::Wrong,
+    }
 }
 
 /// Asks which step of a long list fails first, once more after its last step was given another

@@ -35,3 +35,18 @@ pub fn filled(alloc: Global) -> Result<String, RunFault> {
     }
     Ok(text)
 }
+
+/// A steps file of two lifts, behind so many fillings of the tank.
+pub fn long_steps(alloc: Global, fillings: u32) -> Result<String, RunFault> {
+    let mut text = String::new(alloc);
+    let mut done = text.push_str("kind,a,b,c\n").is_ok();
+    for _ in 0..fillings {
+        done &= text.push_str("tank,DB1,1000,\n").is_ok();
+    }
+    done &= text.push_str("lift,1,,\nlift,2,,\n").is_ok();
+    if done {
+        Ok(text)
+    } else {
+        Err(RunFault::NoMemory)
+    }
+}

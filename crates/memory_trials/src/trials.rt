@@ -3,7 +3,7 @@
 use crate::desks::Publishing;
 use crate::free_calls::Readers;
 use crate::reports::{Report, stop_early};
-use crate::sessions::{Editing, read, searches, sixty_four_undos, swaps};
+use crate::sessions::{Editing, Reading, make_long, read, searches, sixty_four_undos, swaps};
 use crate::wrong_bodies::{LeavesHalf, retry, swallow};
 use std::alloc::Global;
 use std::sync::Wait;
@@ -27,7 +27,8 @@ pub enum Trial<'a> {
     Report(Report<'a>),
     First(Report<'a>),
     EarlyStop,
-    Read,
+    Read(Reading<'a>),
+    MakeLong(&'a Session),
     Apply(Editing<'a>),
     Undo(Editing<'a>),
     SixtyFourUndos(&'a mut Session),
@@ -48,7 +49,8 @@ impl<'a> Trial<'a> {
             Trial::Report(of) => of.call(rt),
             Trial::First(of) => of.first(rt),
             Trial::EarlyStop => stop_early(rt),
-            Trial::Read => read(rt.alloc()),
+            Trial::Read(of) => read(rt.alloc(), of),
+            Trial::MakeLong(other) => make_long(rt.alloc(), other),
             Trial::Apply(of) => of.apply(),
             Trial::Undo(of) => of.undo(),
             Trial::SixtyFourUndos(session) => sixty_four_undos(session),

@@ -117,6 +117,8 @@ enum Asked {
     Tank(&'static str),
     /// A tank that holds this mass, in kg.
     Filling(u16, u32),
+    /// All of it.
+    Whole,
 }
 
 /// A value as it is debugged.
@@ -174,6 +176,7 @@ fn shown(alloc: Global, profile: &Profile, asked: Asked) -> Result<String, Fail>
         Asked::CellNumber(cell) => debug_text(alloc, profile.cell_number(cell)),
         Asked::Tank(name) => debug_text(alloc, profile.tank(name.as_bytes())),
         Asked::Filling(tank, kg) => debug_text(alloc, profile.tank_item(tank, kg)),
+        Asked::Whole => debug_text(alloc, profile),
     }
 }
 
@@ -341,4 +344,49 @@ fn areas_as_lines_and_weights(rt: HostRuntime) -> Result<(), Fail> {
         check_answer(&rt, &files, *asked, want)?;
     }
     Ok(())
+}
+
+/// One cell of the least bay and row, by which the tables that find cells are short.
+static ONE_CELL: &[u8] = b"cell,x,y,z,half
+0000084,31031,1032,6033,3034
+";
+
+/// The ship, her tables and her fills, with the tables that find a cell, but without the lines and
+/// weights that are worked out of the ship and her Bonjean table.
+static WHOLE: &str =
+    "Profile { ship: Ship { lbp: Mm { mm: 90001 }, downflooding: 41, draught_max: Mm { mm: 7003 }, \
+trim_max: Mm { mm: 604 }, list_max: 505, closing_max: 4006, stations: [Mm { mm: -107 }, Mm { \
+mm: 20008 }, Mm { mm: 51009 }, Mm { mm: 92010 }], blocks: [Body { kg: 700011, place: Place { x: \
+Mm { mm: 30012 }, y: Mm { mm: -13 }, z: Mm { mm: 5014 }, half: Mm { mm: 15015 } }, fsm: 0 }, \
+Body { kg: 600016, place: Place { x: Mm { mm: 62017 }, y: Mm { mm: 18 }, z: Mm { mm: 4019 }, \
+half: Mm { mm: 11020 } }, fsm: 0 }], frames: Frames { frames: [Frame { x: Mm { mm: 20008 }, \
+shear_max: 21021, hog_max: 22022022, sag_max: 23023023 }, Frame { x: Mm { mm: 51009 }, \
+shear_max: 24024, hog_max: 25025025, sag_max: 26026026 }] } }, tables: Tables { cells: \
+CellPlaces { cells: CellList { cells: [Cell { bay: 0, row: 0, tier: 84 }], blocks: [1], \
+entries: [0, 0, 0, 0, 0, 0, 0, 0, 0, 0, 0, 0, 0, 0, 0, 0, 0, 0, 0, 0, 0, 0, 0, 0, 0, 0, 0, 0, \
+0, 0, 0, 0, 0, 0, 0, 0, 0, 0, 0, 0, 0, 0, 0, 0, 0, 0, 0, 0, 0, 0, 0, 0, 0, 0, 0, 0, 0, 0, 0, 0, \
+0, 0, 0, 0, 0, 0, 0, 0, 0, 0, 0, 0, 0, 0, 0, 0, 0, 0, 0, 0, 0, 0, 0, 0, 0, 0, 0, 0, 0, 0, 0, 0, \
+0, 0, 0, 0, 0, 0, 0, 0, 0, 0, 0, 0, 0, 0, 0, 0, 0, 0, 0, 0, 0, 0, 0, 0, 0, 0, 0, 0, 0, 0, 0, 0, \
+0, 0, 0, 0, 0, 0, 0, 0, 0, 0, 0, 0, 0, 0, 0, 0, 0, 0, 0, 0, 0, 0, 0, 0, 0, 0, 0, 0, 0, 0, 0, 0, \
+0, 0, 0, 0, 0, 0, 0, 0, 0, 0, 0, 0, 0, 0, 0, 0, 0, 0, 0, 0, 0, 0, 0, 0, 0, 0, 0, 0, 0, 0, 0, 0, \
+0, 0, 0, 0, 0, 0, 0, 0, 0, 0, 0, 0], sure: true }, places: [Place { x: Mm { mm: 31031 }, y: Mm \
+{ mm: 1032 }, z: Mm { mm: 6033 }, half: Mm { mm: 3034 } }] }, hydro: Hydro { kg: [1000039, \
+2000045], draught: [2040, 4046], kmt: [9041, 8047], lcb: [45042, 46048], lcf: [44043, 43049], \
+mct: [8000044, 9000050] }, levers: Curves { arguments: [1000051, 2000052], columns: [[100, \
+150], [200, 250], [300, 350], [400, 450], [500, 550], [600, 650], [700, 750], [800, 850], [900, \
+950], [1000, 1050], [1100, 1150], [1200, 1250], [1300, 1350]] }, bonjean: Curves { arguments: \
+[53, 6058], columns: [[5400, 59000], [5500, 60000], [5600, 61000], [5700, 62000]] }, tanks: \
+Tanks { names: {[80], [83]}, tables: [TankRows { kg: [1000, 1100], centres: Centres { x: \
+[20063, 20066], y: [-3064, -3067], z: [1065, 1066], half: [566, 570] }, fsm: [67000, 67003] }, \
+TankRows { kg: [20, 30], centres: Centres { x: [60068, 60070], y: [69, 66], z: [70, 75], half: \
+[71, 79] }, fsm: [72, 93] }] }, least_gm: Some(Curves { arguments: [1000076, 2000078], columns: \
+[[277, 379]] }) }, fills: [TankFill { tank: 1, kg: 27 }, TankFill { tank: 0, kg: 1028 }] }";
+
+#[test]
+fn profile_debugged(rt: HostRuntime) -> Result<(), Fail> {
+    let files = ProfileBytes {
+        cells: ONE_CELL,
+        ..unlike_ship()
+    };
+    check_answer(&rt, &files, Asked::Whole, WHOLE)
 }
