@@ -14,6 +14,7 @@ use std::thread::Threads;
 mod cuts;
 mod faults;
 mod readings;
+mod searches;
 mod sinks;
 
 /// The inputs of a run of the box ship with nothing aboard.
