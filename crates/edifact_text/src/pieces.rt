@@ -112,9 +112,9 @@ fn quiet_in_vector(bytes: &[u8], release: Option<u8>, separator: u8) -> usize
     place_in_vector(bytes, separator).min(place_in_vector(bytes, other))
 }
 
-/// How many bytes in front neither cut nor release, where that is sure of the first 32, and they end
-/// within the 32 behind these. Out of line, so that the look at the first 32 takes no more than it
-/// must.
+/// How many bytes in front neither cut nor release, where that is sure of the first 32, and they
+/// end within the 32 behind these. Out of line, so that the look at the first 32 takes no more than
+/// it must.
 #[cold]
 #[inline(never)]
 fn second_length(bytes: &[u8], release: Option<u8>, separator: u8) -> Option<usize>
