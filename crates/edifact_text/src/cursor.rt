@@ -4,7 +4,7 @@ ghost use Rattle.std.specs.Prelude.{[], ◌∷◌, true};
 ghost use Rattle.edifact_text.specs.Characters.{serves};
 
 use crate::faults::{EdiCode, EdiFault};
-use crate::pieces::{far_cut, near_cut, ordinary_text, skip_blanks};
+use crate::pieces::{far_cut, near_cut, nearby_cut, ordinary_text, skip_blanks};
 use crate::segment_text::SegmentText;
 use crate::service::Service;
 
@@ -101,7 +101,7 @@ impl<'a> Cursor<'a> {
             (λ p. IsOrdinary self.entry.service (stretch_of p.0)) }
     {
         let service = self.service;
-        let (front, rest) = near_cut(self.rest, service.release, service.terminator)?;
+        let (front, rest) = nearby_cut(self.rest, service.release, service.terminator)?;
         let bytes = ordinary_text(front, any_blanks)?;
         let place = self.len - self.rest.len() + (front.len() - bytes.len());
         let text = SegmentText {

@@ -133,9 +133,24 @@ fn second_length(bytes: &[u8], release: Option<u8>, separator: u8) -> Option<usi
     if behind < 32 { Some(32 + behind) } else { None }
 }
 
-/// How many bytes in front neither cut nor release, where those end within 64 bytes.
+/// How many bytes in front neither cut nor release, where those end within 32 bytes.
 #[inline(always)]
 fn near_length(bytes: &[u8], release: Option<u8>, separator: u8) -> Option<usize>
+    ensures quiet { IfSome result (λ n. end_from release separator false bytes.now ≡ option_map
+        (λ k. n + k) (end_from release separator false (drop n bytes.now))) }
+    ensures within { IfSome result (λ n. n < length bytes.now) }
+    ensures near { IfSome result (λ n. n < 32) }
+{
+    if bytes.len() < 32 {
+        return None;
+    }
+    let at = quiet_in_vector(bytes, release, separator);
+    if at < 32 { Some(at) } else { None }
+}
+
+/// How many bytes in front neither cut nor release, where those end within 64 bytes.
+#[inline(always)]
+fn nearby_length(bytes: &[u8], release: Option<u8>, separator: u8) -> Option<usize>
     ensures quiet { IfSome result (λ n. end_from release separator false bytes.now ≡ option_map
         (λ k. n + k) (end_from release separator false (drop n bytes.now))) }
     ensures within { IfSome result (λ n. n < length bytes.now) }
@@ -231,6 +246,28 @@ pub(crate) fn far_cut(bytes: &[u8], release: Option<u8>, separator: u8) -> (&[u8
     )
 }
 
+/// The bytes before this end and those behind it, where a separator is there.
+#[inline(always)]
+fn cut_at(bytes: &[u8], release: Option<u8>, separator: u8, end: usize) -> Option<(&[u8], &[u8])>
+    requires apart { is_release release separator ≡ false }
+    requires within { end < length bytes.now }
+    requires quiet { end_from release separator false bytes.now ≡ option_map
+        (λ k. end + k) (end_from release separator false (drop end bytes.now)) }
+    ensures first { IfSome result (λ p. pieces release separator bytes.now
+        ≡ p.0.now ∷ pieces release separator p.1.now) }
+    ensures len { IfSome result (λ p. length p.0.now + 1 + length p.1.now ≡ length bytes.now) }
+    ensures end { IfSome result (λ p. length p.0.now ≡ end) }
+{
+    if bytes[end] != separator {
+        return None;
+    }
+    let (front, behind) = bytes.split_at(end);
+    match behind {
+        [] => None,
+        [_, rest @ ..] => Some((front, rest)),
+    }
+}
+
 /// The bytes up to the first separator and those behind it, where it is near and cuts. The bytes
 /// are looked at together; nothing is said of a separator that is farther off, or behind a release
 /// character.
@@ -240,17 +277,23 @@ pub(crate) fn near_cut(bytes: &[u8], release: Option<u8>, separator: u8) -> Opti
     ensures first { IfSome result (λ p. pieces release separator bytes.now
         ≡ p.0.now ∷ pieces release separator p.1.now) }
     ensures len { IfSome result (λ p. length p.0.now + 1 + length p.1.now ≡ length bytes.now) }
-    ensures near { IfSome result (λ p. length p.0.now < 64) }
+    ensures near { IfSome result (λ p. length p.0.now < 32) }
 {
     let end = near_length(bytes, release, separator)?;
-    if bytes[end] != separator {
-        return None;
-    }
-    let (front, behind) = bytes.split_at(end);
-    match behind {
-        [] => None,
-        [_, rest @ ..] => Some((front, rest)),
-    }
+    cut_at(bytes, release, separator, end)
+}
+
+/// The same of a separator that may be twice as far off.
+#[inline(always)]
+pub(crate) fn nearby_cut(bytes: &[u8], release: Option<u8>, separator: u8) -> Option<(&[u8], &[u8])>
+    requires { is_release release separator ≡ false }
+    ensures first { IfSome result (λ p. pieces release separator bytes.now
+        ≡ p.0.now ∷ pieces release separator p.1.now) }
+    ensures len { IfSome result (λ p. length p.0.now + 1 + length p.1.now ≡ length bytes.now) }
+    ensures near { IfSome result (λ p. length p.0.now < 64) }
+{
+    let end = nearby_length(bytes, release, separator)?;
+    cut_at(bytes, release, separator, end)
 }
 
 /// The bytes from the piece of this index on, or nothing past the last piece.

@@ -1,6 +1,6 @@
 use Rattle.std.proofs.Common.{◌≡◌, ◌+◌, drop, subst, option_map, false, arith}
 use Rattle.edifact_text.specs.Pieces.{end_from}
-use Rattle.edifact_text.proofs.pieces.near_length.Goals as goal
+use Rattle.edifact_text.proofs.pieces.nearby_length.Goals as goal
 
 pub second_length-requires : goal.second_length-requires
 second_length-requires c =
