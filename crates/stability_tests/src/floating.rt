@@ -77,6 +77,13 @@ impl<R: Abort + AllocGlobal> Check<R> for Rows {
     }
 }
 
+/// The block, and two containers.
+const TWO_CONTAINERS: &[Mass] = &[
+    BLOCK,
+    (20_500, [50_000, 8_000, 10_000, 3_029]),
+    (20_500, [25_000, 0, 10_000, 3_029]),
+];
+
 // The block alone: draught 4,000 mm, and GM = 10,333 - 6,000 = 4,333 mm.
 //
 // With 20,500 kg at x = 50,000, y = 8,000, z = 10,000 and 20,500 kg at x = 25,000, z = 10,000 there
@@ -92,11 +99,7 @@ static CONDITIONS: [Row; 4] = [
         condition: Ok(([4_000, 4_000, 4_000, 4_000, 4_333, 0], Some(0))),
     },
     Row {
-        masses: &[
-            BLOCK,
-            (20_500, [50_000, 8_000, 10_000, 3_029]),
-            (20_500, [25_000, 0, 10_000, 3_029]),
-        ],
+        masses: TWO_CONTAINERS,
         condition: Ok(([4_020, 4_035, 4_004, 4_027, 4_295, 30], Some(46))),
     },
     // At 10,333 mm the centre of gravity is the metacentre: without a metacentric height there is
@@ -116,23 +119,51 @@ fn conditions(rt: HostRuntime) -> Result<(), Fail> {
     on_box_ship(&rt, &Rows(&CONDITIONS))
 }
 
-/// Looks at a draught that is decided in 64 bits, in units and in parts of a millimetre: with the
-/// two containers of the second row it is 4,027.54 mm at 25,000.
+/// Looks at a draught that 64 bits decide, in units, in parts of a millimetre, and by whichever the
+/// line is known in.
 #[derive(Clone, Copy)]
-struct Decided;
+struct Decided {
+    masses: &'static [Mass],
+    draught: i64,
+    /// Whether the line is flat enough to be known in parts.
+    in_parts: bool,
+}
 
 impl<R: Abort + AllocGlobal> Check<R> for Decided {
     fn check(&self, rt: &R, profile: &Profile) -> Result<(), Fail> {
-        let sum = sum_of(profile, CONDITIONS[1].masses)?;
+        let sum = sum_of(profile, self.masses)?;
         let floats = floating_of(profile, &sum).ok().ok_or("afloat")?;
         let line = DraughtLine::new(&floats.afloat);
-        same(rt, line.decided(length(25_000)?), Some(4_027));
-        same(rt, line.read_in_parts(length(25_000)?), Some(4_027));
+        let at = length(25_000)?;
+        let draught = Some(self.draught);
+        let in_parts = if self.in_parts { draught } else { None };
+        same(rt, line.decided(at), draught);
+        same(rt, line.read_in_parts(at), in_parts);
+        same(rt, line.read(at), draught);
         Ok(())
     }
 }
 
+/// The two containers of the second row, with which it is 4,027.54 mm; and the block 60,000 mm aft
+/// of the centre of buoyancy: the trim is 8,200,000 * 60,000 / 17,000,000 = 28,941.18 mm, steeper
+/// than 1 in 4, and the draught 4,000 + 28,941.18 / 4 = 11,235.29 mm.
+static DECIDED: [Decided; 2] = [
+    Decided {
+        masses: TWO_CONTAINERS,
+        draught: 4_027,
+        in_parts: true,
+    },
+    Decided {
+        masses: &[(8_200_000, [-10_000, 0, 6_000, 50_000])],
+        draught: 11_235,
+        in_parts: false,
+    },
+];
+
 #[test]
 fn draught_in_64_bits(rt: HostRuntime) -> Result<(), Fail> {
-    on_box_ship(&rt, &Decided)
+    for decided in &DECIDED {
+        on_box_ship(&rt, decided)?;
+    }
+    Ok(())
 }
