@@ -133,7 +133,10 @@ fn second_length(bytes: &[u8], release: Option<u8>, separator: u8) -> Option<usi
     if behind < 32 { Some(32 + behind) } else { None }
 }
 
-/// How many bytes in front neither cut nor release, where those end within 32 bytes.
+/// How many bytes in front neither cut nor release, where those end within 32 bytes. What
+/// `quiet_in_vector` does stands here once more, and in `near_cut` what `cut_at` does: with a call
+/// of these the compiler no longer puts the walk over a message's segments into its caller's loop,
+/// which takes 1.18 times the instructions of reading a bay plan.
 #[inline(always)]
 fn near_length(bytes: &[u8], release: Option<u8>, separator: u8) -> Option<usize>
     ensures quiet { IfSome result (λ n. end_from release separator false bytes.now ≡ option_map
@@ -144,7 +147,11 @@ fn near_length(bytes: &[u8], release: Option<u8>, separator: u8) -> Option<usize
     if bytes.len() < 32 {
         return None;
     }
-    let at = quiet_in_vector(bytes, release, separator);
+    let other = match release {
+        Some(other) => other,
+        None => separator,
+    };
+    let at = place_in_vector(bytes, separator).min(place_in_vector(bytes, other));
     if at < 32 { Some(at) } else { None }
 }
 
@@ -246,22 +253,22 @@ pub(crate) fn far_cut(bytes: &[u8], release: Option<u8>, separator: u8) -> (&[u8
     )
 }
 
-/// The bytes before this end and those behind it, where a separator is there.
+/// The bytes before this place and those behind it, where a separator is there.
 #[inline(always)]
-fn cut_at(bytes: &[u8], release: Option<u8>, separator: u8, end: usize) -> Option<(&[u8], &[u8])>
+fn cut_at(bytes: &[u8], release: Option<u8>, separator: u8, place: usize) -> Option<(&[u8], &[u8])>
     requires apart { is_release release separator ≡ false }
-    requires within { end < length bytes.now }
+    requires within { place < length bytes.now }
     requires quiet { end_from release separator false bytes.now ≡ option_map
-        (λ k. end + k) (end_from release separator false (drop end bytes.now)) }
+        (λ k. place + k) (end_from release separator false (drop place bytes.now)) }
     ensures first { IfSome result (λ p. pieces release separator bytes.now
         ≡ p.0.now ∷ pieces release separator p.1.now) }
     ensures len { IfSome result (λ p. length p.0.now + 1 + length p.1.now ≡ length bytes.now) }
-    ensures end { IfSome result (λ p. length p.0.now ≡ end) }
+    ensures end { IfSome result (λ p. length p.0.now ≡ place) }
 {
-    if bytes[end] != separator {
+    if bytes[place] != separator {
         return None;
     }
-    let (front, behind) = bytes.split_at(end);
+    let (front, behind) = bytes.split_at(place);
     match behind {
         [] => None,
         [_, rest @ ..] => Some((front, rest)),
@@ -280,7 +287,14 @@ pub(crate) fn near_cut(bytes: &[u8], release: Option<u8>, separator: u8) -> Opti
     ensures near { IfSome result (λ p. length p.0.now < 32) }
 {
     let end = near_length(bytes, release, separator)?;
-    cut_at(bytes, release, separator, end)
+    if bytes[end] != separator {
+        return None;
+    }
+    let (front, behind) = bytes.split_at(end);
+    match behind {
+        [] => None,
+        [_, rest @ ..] => Some((front, rest)),
+    }
 }
 
 /// The same of a separator that may be twice as far off.
