@@ -1,4 +1,5 @@
-/* A heap that refuses one growth. tests/program.d/growths preloads it into crates/memory_trials, whose watch.rt names the growth.
+/* A heap that refuses one growth. tests/program.d/growths preloads it into crates/memory_trials, whose watch.rt names the growth, and into the program
+   itself: there REFUSED_GROWTH=N names the Nth growth of all threads together, and a byte is written to descriptor 9 where it was refused.
 
    Requests of two kinds of sizes, which no heap can meet, are messages. ARM + (thread << 24) + growth: from now on this growth of this thread is refused,
    the thread that asks being 0 and those that are started since then 1, 2 and so on; for thread 255 the start of this number is refused. ASK:
@@ -10,6 +11,8 @@
 #include <stdatomic.h>
 #include <stddef.h>
 #include <stdint.h>
+#include <stdlib.h>
+#include <unistd.h>
 
 #define ARM 0x5EED00000000u
 #define ASK 0x5EEE00000000u
@@ -23,8 +26,21 @@ static atomic_uint armed_thread, armed_growth, refused, started;
 static _Thread_local unsigned number, asked;
 static _Thread_local int is_starting;
 
+/* The growth that the environment names, or 0, and how many all threads have asked for. */
+static unsigned named;
+static atomic_uint asked_by_all;
+
+/* Whether this growth is the one that the environment names. */
+static int is_named(void) {
+    if (is_starting || atomic_fetch_add(&asked_by_all, 1) + 1 != named)
+        return 0;
+    return write(9, "", 1) == 1;
+}
+
 /* Whether this growth is the one to be refused. */
 static int is_refused(void) {
+    if (named != 0)
+        return is_named();
     if (is_starting || atomic_load(&armed_growth) == 0 || number != atomic_load(&armed_thread))
         return 0;
     if (++asked != atomic_load(&armed_growth))
@@ -84,8 +100,10 @@ static void *run_numbered(void *given) {
 static int (*create)(pthread_t *, const pthread_attr_t *, void *(*)(void *), void *);
 
 /* Before main, since looking up a name may ask for memory. */
-__attribute__((constructor)) static void find_create(void) {
+__attribute__((constructor)) static void begin(void) {
     create = (int (*)(pthread_t *, const pthread_attr_t *, void *(*)(void *), void *))dlsym(RTLD_NEXT, "pthread_create");
+    const char *text = getenv("REFUSED_GROWTH");
+    named = text ? (unsigned)strtoul(text, NULL, 10) : 0;
 }
 
 int pthread_create(pthread_t *thread, const pthread_attr_t *attributes, void *(*routine)(void *), void *argument) {

@@ -1,6 +1,6 @@
 ghost use Rattle.std.specs.List.{AllByRecursion};
 ghost use Rattle.std.specs.Prelude.{◌≡◌, ◌≢◌, ◌+◌, ◌^◌, ◌≤◌, length, option_map, false, IfOk};
-ghost use Rattle.std.specs.Prelude.{IfErr, Ok, Err};
+ghost use Rattle.std.specs.Prelude.{IfErr, Ok, Err, IsTrue, ◌↔◌};
 ghost use Rattle.lift_sequence.specs.Arrival.{cargo_on};
 ghost use Rattle.run_inputs.specs.Readings.{AreMovesRead, HasArrived, IsMade, IsPlanRead, IsRead};
 ghost use Rattle.seq_report.specs.Cases.{AreArrived, IsReady, IsToldBy, outcome_in, case_in_view};
@@ -153,19 +153,19 @@ fn arrived_by(
     }
 }
 
-/// The case that the inputs define, or the first refusal: by the results of the first three inputs,
-/// and by what was read of the others. Only the contract uses `inputs`.
+/// The case that the inputs define, or the first refusal: by the ship with what is aboard of her on
+/// arrival, and by what was read of the steps. Only the contract uses `inputs`.
 fn case_by(
     alloc: Global,
     inputs: &Inputs<'_>,
-    arrived: Result<(Profile, Arrival), RunFault>,
+    profile: Profile,
+    arrival: Arrival,
     orders: Result<Vec<Op>, RunFault>,
 ) -> Result<Case, RunFault>
-    requires arrived { IsRead arrived (λ r. AreArrived inputs.now r.0 r.1)
-        (λ e. outcome_of inputs.now ≡ Err e) }
+    requires arrived { AreArrived inputs.now profile arrival }
     requires orders { IsRead orders (λ o. orders_in inputs.now ≡ Ok o.items)
         (λ e. orders_in inputs.now ≡ Err e) }
-    ensures passed { (e : _) → arrived ≡ Err e → result ≡ Err e }
+    ensures passed { (e : _) → orders ≡ Err e → result ≡ Err e }
     ensures ok { IfOk result (λ case. outcome_of inputs.now ≡ Ok (outcome_in case)) }
     ensures told { IfOk result (IsToldBy inputs.now) }
     ensures ready { IfOk result IsReady }
@@ -176,22 +176,21 @@ fn case_by(
     ensures silent { is_write result ≡ false }
     ensures uncut { is_cut result ≡ false }
 {
-    match arrived {
-        Ok((profile, arrival)) => match orders {
-            Ok(ops) => case_on_ops(alloc, profile, arrival, ops),
-            Err(fault) => Err(fault),
-        },
+    match orders {
+        Ok(ops) => case_on_ops(alloc, profile, arrival, ops),
         Err(fault) => Err(fault),
     }
 }
 
 /// Whether reading an input ran out of memory.
-fn ran_out<T>(reading: &Result<T, RunFault>) -> bool {
+fn ran_out<T>(reading: &Result<T, RunFault>) -> bool
+    ensures { IsTrue result ↔ (reading.now ≡ Err RunFault.NoMemory) }
+{
     matches!(reading, Err(RunFault::NoMemory))
 }
 
 /// The case that the inputs define, or the first refusal, the profile and both messages as they
-/// were read.
+/// were read. Where any of these was out of memory, so is the case, whatever else is refused.
 fn case_read(
     alloc: Global,
     inputs: &Inputs<'_>,
@@ -202,6 +201,9 @@ fn case_read(
     requires ship { IsShipRead profile (texts_of inputs.now.profile) }
     requires plan { IsPlanRead plan inputs.now.baplie.now }
     requires moves { AreMovesRead moves inputs.now.movins.now }
+    ensures short_ship { profile ≡ Err RunFault.NoMemory → result ≡ Err RunFault.NoMemory }
+    ensures short_plan { plan ≡ Err RunFault.NoMemory → result ≡ Err RunFault.NoMemory }
+    ensures short_moves { moves ≡ Err RunFault.NoMemory → result ≡ Err RunFault.NoMemory }
     ensures ok { IfOk result (λ case. outcome_of inputs.now ≡ Ok (outcome_in case)) }
     ensures told { IfOk result (IsToldBy inputs.now) }
     ensures ready { IfOk result IsReady }
@@ -212,19 +214,18 @@ fn case_read(
     ensures silent { is_write result ≡ false }
     ensures uncut { is_cut result ≡ false }
 {
-    let short = ran_out(&profile) || ran_out(&plan) || ran_out(&moves);
-    let arrived = arrived_by(alloc, inputs, profile, plan);
-    let orders = orders_by(alloc, inputs, moves);
-    match case_by(alloc, inputs, arrived, orders) {
-        Ok(case) => Ok(case),
-        // a reader that ran out of memory is reported, even if another input is refused
-        Err(_) if short => Err(RunFault::NoMemory),
-        Err(fault) => Err(fault),
+    if ran_out(&profile) || ran_out(&plan) || ran_out(&moves) {
+        return Err(RunFault::NoMemory);
     }
+    let (profile, arrival) = arrived_by(alloc, inputs, profile, plan)?;
+    // Only now, so that a growth that is refused here is never behind another refusal.
+    let orders = orders_by(alloc, inputs, moves);
+    case_by(alloc, inputs, profile, arrival, orders)
 }
 
 /// The case that the inputs define, or the first refusal, in the order of [`crate::report`]. Out of
-/// memory may stand for any refusal.
+/// memory may stand for any refusal, and no refusal stands for it: where a growth was refused, the
+/// answer is out of memory.
 pub fn case_of(alloc: Global, inputs: &Inputs<'_>) -> Result<Case, RunFault>
     ensures ok { IfOk result (λ case. outcome_of inputs.now ≡ Ok (outcome_in case)) }
     ensures told { IfOk result (IsToldBy inputs.now) }

@@ -66,7 +66,7 @@ fn first_in_chunks<G: Gate, R: Threads + Wait + Sync>(
 ///
 /// The inputs are refused in the order profile (F1), bay plan (F2), arrival (F3), movement
 /// instruction (F4), steps file (F9), sequence (F5), and then cuts that don't fit the lines (F6).
-/// Out of memory (F7) may stand for any refusal.
+/// Out of memory (F7) may stand for any refusal, as none may for it.
 pub fn first_fail<G: Gate, R: Threads + Wait + Sync>(
     rt: &R,
     alloc: Global,

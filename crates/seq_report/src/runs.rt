@@ -202,9 +202,9 @@ fn report_prepared<G: Gate, R: Threads + Wait + Sync, S: Sink>(
 ///
 /// The inputs are refused in the order profile (F1), bay plan (F2), arrival (F3), movement
 /// instruction (F4), steps file (F9), sequence (F5), and then cuts that don't fit the lines (F6).
-/// Nothing is written then, nor out of memory (F7), which may stand for any refusal; a worker that
-/// can't be started is reported as F7 too. Where the sink fails, it holds a prefix of the report,
-/// of the length that F8 says.
+/// Nothing is written then, nor out of memory (F7), which may stand for any refusal, as none may
+/// for it; a worker that can't be started is reported as F7 too. Where the sink fails, it holds a
+/// prefix of the report, of the length that F8 says.
 pub fn report<G: Gate, R: Threads + Wait + Sync, S: Sink>(
     rt: &R,
     alloc: Global,
