@@ -1,11 +1,13 @@
 -- Setting what steps change, one after another.
 use Rattle.std.proofs.Common.{◌≡◌, ℕ, zero, suc, ◌+◌, ◌-◌, ◌*◌, ◌/◌, ◌<◌, ◌≤◌, List, [], ◌∷◌, ◌++◌, length, map, take, drop, set, get_or, Option, None, Some, Bool, true, false, refl, sym, ap, ◌∙◌, subst, arith, lt_of_not-le, mul-le-mul_right, ◌^◌}
 use Rattle.std.specs.Prelude.{slice_get, option_map, if◌then◌else◌}
+use Rattle.std.proofs.lemmas.Bool.{true≢false}
+use Rattle.std.proofs.lemmas.Option.{get_or_from_slice_get, slice_get-get_or}
 use Rattle.std.proofs.lemmas.List.{length-map, length-set, take-append-drop, drop_more, take_all, drop_all, append-nil, drop-set-lt, length-drop, take-map}
 use mathlib.Core.Logic.{dite}
 use native.Mathlib.Decide.{dec_le}
 use Rattle.units_core.specs.declared.cells.Cell.{Cell}
-use Rattle.stow_messages.specs.declared.lifts.Lift.TheVariants.{Load}
+use Rattle.stow_messages.specs.declared.lifts.Lift.TheVariants.{Load, Discharge}
 use Rattle.lift_sequence.specs.declared.operations.Op.{Op}
 use Rattle.lift_sequence.specs.declared.operations.Op.TheVariants as operation
 use Rattle.units_core.specs.declared.steps.Step.{Step}
@@ -18,10 +20,18 @@ use Rattle.bounded_sums.specs.Laws.{IsLight}
 use Rattle.moment_sums.specs.Kept.{Kept, none_kept}
 use Rattle.step_edits.specs.Edits.{place_of}
 use Rattle.what_if.specs.Bases.{change_of}
-use Rattle.what_if.specs.Changes.{AreMixed, AreNear, AreOfFour, AreSmall, IsNear, WereNear, fours}
+use Rattle.what_if.specs.Changes.{AreMixed, AreNear, AreOfFour, AreSmall, AreStill, IsNear, WereNear, fours}
 use Rattle.what_if.specs.Sessions.{restows_behind}
 use Rattle.what_if.proofs.ChangeLemmas.{small}
 use Rattle.what_if.proofs.FourLemmas.{mixed_set, mixed_still, of_four, of_four_at, of_four_set}
+
+-- a step that doesn't move the container leaves it in its cell
+pub stays : (cell : Option Cell) (op : Op) → moves cell op ≡ false → next_cell cell op ≡ cell
+stays None op e = refl
+stays (Some c) (operation.Lift (Load item)) e = refl
+stays (Some c) (operation.Lift (Discharge cell id)) e = ap (λ b. if b then None else Some c) e
+stays (Some c) (operation.Fill name kg) e = refl
+stays (Some c) (operation.Restow from to id) e = ap (λ b. if b then Some to else Some c) e
 
 -- the change of the step at a place, set there, or found there
 module _ (ys : List Kept) (place : ℕ) where
@@ -128,6 +138,60 @@ module _ (ys : List Kept) (place : ℕ) where
           near = parts.1;
         })
 
+-- Steps that leave a container in its cell: what was set stays so behind them, and they are no moves.
+module _ (ops : List Op) (cell : Option Cell) where
+  -- the step at a place, where there is one
+  there : (from : ℕ) (d : Op) → from < length ops → (op : Op) × (slice_get ops from ≡ Some op) × (drop from ops ≡ op ∷ drop (from + 1) ops) × (get_or ops from op ≡ op)
+  there from d within =
+      let op : Op = get_or ops from d in
+      let is : slice_get ops from ≡ Some op = slice_get-get_or ops from d within in
+      let at : get_or ops from op ≡ op = get_or_from_slice_get ops from op op is in
+      (op, is, drop_more ops from op within ∙ ap (λ o. o ∷ drop (from + 1) ops) at, at)
+
+  rest : (from n : ℕ) → AreStill cell ops from (from + suc n) → AreStill cell ops (from + 1) (from + 1 + n)
+  rest from n still = λ k op low high is. still k op (omega (arith, low)) (omega (arith, high)) is
+
+  skips_by : (ys now : List Kept) (done n from : ℕ) → Op → length ops ≡ length ys → from + n ≤ length ops → AreStill cell ops from (from + n) → AreMixed cell from done ops ys now
+      → AreMixed cell (from + n) done ops ys now
+  skips_by ys now done zero from d same inside still mixed = subst (λ (m : ℕ). AreMixed cell m done ops ys now) (omega arith) mixed
+  skips_by ys now done (suc n) from d same inside still mixed =
+      let within : from < length ops = omega (arith, inside) in
+      let step = there from d within in
+      let no : moves cell step.0 ≡ false = still from step.0 (omega arith) (omega arith) step.1 in
+      let next = goes_on ys from cell ops step.0 done done now now same (omega (arith, within, same)) step.3 mixed (λ e. (refl, refl)) (λ e. absurd (true≢false (sym e ∙ no))) (λ e. absurd (true≢false (sym e ∙ no))) in
+      let on : AreMixed cell (from + 1) done ops ys now = subst (λ w. AreMixed w (from + 1) done ops ys now) (stays cell step.0 no) next in
+      let all = skips_by ys now done n (from + 1) d same (omega (arith, inside)) (rest from n still) on in
+      subst (λ (m : ℕ). AreMixed cell m done ops ys now) (omega arith) all
+
+  none_by : (n from : ℕ) → Op → from + n ≤ length ops → AreStill cell ops from (from + n) → moves_in cell (drop from ops) ≡ moves_in cell (drop (from + n) ops)
+  none_by zero from d inside still = ap (λ (m : ℕ). moves_in cell (drop m ops)) (omega arith)
+  none_by (suc n) from d inside still =
+      let step = there from d (omega (arith, inside)) in
+      let no : moves cell step.0 ≡ false = still from step.0 (omega arith) (omega arith) step.1 in
+      let one : moves_in cell (drop from ops) ≡ 0 + moves_in cell (drop (from + 1) ops) = ap (λ (l : List Op). moves_in cell l) step.2
+      ∙ (λ i. (if no i then 1 else 0) + moves_in (stays cell step.0 no i) (drop (from + 1) ops)) in
+      let all = none_by n (from + 1) d (omega (arith, inside)) (rest from n still) in
+      let ends : moves_in cell (drop (from + 1 + n) ops) ≡ moves_in cell (drop (from + suc n) ops) = ap (λ (m : ℕ). moves_in cell (drop m ops)) (omega arith) in
+      omega (arith, one, all, ends)
+
+pub skips : (ops : List Op) (cell : Option Cell) (ys now : List Kept) (done from to : ℕ) → length ops ≡ length ys → from ≤ to → to ≤ length ops → AreStill cell ops from to
+    → AreMixed cell from done ops ys now → AreMixed cell to done ops ys now
+skips [] cell ys now done from to same order inside still mixed = subst (λ (m : ℕ). AreMixed cell m done [] ys now) (omega (arith, order, inside)) mixed
+skips (op ∷ more) cell ys now done from to same order inside still mixed =
+    let ops : List Op = op ∷ more in
+    let n : ℕ = to - from in
+    let is : from + n ≡ to = omega (arith, order) in
+    subst (λ (m : ℕ). AreMixed cell m done ops ys now) is
+    (skips_by ops cell ys now done n from op same (omega (arith, is, inside)) (subst (λ (m : ℕ). AreStill cell ops from m) (sym is) still) mixed)
+
+pub no_moves : (ops : List Op) (cell : Option Cell) (from to : ℕ) → from ≤ to → to ≤ length ops → AreStill cell ops from to → moves_in cell (drop from ops) ≡ moves_in cell (drop to ops)
+no_moves [] cell from to order inside still = ap (λ (m : ℕ). moves_in cell (drop m [])) (omega (arith, order, inside))
+no_moves (op ∷ more) cell from to order inside still =
+    let ops : List Op = op ∷ more in
+    let n : ℕ = to - from in
+    let is : from + n ≡ to = omega (arith, order) in
+    none_by ops cell n from op (omega (arith, is, inside)) (subst (λ (m : ℕ). AreStill cell ops from m) (sym is) still) ∙ ap (λ (m : ℕ). moves_in cell (drop m ops)) is
+
 -- all were looked at
 pub whole : (cell : Option Cell) (ops : List Op) (ys now : List Kept) (behind done : ℕ) → length ys ≤ behind → AreMixed cell behind done ops ys now → now ≡ fours ys
 whole cell ops ys now behind done h mixed =
@@ -142,17 +206,13 @@ set_small ys place now after h k e = subst AreOfFour (sym e) (of_four_set now pl
 pub set_long : (now after : List Kept) (y : Kept) (place : ℕ) → after ≡ set now place y → length after ≡ length now
 set_long now after y place e = ap length e ∙ length-set now place y
 
-module _ (ys : List Kept) (place done next : ℕ) (now after : List Kept) (moved : Bool) (still : moved ≡ false → (next ≡ done) × (after ≡ now))
-    (inside : moved ≡ true → place < done → (next ≡ done) × (after ≡ now))
-    (sets : moved ≡ true → done ≤ place → (next ≡ place / 4 * 4 + 4) × (after ≡ set now (place / 4) (get_or (fours ys) (place / 4) none_kept))) where
+module _ (ys : List Kept) (place done next : ℕ) (now after : List Kept) (inside : place < done → (next ≡ done) × (after ≡ now))
+    (sets : done ≤ place → (next ≡ place / 4 * 4 + 4) × (after ≡ set now (place / 4) (get_or (fours ys) (place / 4) none_kept))) where
   by_case : (P : List Kept → Type 0) → P now → P (set now (place / 4) (get_or (fours ys) (place / 4) none_kept)) → P after
-  by_case P same set_there = by_moved moved refl where
-    by_moved : (b : Bool) → moved ≡ b → P after
-    by_moved true e =
-        dite (dec_le (suc place) done)
-        (λ low. subst P (sym ((inside e (omega (arith, low))).1)) same)
-        (λ not. let high = lt_of_not-le not in subst P (sym ((sets e (omega (arith, high))).1)) set_there)
-    by_moved false e = subst P (sym ((still e).1)) same
+  by_case P same set_there =
+      dite (dec_le (suc place) done)
+      (λ low. subst P (sym ((inside (omega (arith, low))).1)) same)
+      (λ not. let high = lt_of_not-le not in subst P (sym ((sets (omega (arith, high))).1)) set_there)
 
   pub renewed_small : AreOfFour now → AreSmall ys → AreOfFour after
   renewed_small h k = by_case AreOfFour h (of_four_set now (place / 4) (get_or (fours ys) (place / 4) none_kept) h (of_four_at (fours ys) (place / 4) (of_four ys k)))

@@ -1,7 +1,7 @@
 -- Bookkeeping: lists of what steps change, before and after the steps that move one container were
 -- given bodies of another weight; and the sums of each four of them.
-use Rattle.std.specs.Prelude.{◌≡◌, ℕ, ⊤, ◌+◌, ◌≤◌, List, [], ◌∷◌, ◌++◌, length, take, drop, false}
-use Rattle.std.specs.Prelude.{Option}
+use Rattle.std.specs.Prelude.{◌≡◌, ℕ, ⊤, ◌+◌, ◌<◌, ◌≤◌, List, [], ◌∷◌, ◌++◌, length, take, drop}
+use Rattle.std.specs.Prelude.{Option, Some, slice_get, false}
 use Rattle.std.specs.List.{swap}
 use Rattle.units_core.specs.declared.cells.Cell.{Cell}
 use Rattle.prefix_scan.specs.Rows.{paired}
@@ -13,6 +13,11 @@ use Rattle.moment_sums.specs.Kept.{Kept, both_kept, size_of}
 abbrev pub AreSmall : List Kept → Type 0
 AreSmall [] = ⊤
 AreSmall (change ∷ more) = (size_of change ≤ 2) × AreSmall more
+
+-- no step from one place on, up to another, moves the container that is in a cell
+abbrev pub AreStill : Option Cell → List Op → ℕ → ℕ → Type 0
+AreStill cell ops from to =
+    (k : ℕ) (op : Op) → from ≤ k → k < to → slice_get ops k ≡ Some op → moves cell op ≡ false
 
 -- two lists are one but where the steps move the container that is in a cell
 abbrev pub AreNear : Option Cell → List Op → List Kept → List Kept → Type 0

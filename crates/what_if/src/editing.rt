@@ -10,7 +10,7 @@ ghost use Rattle.what_if.specs.Sessions.{IsSummed, refusal, restows_behind, Cost
 
 use crate::fours::Fours;
 use crate::passing::{Room, move_into, other_room};
-use crate::renewing::{renew, renew_both};
+use crate::renewing::{renew, renew_both, weigh};
 use crate::summed_lists::SummedList;
 use lift_sequence::{SeqCode, SeqFault, Sequence};
 use moment_sums::Totals;
@@ -161,7 +161,7 @@ impl SummedList {
             ≤ self.old.joins + (restows_behind self.old.ops (k - 1) + 2) * (levels + 1) }
     {
         let _ = kg.get();
-        self.sequence.reweigh(k, kg);
+        weigh(&mut self.sequence, k, kg);
         renew(
             &mut self.sums,
             &self.sequence,

@@ -1,13 +1,20 @@
 ghost use Rattle.std.specs.Prelude.{◌≡◌, ℕ, ◌+◌, ◌*◌, ◌/◌, ◌^◌, ◌<◌, ◌≤◌, length, map, drop};
-ghost use Rattle.std.specs.Prelude.{slice_set, slice_index_or, if◌then◌else◌, true, false};
-ghost use Rattle.lift_sequence.specs.Follow.{loaded_at, moves_in};
+ghost use Rattle.std.specs.Prelude.{◌-◌, slice_get, slice_set, slice_index_or, true, None, Some};
+ghost use Rattle.lift_sequence.specs.declared.operations.Op.{Op as Operation};
+ghost use Rattle.ship_profile.specs.Record.{ProfileRecord};
+ghost use Rattle.lift_sequence.specs.Aboard.{Aboard};
+ghost use Rattle.lift_sequence.specs.Bodies.{steps_of};
+ghost use Rattle.lift_sequence.specs.Follow.{AreReweighed, IsLoad, loaded_at, moves, moves_in};
+ghost use Rattle.lift_sequence.specs.Follow.{weighed_at};
+ghost use Rattle.lift_sequence.specs.Sequence.{sequence_fault};
 ghost use Rattle.moment_sums.specs.Kept.{none_kept};
 ghost use Rattle.what_if.specs.Bases.{change_of};
-ghost use Rattle.what_if.specs.Changes.{AreOfFour, WereExchanged, WereNear, fours};
+ghost use Rattle.what_if.specs.Changes.{AreOfFour, AreStill, WereExchanged, WereNear, fours};
 
 use crate::fours::Fours;
-use lift_sequence::Sequence;
+use lift_sequence::{Op, Sequence};
 use ship_profile::Frames;
+use units_core::{Cell, Kg};
 
 /// Where the four steps end one of which is at a place.
 fn end_of_four(place: usize) -> usize
@@ -18,10 +25,7 @@ fn end_of_four(place: usize) -> usize
 }
 
 /// Sets what the four steps change together one of which is at a place, unless they were set
-/// before: the sums of all steps below `done` are set. Returns below which step they are then. Out
-/// of line: most steps behind a load don't move its container, and the loop of [`renew`] is to take
-/// no more for these than to see that.
-#[inline(never)]
+/// before: the sums of all steps below `done` are set. Returns below which step they are then.
 fn set_moved(
     sums: &mut Fours,
     sequence: &Sequence,
@@ -49,37 +53,42 @@ fn set_moved(
     end_of_four(place)
 }
 
-/// Sets what the step at a place changes, if it is moved and its four weren't set before. The sums
-/// of all steps below `done` are set; returns below which step they are then.
-#[inline(always)]
-fn renew_step(
-    sums: &mut Fours,
-    sequence: &Sequence,
-    frames: &Frames,
-    place: usize,
-    done: usize,
-    moved: bool,
-) -> usize
-    requires within { place < length sequence.now.ops }
-    requires steps { length sequence.now.steps ≡ length sequence.now.ops }
-    requires few { length sequence.now.ops ≤ 120000 }
-    requires long { length sums.old.values ≡ length sequence.now.ops / 4 }
-    requires small { AreOfFour sums.old.values }
-    ensures still { moved ≡ false → (result ≡ done) × (sums.new.values ≡ sums.old.values) }
-    ensures inside { moved ≡ true → place < done
-        → (result ≡ done) × (sums.new.values ≡ sums.old.values) }
-    ensures set { moved ≡ true → done ≤ place → (result ≡ place / 4 * 4 + 4)
-        × (sums.new.values ≡ slice_set sums.old.values (place / 4) (slice_index_or
-        (fours (map (change_of frames.now) sequence.now.steps)) (place / 4) none_kept)) }
-    ensures grows { sums.old.joins ≤ sums.new.joins }
-    ensures cost { (levels : ℕ) → length sequence.now.ops ≤ 2 ^ levels
-        → sums.new.joins ≤ sums.old.joins + (if moved then 1 else 0) * (levels + 1) }
+/// As [`Sequence::reweigh`]. Out of line, as [`next_move`] is: it is a loop over the steps too.
+#[inline(never)]
+pub fn weigh(sequence: &mut Sequence, k: usize, kg: Kg)
+    requires first { 1 ≤ k }
+    requires load { IsLoad sequence.old.ops (k - 1) }
+    ensures ops { sequence.new.ops ≡ weighed_at kg (k - 1) sequence.old.ops }
+    ensures steps { AreReweighed kg (k - 1) sequence.old.ops sequence.old.steps
+        sequence.new.steps }
+    ensures legal { (ship : ProfileRecord) (at : Aboard) →
+        sequence_fault ship at sequence.old.ops ≡ None →
+        sequence_fault ship at sequence.new.ops ≡ None }
+    ensures done { (ship : ProfileRecord) (at : Aboard) →
+        sequence_fault ship at sequence.old.ops ≡ None →
+        sequence.old.steps ≡ steps_of ship at sequence.old.ops →
+        sequence.new.steps ≡ steps_of ship at sequence.new.ops }
 {
-    if moved {
-        set_moved(sums, sequence, frames, place, done)
-    } else {
-        done
+    sequence.reweigh(k, kg);
+}
+
+/// The place of the first step, from a place on, that moves the container which is in a cell; the
+/// number of steps where none does. Out of line: how fast this loop runs would else hang on where
+/// the rest of an edit happens to put it.
+#[inline(never)]
+fn next_move(ops: &[Op], from: usize, cell: Option<Cell>) -> usize
+    requires { from ≤ length ops.now }
+    ensures order { (from ≤ result) × (result ≤ length ops.now) }
+    ensures still { AreStill cell ops.now from result }
+    ensures moves { (op : Operation) → slice_get ops.now result ≡ Some op
+        → moves cell op ≡ true }
+{
+    for place in from..ops.len() {
+        if ops[place].moves(cell) {
+            return place;
+        }
     }
+    ops.len()
 }
 
 /// Sets what the load at a place changes, and those steps behind it that move its container. The
@@ -100,10 +109,11 @@ pub fn renew(sums: &mut Fours, sequence: &Sequence, frames: &Frames, place: usiz
     let mut done = end_of_four(place);
     let ops = sequence.ops();
     let mut cell = ops[place].loaded_cell();
-    for behind in place + 1..ops.len() {
-        let op = &ops[behind];
-        done = renew_step(sums, sequence, frames, behind, done, op.moves(cell));
-        cell = op.next_cell(cell);
+    let mut behind = next_move(ops, place + 1, cell);
+    while behind < ops.len() {
+        done = set_moved(sums, sequence, frames, behind, done);
+        cell = ops[behind].next_cell(cell);
+        behind = next_move(ops, behind + 1, cell);
     }
 }
 
