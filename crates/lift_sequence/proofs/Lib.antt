@@ -6,6 +6,7 @@ pub mod ExchangeLemmas
 pub mod FirstFaults
 pub mod FollowLemmas
 pub mod IndependentLemmas
+pub mod LightLemmas
 pub mod Listings
 pub mod MemoryLemmas
 pub mod Overlaps

@@ -1,8 +1,8 @@
 -- What is aboard on arrival: the items of the bay plan, in their order, and then the fills of the
 -- ship's tanks.
-use Rattle.std.specs.Prelude.{◌≡◌, ◌≢◌, ℕ, ◌+◌, ℤ, nat_eq, List, [], ◌∷◌, ◌++◌, map, Option, None}
-use Rattle.std.specs.Prelude.{Some, option_map, filter_map}
-use Rattle.std.specs.List.{IsDistinct}
+use Rattle.std.specs.Prelude.{◌≡◌, ◌≢◌, ◌≤◌, ℕ, ◌+◌, ◌^◌, ℤ, nat_eq, List, [], ◌∷◌, ◌++◌, length}
+use Rattle.std.specs.Prelude.{map, Option, None, Some, option_map, filter_map}
+use Rattle.std.specs.List.{AllByRecursion, IsDistinct}
 use Rattle.std.specs.Option.{option_or}
 use Rattle.units_core.specs.Bodies.{Mass}
 use Rattle.stow_messages.specs.declared.items.Item.{Item}
@@ -79,6 +79,15 @@ pub record ArrivalRecord : Type 0 where
   pub items : List Item
   pub fills : List TankFill
   pub bodies : List Mass
+
+-- each item is of at most 10^9 kg
+abbrev pub AreLight : List Item → Type 0
+AreLight items = AllByRecursion (λ item. item.kg ≤ 10 ^ 9) items
+
+-- what every arrival keeps: not too many bodies, and no container too heavy for a sum
+pub record IsStowed (arrival : ArrivalRecord) : Type 0 where
+  pub few : length arrival.bodies ≤ 30400
+  pub light : AreLight arrival.items
 
 -- what is aboard on it
 abbrev pub cargo_on : ArrivalRecord → Aboard

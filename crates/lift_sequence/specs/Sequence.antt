@@ -1,10 +1,12 @@
 -- A sequence of steps: what the planner orders, in his order, and the first step that can't be
 -- done.
-use Rattle.std.specs.Prelude.{◌≡◌, ℕ, zero, suc, ◌+◌, ℤ, ◌+ℤ◌, List, [], ◌∷◌, length, map, take}
-use Rattle.std.specs.Prelude.{filter_map, Option, None, Some, option_map, slice_get, nat_lt}
-use Rattle.std.specs.Prelude.{if◌then◌else◌}
+use Rattle.std.specs.Prelude.{◌≡◌, ◌≤◌, ⊤, ℕ, zero, suc, ◌+◌, ◌^◌, ℤ, ◌+ℤ◌, List, [], ◌∷◌, length}
+use Rattle.std.specs.Prelude.{map, take, filter_map, Option, None, Some, option_map, slice_get}
+use Rattle.std.specs.Prelude.{nat_lt, if◌then◌else◌}
+use Rattle.std.specs.List.{AllByRecursion}
 use Rattle.std.specs.Option.{option_or}
 use Rattle.stow_messages.specs.declared.lifts.Lift as lift
+use Rattle.stow_messages.specs.declared.lifts.Lift.TheVariants.{Load}
 use Rattle.stow_messages.specs.declared.step_rows.StepRow.{StepRow}
 use Rattle.stow_messages.specs.declared.step_rows.StepRow.TheVariants as row
 use Rattle.ship_profile.specs.Record.{ProfileRecord, IsSound}
@@ -67,6 +69,18 @@ StepsAddUp ship at ops steps = (f : Mass → ℤ) (k : ℕ)
 pub record SequenceRecord : Type 0 where
   pub ops : List operation.Op
   pub steps : List Step
+
+-- a container that is loaded is of at most 10^9 kg
+abbrev pub IsLight : operation.Op → Type 0
+IsLight (Lift (Load item)) = item.kg ≤ 10 ^ 9
+IsLight op = ⊤
+
+-- what every sequence keeps: for each step what it does, not too many of them, and no container too
+-- heavy for a sum
+pub record AreKept (ops : List operation.Op) (steps : List Step) : Type 0 where
+  pub long : length steps ≡ length ops
+  pub few : length ops ≤ 120000
+  pub light : AllByRecursion IsLight ops
 
 -- the arrival was made with this profile, which keeps what every profile keeps
 pub record IsOf (ship : ProfileRecord) (arrival : ArrivalRecord) : Type 0 where

@@ -2,10 +2,10 @@ ghost use Rattle.std.specs.Prelude.{◌≡◌, ◌↔◌, IsTrue, ◌≤◌, ◌
 ghost use Rattle.std.specs.Prelude.{Some, None};
 ghost use Rattle.ship_profile.specs.Record.{IsSound};
 ghost use Rattle.lift_sequence.specs.Aboard.{cargo_in, nothing, with_item, container_of};
-ghost use Rattle.lift_sequence.specs.Arrival.{AddUpTo, AreFilledOnce, TellsAt, arrival_bodies};
-ghost use Rattle.lift_sequence.specs.Arrival.{arrival_fault, cargo_on, fill_bodies, fills_fault};
-ghost use Rattle.lift_sequence.specs.Arrival.{item_bodies, items_fault, on_arrival, with_fills};
-ghost use Rattle.lift_sequence.specs.Arrival.{with_items};
+ghost use Rattle.lift_sequence.specs.Arrival.{AddUpTo, AreFilledOnce, AreLight, IsStowed, TellsAt};
+ghost use Rattle.lift_sequence.specs.Arrival.{arrival_bodies, arrival_fault, cargo_on, fill_bodies};
+ghost use Rattle.lift_sequence.specs.Arrival.{fills_fault, item_bodies, items_fault, on_arrival};
+ghost use Rattle.lift_sequence.specs.Arrival.{with_fills, with_items};
 ghost use Rattle.lift_sequence.specs.Bodies.{item_body};
 ghost use Rattle.lift_sequence.specs.Legal.{Tells, stand_fault};
 ghost use Rattle.lift_sequence.specs.Sequence.{IsOf};
@@ -41,7 +41,7 @@ impl Drop for Arrival {
 }
 
 impl Model for Arrival {
-    ghost use Rattle.lift_sequence.specs.Arrival.{ArrivalRecord};
+    ghost use Rattle.lift_sequence.specs.Arrival.{ArrivalRecord, IsStowed};
 
     ghost Value = { ArrivalRecord };
 
@@ -50,6 +50,12 @@ impl Model for Arrival {
       fills = a.fills.items;
       bodies = a.bodies.items;
     } };
+
+    ghost invariant = { λ a. IsStowed (record {
+      items = a.items.items;
+      fills = a.fills.items;
+      bodies = a.bodies.items;
+    }) };
 }
 
 /// Puts an item aboard, if its cell can take it.
@@ -150,6 +156,16 @@ fn joined(
     Ok(bodies)
 }
 
+/// No item is too heavy for a sum, since a [`units_core::Kg`] has six digits. Their masses are
+/// looked at, so that this is known of them.
+fn items_are_light(items: &[Item])
+    ensures { AreLight items.now }
+{
+    for item in items {
+        let _ = item.kg.get();
+    }
+}
+
 impl Arrival {
     /// The condition of a ship on arrival with these items of her bay plan and these fills. The
     /// first fault is answered: item by item [`SeqCode::UnknownCell`], `CellTaken` and `Overlap`,
@@ -167,7 +183,6 @@ impl Arrival {
         ensures fills { IfOk result (λ a. a.fills ≡ fills.now) }
         ensures bodies { IfOk result (λ a.
             a.bodies ≡ arrival_bodies profile.now items.items fills.now) }
-        ensures few { IfOk result (λ a. length a.bodies ≤ 30400) }
         ensures of { IfOk result (λ a. IsOf profile.now a) }
         ensures sums { IfOk result (λ a. AreFilledOnce fills.now →
             AddUpTo profile.now (on_arrival items.items fills.now) a.bodies) }
@@ -183,6 +198,7 @@ impl Arrival {
         let Ok(fills) = fills.to_vec(alloc) else {
             return Err(NO_MEMORY);
         };
+        items_are_light(&items);
         Ok(Arrival {
             items,
             fills,
@@ -195,6 +211,14 @@ impl Arrival {
         ensures { result.now ≡ self.now.items }
     {
         self.items.as_slice()
+    }
+
+    /// What is known of every arrival: facts, which take no time.
+    pub fn facts(&self)
+        ensures { IsStowed self.now }
+    {
+        // The invariant is known where a field is used.
+        let _ = &self.items;
     }
 
     /// The bodies aboard: the blocks of the light ship, the fillings, the containers.

@@ -2,6 +2,7 @@ ghost use Rattle.std.specs.Prelude.{◌≡◌, ◌↔◌, ◌≤◌, ◌<◌, �
 ghost use Rattle.std.specs.Prelude.{slice_get, option_map, swap, IsTrue, OnOk, IfOk, IfErr, Some};
 ghost use Rattle.std.specs.Prelude.{None, if◌then◌else◌};
 ghost use Rattle.std.specs.Bool.{OnTrue, OnFalse};
+ghost use Rattle.std.specs.List.{AllByRecursion};
 ghost use Rattle.ship_profile.specs.Record.{ProfileRecord};
 ghost use Rattle.lift_sequence.specs.Arrival.{TellsAt, cargo_on, fault_at};
 ghost use Rattle.lift_sequence.specs.Aboard.{Aboard, cargo_in, after_step};
@@ -11,8 +12,8 @@ ghost use Rattle.lift_sequence.specs.Follow.{AreReweighed, IsLoad, moves, steps_
 ghost use Rattle.lift_sequence.specs.Follow.{weighed_at};
 ghost use Rattle.lift_sequence.specs.Independent.{AreExchangeable, CanPass, CanSwap, moved};
 ghost use Rattle.lift_sequence.specs.Legal.{fault_of};
-ghost use Rattle.lift_sequence.specs.Sequence.{AreSteps, IsOf, StepsAddUp, first_fault};
-ghost use Rattle.lift_sequence.specs.Sequence.{sequence_fault};
+ghost use Rattle.lift_sequence.specs.Sequence.{AreKept, AreSteps, IsLight, IsOf, StepsAddUp};
+ghost use Rattle.lift_sequence.specs.Sequence.{first_fault, sequence_fault};
 
 use crate::arrivals::Arrival;
 use crate::carrying::carry;
@@ -23,6 +24,7 @@ use crate::stowage::Stowage;
 use ship_profile::Profile;
 use std::alloc::Global;
 use std::marker::Model;
+use stow_messages::Lift;
 use units_core::{Cell, Kg, Step};
 
 /// The greatest number of steps.
@@ -37,14 +39,13 @@ pub struct Sequence {
 }
 
 impl Model for Sequence {
-    ghost use Rattle.std.specs.Prelude.{◌≡◌, length};
-    ghost use Rattle.lift_sequence.specs.Sequence.{SequenceRecord};
+    ghost use Rattle.lift_sequence.specs.Sequence.{AreKept, SequenceRecord};
 
     ghost Value = { SequenceRecord };
 
     ghost view = { λ s. record { ops = s.ops.items; steps = s.steps.items } };
 
-    ghost invariant = { λ s. length s.steps.items ≡ length s.ops.items };
+    ghost invariant = { λ s. AreKept s.ops.items s.steps.items };
 }
 
 /// Does all steps, and gives what each does.
@@ -116,6 +117,25 @@ fn weigh_steps(ops: &[Op], steps: &mut [Step], place: usize, kg: Kg)
     weigh_moves(ops, steps, place + 1, ops[place].loaded_cell(), kg);
 }
 
+/// A step loads no container that is too heavy for a sum, since a [`Kg`] has six digits. Its mass
+/// is looked at, so that this is known of it.
+fn op_is_light(op: &Op)
+    ensures { IsLight op.now }
+{
+    if let Op::Lift(Lift::Load(item)) = op {
+        let _ = item.kg.get();
+    }
+}
+
+/// No step loads a container that is too heavy for a sum.
+fn ops_are_light(ops: &[Op])
+    ensures { AllByRecursion IsLight ops.now }
+{
+    for op in ops {
+        op_is_light(op);
+    }
+}
+
 impl Sequence {
     /// The sequence of these steps from the condition on arrival, which was made with the same
     /// profile. The first fault is answered: [`SeqCode::TooManySteps`] at 120,001 where there are
@@ -134,7 +154,6 @@ impl Sequence {
         ensures legal { OnOk result
             (sequence_fault profile.now (cargo_on arrival.now) ops.items ≡ None) }
         ensures ops { IfOk result (λ s. s.ops ≡ ops.items) }
-        ensures few { IfOk result (λ s. length s.ops ≤ 120000) }
         ensures steps { IfOk result (λ s.
             s.steps ≡ steps_of profile.now (cargo_on arrival.now) ops.items) }
         ensures each { IfOk result (λ s.
@@ -152,6 +171,7 @@ impl Sequence {
             return Err(NO_MEMORY);
         };
         let steps = make_all(alloc, profile, &mut stowage, &ops)?;
+        ops_are_light(&ops);
         Ok(Sequence { ops, steps })
     }
 
@@ -187,6 +207,14 @@ impl Sequence {
         self.ops.as_slice()
     }
 
+    /// What is known of every sequence: facts, which take no time.
+    pub fn facts(&self)
+        ensures { AreKept self.now.ops self.now.steps }
+    {
+        // The invariant is known where a field is used.
+        let _ = &self.ops;
+    }
+
     /// Gives the container that step `k` loads, the first step being 1, another weight. That
     /// changes the body that this step puts in, and the bodies of the later steps that move this
     /// container; all else stays. Wherever the sequence could be carried out, it still can, since
@@ -204,6 +232,8 @@ impl Sequence {
             self.old.steps ≡ steps_of ship at self.old.ops →
             self.new.steps ≡ steps_of ship at self.new.ops }
     {
+        // looked at, so that it is known to be light
+        let _ = kg.get();
         let place = k - 1;
         weigh_steps(&self.ops, &mut self.steps, place, kg);
         self.ops[place] = self.ops[place].reweighed(kg);

@@ -2,10 +2,10 @@
 use Rattle.std.proofs.Common.{◌≡◌, ◌≤◌, ℕ, List, [], Bool, true, false, Option, Err, inl, inr, refl, sym, subst, arith}
 use Rattle.clap.specs.Words.{Text}
 use Rattle.prefix_scan.specs.declared.divisions.CutFault.{CutFault}
-use Rattle.run_inputs.specs.declared.faults.RunFault.{RunFault}
-use Rattle.run_inputs.specs.declared.faults.RunFault.TheVariants as run
-use Rattle.run_inputs.specs.declared.inputs.Inputs.{Inputs}
-use Rattle.run_inputs.specs.Refusals.{is_refusal, is_write_fault}
+use Rattle.port_call.specs.declared.faults.RunFault.{RunFault}
+use Rattle.port_call.specs.declared.faults.RunFault.TheVariants as run
+use Rattle.port_call.specs.declared.inputs.Inputs.{Inputs}
+use Rattle.port_call.specs.Refusals.{is_refusal, is_write_fault}
 use Rattle.seq_report.specs.Refusal.{outcome_of}
 use Rattle.command_line.specs.declared.lines.Line.{Line}
 use Rattle.command_line.specs.declared.lines.LineFault.{LineFault}

@@ -9,13 +9,14 @@ use Rattle.edits_file.specs.declared.files.EditsFault.TheVariants as file
 use Rattle.edits_file.specs.declared.forms.EditLine.{EditLine}
 use Rattle.edits_file.specs.Reading.{edits_of}
 use Rattle.lift_sequence.specs.declared.operations.Op.{Op}
-use Rattle.run_inputs.specs.declared.faults.RunFault.{RunFault}
-use Rattle.run_inputs.specs.declared.faults.RunFault.TheVariants as run
-use Rattle.run_inputs.specs.declared.inputs.Inputs.{Inputs}
-use Rattle.run_inputs.specs.Refusals.{is_refusal, is_write_fault}
+use Rattle.port_call.specs.declared.faults.RunFault.{RunFault}
+use Rattle.port_call.specs.declared.faults.RunFault.TheVariants as run
+use Rattle.port_call.specs.declared.inputs.Inputs.{Inputs}
+use Rattle.port_call.specs.Refusals.{is_refusal, is_write_fault}
 use Rattle.seq_report.specs.declared.complete.Summary.{Summary}
 use Rattle.seq_report.specs.Refusal.{Outcome, outcome_of}
-use Rattle.what_if.specs.Bases.{Base, report_on}
+use Rattle.port_call.specs.Grounds.{GroundRecord}
+use Rattle.what_if.specs.Bases.{report_on}
 use Rattle.what_if.specs.Sessions.{AreTold, SessionRecord}
 use Rattle.command_line.specs.declared.lines.Task.TheVariants.{WhatIf}
 use Rattle.run_files.specs.declared.stops.Stop.{Stop}
@@ -69,10 +70,10 @@ module _ (inputs : Inputs) (edits : List ℕ) where
       record {
         ops = before.ops;
         lines = lines;
-        told = subst (λ (b : Base). AreTold inputs b before.ops) (sym base) told;
+        told = subst (λ (b : GroundRecord). AreTold inputs b before.ops) (sym base) told;
         read = read;
-        lists = lists ∙ ap (λ (l : Lists). after_all before.base l lines) start ∙ ap (λ (b : Base). after_all b (untried before.ops) lines) (sym base);
-        answers_are = text ∙ ap (λ (l : Lists). answer_lines before.base l 1 lines) start ∙ ap (λ (b : Base). answer_lines b (untried before.ops) 1 lines) (sym base);
+        lists = lists ∙ ap (λ (l : Lists). after_all before.base l lines) start ∙ ap (λ (b : GroundRecord). after_all b (untried before.ops) lines) (sym base);
+        answers_are = text ∙ ap (λ (l : Lists). answer_lines before.base l 1 lines) start ∙ ap (λ (b : GroundRecord). answer_lines b (untried before.ops) 1 lines) (sym base);
       }
 
   -- what is printed of a session in which edits were tried: the answers, and its report

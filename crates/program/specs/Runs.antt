@@ -5,11 +5,11 @@ use Rattle.edits_file.specs.declared.files.EditsFault.TheVariants.{Line as LineF
 use Rattle.edits_file.specs.declared.forms.EditLine.{EditLine}
 use Rattle.edits_file.specs.Reading.{edits_of}
 use Rattle.lift_sequence.specs.declared.operations.Op.{Op}
-use Rattle.run_inputs.specs.declared.faults.RunFault.{RunFault}
-use Rattle.run_inputs.specs.declared.inputs.Inputs.{Inputs}
+use Rattle.port_call.specs.declared.faults.RunFault.{RunFault}
+use Rattle.port_call.specs.declared.inputs.Inputs.{Inputs}
 use Rattle.seq_report.specs.Refusal.{Outcome, outcome_of}
 use Rattle.seq_report.specs.Report.{last_line}
-use Rattle.what_if.specs.Bases.{Base}
+use Rattle.port_call.specs.Grounds.{GroundRecord}
 use Rattle.what_if.specs.Sessions.{AreTold, SessionRecord}
 use Rattle.command_line.specs.declared.lines.Line.{Line}
 use Rattle.command_line.specs.declared.lines.Task.{Task}
@@ -25,7 +25,7 @@ use Rattle.program.specs.Written.{HasWritten, IsFrontOf}
 
 -- the outcome of trying the edits of a text on the steps that inputs order
 pub record AreTried (inputs : Inputs) (text : List ℕ) (outcome : Outcome) : Type 0 where
-  pub base : Base
+  pub base : GroundRecord
   pub ops : List Op
   pub lines : List EditLine
   pub told : AreTold inputs base ops
@@ -44,7 +44,7 @@ pub record AreTriedIn (inputs : Inputs) (text : List ℕ) (session : SessionReco
 
 -- the answers to them alone, with no report behind
 pub record AreAnswers (inputs : Inputs) (text : List ℕ) (answers : List ℕ) : Type 0 where
-  pub base : Base
+  pub base : GroundRecord
   pub ops : List Op
   pub lines : List EditLine
   pub told : AreTold inputs base ops

@@ -10,7 +10,8 @@ use Rattle.step_edits.specs.Printed.{edit_code_text}
 use Rattle.edits_file.specs.declared.forms.EditLine.{EditLine}
 use Rattle.edits_file.specs.declared.forms.EditLine.TheVariants.{Edit, Undo}
 use Rattle.seq_report.specs.Refusal.{Outcome}
-use Rattle.what_if.specs.Bases.{Base, report_on}
+use Rattle.port_call.specs.Grounds.{GroundRecord}
+use Rattle.what_if.specs.Bases.{report_on}
 use Rattle.what_if.specs.Sessions.{SessionRecord, refusal}
 use Rattle.program.specs.declared.trials.Answer.{Answer}
 use Rattle.program.specs.declared.trials.Answer.TheVariants.{Done, Refused, Nothing}
@@ -40,11 +41,11 @@ taken_back ops [] = untried ops
 taken_back ops (newest ∷ past) = record { ops = newest; past = past }
 
 -- after a line, and after several, one after another
-abbrev pub after_line : Base → Lists → EditLine → Lists
+abbrev pub after_line : GroundRecord → Lists → EditLine → Lists
 after_line base lists (Edit edit) = after_edit lists edit (refusal base lists.ops edit)
 after_line base lists Undo = taken_back lists.ops lists.past
 
-abbrev pub after_all : Base → Lists → List EditLine → Lists
+abbrev pub after_all : GroundRecord → Lists → List EditLine → Lists
 after_all base lists [] = lists
 after_all base lists (line ∷ lines) = after_all base (after_line base lists line) lines
 
@@ -57,7 +58,7 @@ abbrev pub undo_answer : List (List Op) → Answer
 undo_answer [] = Nothing
 undo_answer (newest ∷ past) = Done
 
-abbrev pub answer_of : Base → Lists → EditLine → Answer
+abbrev pub answer_of : GroundRecord → Lists → EditLine → Answer
 answer_of base lists (Edit edit) = edit_answer (refusal base lists.ops edit)
 answer_of base lists Undo = undo_answer lists.past
 
@@ -72,7 +73,7 @@ answer_line number answer =
     codes "EDIT " ++ (decimal number ++ (codes " " ++ (answer_text answer ++ codes "\n")))
 
 -- a line for each of these lines, of which the first has this number
-abbrev pub answer_lines : Base → Lists → ℕ → List EditLine → List ℕ
+abbrev pub answer_lines : GroundRecord → Lists → ℕ → List EditLine → List ℕ
 answer_lines base lists number [] = []
 answer_lines base lists number (line ∷ lines) =
     answer_line number (answer_of base lists line)
@@ -80,7 +81,7 @@ answer_lines base lists number (line ∷ lines) =
 
 -- What is printed where these lines are tried on a list: an answer to each, and the report on the
 -- list that is left.
-abbrev pub outcome_after : Base → List Op → List EditLine → Outcome
+abbrev pub outcome_after : GroundRecord → List Op → List EditLine → Outcome
 outcome_after base ops lines = record {
   text = answer_lines base (untried ops) 1 lines
       ++ (report_on base (after_all base (untried ops) lines).ops).text;

@@ -1,7 +1,7 @@
 -- What is known of the files of a run, by their names, and what was read of them.
 use Rattle.std.specs.Prelude.{◌≡◌, ℕ, List, [], ◌++◌, Option, None, Some, option_map, codes}
 use Rattle.ship_profile.specs.Record as profile
-use Rattle.run_inputs.specs.declared.inputs.Inputs.{Inputs}
+use Rattle.port_call.specs.declared.inputs.Inputs.{Inputs}
 use Rattle.command_line.specs.declared.lines.Line.{Line}
 
 -- what is known of a name: nothing, that a file is there, or also the bytes that it holds

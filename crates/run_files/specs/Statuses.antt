@@ -3,10 +3,10 @@ use Rattle.std.specs.Prelude.{ℕ, List, [], ◌∷◌, ◌++◌, map, codes, st
 use Rattle.std.specs.Fmt.{decimal}
 use Rattle.edits_file.specs.declared.files.EditsFault.{EditsFault}
 use Rattle.edits_file.specs.declared.files.EditsFault.TheVariants as file
-use Rattle.run_inputs.specs.Shown.{shown}
-use Rattle.run_inputs.specs.Printed.{run_fault_text}
-use Rattle.run_inputs.specs.declared.faults.RunFault.{RunFault}
-use Rattle.run_inputs.specs.declared.faults.RunFault.TheVariants as run
+use Rattle.port_call.specs.Shown.{shown}
+use Rattle.port_call.specs.Printed.{run_fault_text}
+use Rattle.port_call.specs.declared.faults.RunFault.{RunFault}
+use Rattle.port_call.specs.declared.faults.RunFault.TheVariants as run
 use Rattle.command_line.specs.declared.lines.LineFault.{LineFault}
 use Rattle.command_line.specs.declared.lines.LineFault.TheVariants as line
 use Rattle.run_files.specs.declared.stops.Stop.{Stop}

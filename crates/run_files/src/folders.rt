@@ -8,7 +8,7 @@ ghost use Rattle.run_files.specs.Statuses.{IsUnread, name_shown};
 use crate::files::{Readers, Unopened, whole};
 use crate::stops::Stop;
 use command_line::Line;
-use run_inputs::{Inputs, shown};
+use port_call::{Inputs, shown};
 use ship_profile::ProfileBytes;
 use std::alloc::{AllocError, Global};
 use std::marker::Model;

@@ -4,7 +4,7 @@ ghost use Rattle.run_files.specs.Statuses.{status_of, status_on};
 use command_line::LineFault;
 use criteria::Criterion;
 use edits_file::EditsFault;
-use run_inputs::RunFault;
+use port_call::RunFault;
 use std::alloc::AllocError;
 use std::error::Error;
 use std::fmt;

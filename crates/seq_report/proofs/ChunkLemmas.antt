@@ -6,7 +6,7 @@ use Rattle.std.proofs.lemmas.Grind.{flat_map-append}
 use Rattle.std.proofs.lemmas.List.{append-nil, map-append}
 use Rattle.std.proofs.lemmas.List.FromFn.{length-map-range_with_len}
 use Rattle.prefix_scan.specs.Cut.{start_of, IsRising, Divides}
-use Rattle.seq_report.specs.declared.cases.Case.{Case}
+use Rattle.port_call.specs.Cases.{CaseRecord}
 use Rattle.criteria.specs.declared.criterion.Criterion.{Criterion}
 use Rattle.seq_report.specs.Cases.{line_in, outcome_in}
 use Rattle.seq_report.specs.Chunks.{Part, chunk_of, first_in, part_of, text_in}
@@ -56,12 +56,12 @@ part_more ls l =
     let first : option_or (first_of ls) (failure_of l.step) ≡ first_of (ls ++ l ∷ []) = ap (option_or (first_of ls)) (sym (or_none (failure_of l.step))) ∙ sym (first-append ls (l ∷ [])) in
     λ j. record { text = text j; first = first j }
 
-pub many_lines : (case : Case) → length case.sequence.ops + 1 ≡ (outcome_in case).summary.lines
+pub many_lines : (case : CaseRecord) → length case.sequence.ops + 1 ≡ (outcome_in case).summary.lines
 many_lines case =
     let next : length case.sequence.ops + 1 ≡ suc (length case.sequence.ops) = omega arith in
     next ∙ sym (length-map-range_with_len (line_in case) 0 (suc (length case.sequence.ops)))
 
-module _ (case : Case) (ends : List ℕ) where
+module _ (case : CaseRecord) (ends : List ℕ) where
   abbrev pub part_at : ℕ → Part
   part_at k = part_of (map (line_in case) (chunk_of ends k))
 
@@ -94,7 +94,7 @@ module _ (case : Case) (ends : List ℕ) where
       λ j. record { text = header_of ++ (text j ++ last_line (first j)); summary = record { lines = count j; first = first j } }
 
 -- the first failing line of those from k on is line k, or the first behind it
-pub first_here : (case : Case) (k e : ℕ) → k < e → first_of (map (line_in case) (range_with_len k (e - k)))
+pub first_here : (case : CaseRecord) (k e : ℕ) → k < e → first_of (map (line_in case) (range_with_len k (e - k)))
     ≡ option_or (failure_of (line_in case k).step) (first_of (map (line_in case) (range_with_len (k + 1) (e - (k + 1)))))
 first_here case k e low =
     let same : e - k ≡ suc (e - (k + 1)) = omega arith in

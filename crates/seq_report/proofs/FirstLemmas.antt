@@ -7,7 +7,7 @@ use native.Mathlib.Decide.{dec_le, ℕ_discrete}
 use Rattle.prefix_scan.specs.Cut.{start_of, Divides}
 use Rattle.criteria.specs.declared.criterion.Criterion.{Criterion}
 use Rattle.claim_board.specs.Claims.{IsLeastFound}
-use Rattle.seq_report.specs.declared.cases.Case.{Case}
+use Rattle.port_call.specs.Cases.{CaseRecord}
 use Rattle.seq_report.specs.Cases.{IsFirstStep, first_step_in, line_in, outcome_in}
 use Rattle.seq_report.specs.Chunks.{chunk_of, first_in}
 use Rattle.seq_report.specs.Firsts.{first_within}
@@ -42,7 +42,7 @@ a_step : (o : Option (ℕ × Criterion)) (l : ℕ) → option_map (λ first. fir
 a_step None l is = absurd (cc)
 a_step (Some p) l is = (p, refl, cc)
 
-module _ (case : Case) (ends : List ℕ) (d : Divides ends (length case.sequence.ops + 1)) where
+module _ (case : CaseRecord) (ends : List ℕ) (d : Divides ends (length case.sequence.ops + 1)) where
   abbrev first_at : ℕ → Option (ℕ × Criterion)
   first_at c = first_of (map (line_in case) (chunk_of ends c))
 

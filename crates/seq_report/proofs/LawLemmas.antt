@@ -13,8 +13,7 @@ use Rattle.moment_sums.specs.Sum.{Column, Sum, changed_by, joined, nothing, of_b
 use Rattle.moment_sums.specs.Kept.{Kept, both_kept, none_kept, values}
 use Rattle.moment_sums.proofs.Bounds.{values_both, values_nothing}
 use Rattle.moment_sums.proofs.KeptLemmas.{kept_values}
-use Rattle.seq_report.specs.declared.cases.Case.{Case}
-use Rattle.seq_report.specs.Cases.{IsReady}
+use Rattle.port_call.specs.Cases.{CaseRecord, IsReady}
 use Rattle.seq_report.specs.Laws.{OffsetsAreSums, SumsAreFolds, arrival_fold, body_kept, step_kept, steps_prefix}
 use Rattle.seq_report.proofs.OffsetLemmas.{offset_sum}
 use Rattle.seq_report.proofs.SumLemmas.{at_none, change_values, joined_assoc, joined_nothing, sum_here}
@@ -62,7 +61,7 @@ module _ (frames : List Frame) (few : length frames ≤ 16) where
       ap (λ xs. values (fold both_kept none_kept xs)) (map_take (step_kept frames) k steps)
       ∙ fold_of_nothing (step_kept frames) (λ c step. change (value frames c) step) step_values (take k steps)
 
-pub sums_are_folds : (case : Case) → IsReady case → SumsAreFolds case.profile case.arrival case.sequence
+pub sums_are_folds : (case : CaseRecord) → IsReady case → SumsAreFolds case.profile case.arrival case.sequence
 sums_are_folds case ready = λ k within.
     let frames = case.profile.ship.frames in
     let steps = case.sequence.steps in (
@@ -72,7 +71,7 @@ sums_are_folds case ready = λ k within.
       ready.bounded k,
     )
 
-pub offsets_are_sums : (case : Case) → IsReady case → OffsetsAreSums case.profile case.arrival case.sequence
+pub offsets_are_sums : (case : CaseRecord) → IsReady case → OffsetsAreSums case.profile case.arrival case.sequence
 offsets_are_sums case ready = λ ends d c k low from to.
     let frames = case.profile.ship.frames in
     offset_sum frames case.arrival.bodies case.sequence.steps ends (length case.sequence.ops + 1) _ ready.frames d (omega (arith, ready.few)) (omega (arith, ready.long)) refl

@@ -1,4 +1,3 @@
-pub mod CaseLemmas
 pub mod ChunkLemmas
 pub mod FirstLemmas
 pub mod LawLemmas
@@ -8,5 +7,4 @@ pub mod PassedLemmas
 pub mod PlanLemmas
 pub mod RunLemmas
 pub mod SumLemmas
-pub mod Totals
 pub mod Words

@@ -17,7 +17,7 @@ use Rattle.moment_sums.specs.KeptLaws.{kept_laws}
 use Rattle.moment_sums.proofs.Bounds.{values_both, values_nothing}
 use Rattle.seq_report.specs.Chunks.{AreFirstSums, changes_behind, chunk_of, sum_to}
 use Rattle.seq_report.proofs.SumLemmas.{changes_size, changes_sum, joined_assoc, joined_nothing, room_behind}
-use Rattle.seq_report.proofs.Totals.{take_past}
+use Rattle.port_call.proofs.Totals.{take_past}
 
 module _ (frames : List Frame) (arrival : List Mass) (steps : List Step) (ends : List ℕ) (len : ℕ) (totals : List Kept)
     (few_frames : length frames ≤ 16) (d : Divides ends len) (few : len ≤ 120001) (long : len ≡ length steps + 1)

@@ -5,12 +5,12 @@ use Rattle.std.specs.Option.{option_or}
 use mathlib.Core.Logic.{dite}
 use native.Mathlib.Decide.{ℕ_discrete}
 use Rattle.criteria.specs.declared.criterion.Criterion.{Criterion}
-use Rattle.seq_report.specs.declared.cases.Case.{Case}
+use Rattle.port_call.specs.Cases.{CaseRecord}
 use Rattle.seq_report.specs.Cases.{ArePassed, line_in, outcome_in, passed_before}
 use Rattle.seq_report.specs.Firsts.{first_within}
 use Rattle.seq_report.specs.Report.{failure_of, first_failed, first_of}
 
-module _ (case : Case) where
+module _ (case : CaseRecord) where
   abbrev first_from : ℕ → ℕ → Option (ℕ × Criterion)
   first_from a n = first_of (map (line_in case) (range_with_len a n))
 

@@ -1,10 +1,11 @@
 -- Faults of plans.
-use Rattle.std.proofs.Common.{◌≡◌, ◌≢◌, ℕ, ◌<◌, ◌⊎◌, inl, inr, refl, subst, arith}
+use Rattle.std.proofs.Common.{◌≡◌, ◌≢◌, ℕ, ◌<◌, ◌⊎◌, inl, inr, refl, arith}
 use Rattle.prefix_scan.specs.Cut.{IsFaultOfEvery}
 use Rattle.prefix_scan.specs.declared.divisions.CutFault.{CutFault}
 use Rattle.prefix_scan.specs.declared.divisions.CutFault.TheVariants.{Empty, NotRising, WrongEnd, NoMemory}
-use Rattle.run_inputs.specs.declared.faults.RunFault.TheVariants.{Cuts}
-use Rattle.run_inputs.specs.Refusals.{cuts_refusal}
+use Rattle.port_call.specs.Refusals.{cuts_refusal}
+use Rattle.seq_report.specs.declared.plans.CutPlan.{CutPlan}
+use Rattle.seq_report.specs.Plans.{IsPlanFault, IsUncut}
 
 empty_chunk : (n lines : ℕ) → 0 < lines → (n ≡ 0) ⊎ (lines ≡ 0) → (n ≡ 0) × (Empty ≡ Empty)
 empty_chunk n lines some (inl none) = (none, refl)
@@ -16,9 +17,9 @@ fault_of_every n lines NotRising some told h = absurd h
 fault_of_every n lines WrongEnd some told h = absurd h
 fault_of_every n lines NoMemory some told h = absurd (told refl)
 
--- what is true of a fault other than out of memory is true of the refusal's fault
-pub told_fault : (P : CutFault → Type 0) (f g : CutFault) → (f ≢ NoMemory → P f) → cuts_refusal f ≡ Cuts g → P g
-told_fault P Empty g h is = let same : Empty ≡ g = cc in subst P same (h (λ e. absurd (cc)))
-told_fault P NotRising g h is = let same : NotRising ≡ g = cc in subst P same (h (λ e. absurd (cc)))
-told_fault P WrongEnd g h is = let same : WrongEnd ≡ g = cc in subst P same (h (λ e. absurd (cc)))
-told_fault P NoMemory g h is = absurd (cc)
+-- why lines aren't cut, as a fault of the run
+pub as_refusal : (plan : CutPlan) (lines : ℕ) (fault : CutFault) → (fault ≢ NoMemory → IsPlanFault plan lines fault) → IsUncut plan lines (cuts_refusal fault)
+as_refusal plan lines Empty h = (λ e. absurd (cc), h (λ e. absurd (cc)))
+as_refusal plan lines NotRising h = (λ e. absurd (cc), h (λ e. absurd (cc)))
+as_refusal plan lines WrongEnd h = (λ e. absurd (cc), h (λ e. absurd (cc)))
+as_refusal plan lines NoMemory h = tt

@@ -17,12 +17,13 @@ use Rattle.moment_sums.specs.Kept.{Kept, bodies_of, both_kept, none_kept, size_o
 use Rattle.moment_sums.specs.KeptLaws.{kept_laws}
 use Rattle.moment_sums.proofs.Bounds.{values_both, values_nothing}
 use Rattle.moment_sums.proofs.KeptLemmas.{kept_size, kept_values}
-use Rattle.seq_report.specs.declared.cases.Case.{Case}
-use Rattle.seq_report.specs.Cases.{IsReady, aboard_first, line_in, sum_in}
+use Rattle.port_call.specs.Cases.{aboard_first, CaseRecord, IsReady}
+use Rattle.seq_report.specs.Cases.{line_in, sum_in}
 use Rattle.seq_report.specs.Chunks.{bodies_in, change_behind, changed_in, changes_behind, parts_behind, parts_to, sum_to}
 use Rattle.criteria.specs.declared.criterion.Criterion.{Criterion}
-use Rattle.seq_report.specs.Report.{Statement, failure_of, lift_to, step_line, sum_at}
-use Rattle.seq_report.proofs.Totals.{total_next}
+use Rattle.port_call.specs.Sums.{sum_at}
+use Rattle.seq_report.specs.Report.{Statement, failure_of, lift_to, step_line}
+use Rattle.port_call.proofs.Totals.{total_next}
 
 -- sums in any grouping
 pub joined_assoc : (a b c : Sum) → joined (joined a b) c ≡ joined a (joined b c)
@@ -54,18 +55,18 @@ module _ (frames : List Frame) (arrival : List Mass) (steps : List Step) where
       omega (arith, ints, so_far, here, next)
 
 -- so that is what adding up everything aboard at line k gives
-pub sum_here : (case : Case) → IsReady case → (k : ℕ) → sum_in case k ≡ sum_at case.profile (aboard_first case) case.sequence.ops k
+pub sum_here : (case : CaseRecord) → IsReady case → (k : ℕ) → sum_in case k ≡ sum_at case.profile (aboard_first case) case.sequence.ops k
 sum_here case ready k =
     let frames = case.profile.ship.frames in
     λ j c. (sums_so_far frames case.arrival.bodies case.sequence.steps k c ∙ sym (ready.adds_up (value frames c) k)) j
 
-pub line_here : (case : Case) → IsReady case → (k : ℕ) (s : Sum) → s ≡ sum_in case k
+pub line_here : (case : CaseRecord) → IsReady case → (k : ℕ) (s : Sum) → s ≡ sum_in case k
     → record { lift = lift_to case.sequence.ops k; step = step_line case.profile k s } ≡ line_in case k
 line_here case ready k s is =
     ap (λ (t : Sum). record { lift = lift_to case.sequence.ops k; step = step_line case.profile k t }) (is ∙ sum_here case ready k)
 
 -- whether the line fails, by what is said of it
-pub line_told : (case : Case) → IsReady case → (k : ℕ) (s : Sum) (statement : Statement) (f : Option (ℕ × Criterion)) → s ≡ sum_in case k → statement ≡ step_line case.profile k s
+pub line_told : (case : CaseRecord) → IsReady case → (k : ℕ) (s : Sum) (statement : Statement) (f : Option (ℕ × Criterion)) → s ≡ sum_in case k → statement ≡ step_line case.profile k s
     → f ≡ failure_of statement → f ≡ failure_of (line_in case k).step
 line_told case ready k s statement f here is told = told ∙ ap failure_of (is ∙ ap (step_line case.profile k) (here ∙ sum_here case ready k))
 
@@ -173,7 +174,7 @@ module _ (frames : List Frame) (steps : List Step) where
       ∙ ap (sum_to frames arrival steps) last
 
 -- the sum at a line with what changes behind it is the sum at the next line
-module _ (case : Case) (ready : IsReady case) (k : ℕ) where
+module _ (case : CaseRecord) (ready : IsReady case) (k : ℕ) where
   pub next_size : (s t r : Kept) → size_of s + parts_behind case.sequence.steps k ≤ most_parts → t ≡ change_behind case.profile.ship.frames case.sequence.steps k
       → r ≡ both_kept s t → size_of r + parts_behind case.sequence.steps (k + 1) ≤ most_parts
   next_size s t r fits is joins =

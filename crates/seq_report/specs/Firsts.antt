@@ -8,13 +8,13 @@ use Rattle.std.proofs.Common.{arith, refl}
 use Rattle.prefix_scan.specs.Cut.{start_of, Divides}
 use Rattle.prefix_scan.proofs.CutLemmas.{start_within}
 use Rattle.criteria.specs.declared.criterion.Criterion.{Criterion}
-use Rattle.seq_report.specs.declared.cases.Case.{Case}
+use Rattle.port_call.specs.Cases.{CaseRecord}
 use Rattle.seq_report.specs.Cases.{first_step_in, line_in}
 use Rattle.seq_report.specs.Chunks.{chunk_of}
 use Rattle.seq_report.specs.Report.{first_failed, first_of}
 
 -- the first failing line of those from a on is one of them
-pub first_within : (case : Case) (n a : ℕ) (p : ℕ × Criterion)
+pub first_within : (case : CaseRecord) (n a : ℕ) (p : ℕ × Criterion)
     → first_of (map (line_in case) (range_with_len a n)) ≡ Some p → (a ≤ p.0) × (p.0 < a + n)
 first_within case zero a p is = absurd (cc)
 first_within case (suc n) a p is =
@@ -30,7 +30,7 @@ first_within case (suc n) a p is =
     by (Some criterion) more e =
         let same : a ≡ p.0 = cc in (omega (arith, same), omega (arith, same))
 
-step_within : (case : Case) (n a step : ℕ) (o : Option (ℕ × Criterion))
+step_within : (case : CaseRecord) (n a step : ℕ) (o : Option (ℕ × Criterion))
     → first_of (map (line_in case) (range_with_len a n)) ≡ o
     → option_map (λ first. first.0) o ≡ Some step
     → (a ≤ step) × (step < a + n)
@@ -39,7 +39,7 @@ step_within case n a step (Some p) is e =
     let same : p.0 ≡ step =
     cc in let h = first_within case n a p is in (omega (arith, h.0), omega (arith, h.1))
 
-pub steps_within : (case : Case) (ends : List ℕ) → length case.sequence.ops ≤ 120000
+pub steps_within : (case : CaseRecord) (ends : List ℕ) → length case.sequence.ops ≤ 120000
     → Divides ends (length case.sequence.ops + 1)
     → (k step : ℕ) → k < length ends → first_step_in case ends k ≡ Some step
     → (start_of ends k ≤ step) × (step < 2 ^ 32)

@@ -1,10 +1,10 @@
 pub mod Cases
 pub mod Chunks
 pub mod Columns
+pub mod Delivery
 pub mod Firsts
 pub mod Laws
 pub mod Lifts
 pub mod Plans
-pub mod Readings
 pub mod Refusal
 pub mod Report

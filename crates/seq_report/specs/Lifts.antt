@@ -3,7 +3,7 @@ use Rattle.std.specs.Prelude.{ℕ, List, ◌++◌, map, Option, None, Some, code
 use Rattle.stow_messages.specs.declared.lifts.Lift.TheVariants.{Load, Discharge}
 use Rattle.lift_sequence.specs.declared.operations.Op as operation
 use Rattle.lift_sequence.specs.declared.operations.Op.TheVariants.{Lift, Fill, Restow}
-use Rattle.run_inputs.specs.Shown.{cell_text, shown}
+use Rattle.port_call.specs.Shown.{cell_text, shown}
 
 -- a step: a letter for its kind, and the cell, the tank or both cells
 abbrev pub op_text : operation.Op → List ℕ

@@ -1,13 +1,11 @@
 -- The outcome of a run: the report, or the first refusal in the order of the inputs. It is a
 -- function of the input bytes alone.
-use Rattle.std.specs.Prelude.{ℕ, List, length, Result, Ok}
-use Rattle.units_core.specs.Outcome.{◌>>=◌}
-use Rattle.ship_profile.specs.Record.{ProfileRecord}
-use Rattle.lift_sequence.specs.declared.operations.Op.{Op}
-use Rattle.lift_sequence.specs.Aboard.{Aboard}
-use Rattle.run_inputs.specs.declared.faults.RunFault.{RunFault}
-use Rattle.run_inputs.specs.declared.inputs.Inputs.{Inputs}
-use Rattle.run_inputs.specs.Inputs.{arrival_in, items_in, orders_in, sequence_in, ship_in}
+use Rattle.std.specs.Prelude.{ℕ, List, length, Result, Ok, Err}
+use Rattle.port_call.specs.declared.faults.InputFault.{InputFault}
+use Rattle.port_call.specs.declared.faults.RunFault.{RunFault}
+use Rattle.port_call.specs.declared.inputs.Inputs.{Inputs}
+use Rattle.port_call.specs.Inputs.{Case, case_of}
+use Rattle.port_call.specs.Refusals.{run_fault}
 use Rattle.seq_report.specs.declared.complete.Summary.{Summary}
 use Rattle.seq_report.specs.Report.{Line, lines_of, report_of, first_of}
 
@@ -23,18 +21,11 @@ outcome_on lines =
       summary = record { lines = length lines; first = first_of lines };
     }
 
--- of a ship with this aboard on arrival, and of these steps; of a ship; of the inputs
-abbrev pub outcome_with : ProfileRecord → Aboard → List Op → Result Outcome RunFault
-outcome_with ship arrival ops =
-    sequence_in ship arrival ops >>= (λ legal. Ok (outcome_on (lines_of ship arrival legal)))
+-- of a case that is defined, or its refusal
+abbrev pub outcome_if : Result Case InputFault → Result Outcome RunFault
+outcome_if (Ok case) = Ok (outcome_on (lines_of case.ship case.arrival case.ops))
+outcome_if (Err e) = Err (run_fault e)
 
-abbrev pub outcome_from : ProfileRecord → Aboard → Inputs → Result Outcome RunFault
-outcome_from ship arrival inputs = orders_in inputs >>= (λ ops. outcome_with ship arrival ops)
-
-abbrev pub outcome_for : ProfileRecord → Inputs → Result Outcome RunFault
-outcome_for ship inputs =
-    items_in inputs
-    >>= (λ items. arrival_in ship items >>= (λ arrival. outcome_from ship arrival inputs))
-
+-- of the inputs
 abbrev pub outcome_of : Inputs → Result Outcome RunFault
-outcome_of inputs = ship_in inputs >>= (λ ship. outcome_for ship inputs)
+outcome_of inputs = outcome_if (case_of inputs)

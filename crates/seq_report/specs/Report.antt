@@ -1,15 +1,15 @@
 -- The report: a heading, a line for each step, and the first of them that fails.
 use Rattle.std.specs.Prelude.{ℕ, zero, suc, ℤ, List, [], ◌∷◌, ◌++◌, length, map, flat_map}
-use Rattle.std.specs.Prelude.{slice_get, take, codes, Option, Some, None, option_map}
+use Rattle.std.specs.Prelude.{slice_get, codes, Option, Some, None, option_map}
 use Rattle.std.specs.List.{range_with_len}
 use Rattle.std.specs.Fmt.{decimal, signed_decimal}
 use Rattle.std.specs.Option.{option_or}
 use Rattle.ship_profile.specs.Record.{ProfileRecord}
 use Rattle.lift_sequence.specs.declared.operations.Op.{Op}
-use Rattle.lift_sequence.specs.Aboard.{Aboard, after_all}
-use Rattle.lift_sequence.specs.Bodies.{bodies}
+use Rattle.lift_sequence.specs.Aboard.{Aboard}
 use Rattle.moment_sums.specs.Sum as sums
-use Rattle.moment_sums.specs.Sum.{Weight, sum_of}
+use Rattle.moment_sums.specs.Sum.{Weight}
+use Rattle.port_call.specs.Sums.{sum_at}
 use Rattle.hydrostat.specs.declared.outside.Outside as causes
 use Rattle.hydrostat.specs.declared.outside.Outside.TheVariants.{Hydro, Levers, Bonjean, Closing}
 use Rattle.hydrostat.specs.declared.outside.Outside.TheVariants.{GmLimit}
@@ -99,11 +99,6 @@ step_line ship step s =
       frames = length ship.ship.frames;
       judgement = judgement_of ship s;
     }
-
--- everything that is aboard once the first k steps are done, added up afresh
-abbrev pub sum_at : ProfileRecord → Aboard → List Op → ℕ → sums.Sum
-sum_at ship arrival ops k =
-    sum_of ship.ship.frames (bodies ship (after_all ship arrival (take k ops)))
 
 -- what leads to a line: nothing to the condition on arrival, line 0, and step k to line k
 abbrev pub lift_to : List Op → ℕ → Option Op

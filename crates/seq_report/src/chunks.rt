@@ -2,37 +2,16 @@ ghost use Rattle.std.specs.Prelude.{◌≡◌, ◌+◌, ◌-◌, ◌^◌, ◌<�
 ghost use Rattle.std.specs.Prelude.{slice_index_or, IfOk};
 ghost use Rattle.std.specs.List.{range_with_len};
 ghost use Rattle.prefix_scan.specs.Laws.{most_parts};
-ghost use Rattle.moment_sums.specs.Kept.{Kept, both_kept, size_of, values};
-ghost use Rattle.moment_sums.specs.Sum.{sum_of};
-ghost use Rattle.seq_report.specs.Cases.{IsReady, case_in_view};
+ghost use Rattle.moment_sums.specs.Kept.{Kept, both_kept, size_of};
 ghost use Rattle.seq_report.specs.Chunks.{bodies_in, change_behind, changes_behind};
 
-use crate::cases::CaseView;
-use lift_sequence::Arrival;
 use moment_sums::Totals;
+use port_call::Case;
 use prefix_scan::Monoid;
-use ship_profile::Profile;
 use std::alloc::{AllocError, Global};
 
-/// Everything that is aboard on arrival, added up. There are at most 30,400 bodies; the arrival is
-/// one that was made with this profile.
-pub fn arrival_total(profile: &Profile, arrival: &Arrival) -> Totals
-    requires { length arrival.now.bodies ≤ 30400 }
-    ensures sum { values result ≡ sum_of profile.now.ship.frames arrival.now.bodies }
-    ensures size { size_of result ≤ 30400 }
-{
-    let frames = profile.frames();
-    let bodies = arrival.bodies();
-    let mut sum = Totals::unit();
-    for body in bodies {
-        sum.add(body, frames);
-    }
-    sum
-}
-
 /// Changes the sum at line `k` into that at the next line; nothing changes behind the last line.
-pub fn pass_line(case: CaseView<'_>, k: u32, sum: &mut Totals)
-    requires ready { IsReady (case_in_view case) }
+pub fn pass_line(case: Case<'_>, k: u32, sum: &mut Totals)
     requires there { k ≤ length case.sequence.now.ops }
     requires room { size_of sum.old + bodies_in (slice_get case.sequence.now.steps k)
         ≤ most_parts }
@@ -47,8 +26,7 @@ pub fn pass_line(case: CaseView<'_>, k: u32, sum: &mut Totals)
 }
 
 /// What the steps behind the lines from `start` to `end` change together.
-pub fn chunk_total(case: CaseView<'_>, start: u32, end: u32) -> Totals
-    requires ready { IsReady (case_in_view case) }
+pub fn chunk_total(case: Case<'_>, start: u32, end: u32) -> Totals
     requires some { start < end }
     requires there { end ≤ length case.sequence.now.ops + 1 }
     ensures { result

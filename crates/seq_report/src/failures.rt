@@ -1,27 +1,24 @@
-ghost use Rattle.std.specs.Prelude.{◌≡◌, ℕ, ◌+◌, ◌≤◌, length, false, true, IfOk, IfErr, Ok, Err};
+ghost use Rattle.std.specs.Prelude.{◌≡◌, ◌+◌, ◌≤◌, length, false, true, IfOk, IfErr, Ok, Err};
 ghost use Rattle.prefix_scan.specs.declared.divisions.CutFault.{CutFault as CutFaultValue};
-ghost use Rattle.run_inputs.specs.Readings.{HasArrived, IsMade};
 ghost use Rattle.prefix_scan.specs.Laws.{most_parts};
 ghost use Rattle.moment_sums.specs.Kept.{size_of, values};
-ghost use Rattle.seq_report.specs.Cases.{ArePassed, IsArrivalTotal, IsFirstStep, IsReady, case_on};
-ghost use Rattle.seq_report.specs.Cases.{case_in_view, outcome_in, sum_in};
+ghost use Rattle.port_call.specs.Views.{case_in_view};
+ghost use Rattle.port_call.specs.Grounds.{IsArrivalTotal};
+ghost use Rattle.port_call.specs.Refusals.{TellsMemory, is_refusal, is_write};
+ghost use Rattle.seq_report.specs.Cases.{ArePassed, IsFirstStep, outcome_in, sum_in};
 ghost use Rattle.seq_report.specs.Chunks.{parts_behind};
-ghost use Rattle.seq_report.specs.Plans.{Fits, IsPlanFault};
-ghost use Rattle.run_inputs.specs.Refusals.{TellsMemory, is_refusal, is_write};
+ghost use Rattle.seq_report.specs.Plans.{Fits, IsPlanFault, IsUncut};
 ghost use Rattle.seq_report.specs.Refusal.{Outcome, outcome_of};
 
-use crate::cases::CaseView;
+use crate::chunked::chunked;
 use crate::chunks::pass_line;
 use crate::jobs::Lines;
 use crate::plans::Options;
-use crate::prepared::{Prepared, prepare};
 use crate::sections::{Chunk, first_failing};
 use claim_run::{Gate, Workers, run_least};
 use criteria::Criterion;
-use lift_sequence::{Arrival, Sequence};
 use moment_sums::Totals;
-use run_inputs::{Inputs, RunFault, items_are_light, ops_are_light};
-use ship_profile::Profile;
+use port_call::{Case, Inputs, PortCall, RunFault};
 use std::alloc::{AllocError, Global};
 use std::sync::Wait;
 use std::thread::Threads;
@@ -59,6 +56,36 @@ fn first_in_chunks<G: Gate, R: Threads + Wait + Sync>(
     }
 }
 
+/// The first step of a port call that fails, with its first criterion, found in the chunks of a
+/// plan.
+fn first_of_call<G: Gate, R: Threads + Wait + Sync>(
+    rt: &R,
+    alloc: Global,
+    gate: &G,
+    call: &PortCall,
+    options: &Options<'_>,
+) -> Result<Option<(u32, Criterion)>, RunFault>
+    ensures first { IfOk result (λ first. (first ≡ (outcome_in call.now).summary.first)
+        × Fits options.now.cuts (outcome_in call.now).summary.lines) }
+    ensures uncut { IfErr result (IsUncut options.now.cuts (outcome_in call.now).summary.lines) }
+{
+    let (cuts, sums) = match chunked(rt, alloc, gate, call, options) {
+        Ok(made) => made,
+        Err(fault) => return Err(fault),
+    };
+    let case = call.case();
+    let lines = Lines {
+        case,
+        hull: Hull::new(case.profile),
+        cuts: &cuts,
+        sums: &sums,
+    };
+    match first_in_chunks(rt, alloc, gate, options.workers, &lines) {
+        Ok(first) => Ok(first),
+        Err(AllocError) => Err(RunFault::NoMemory),
+    }
+}
+
 /// The first step that fails, 0 being the condition on arrival, with its first criterion, as the
 /// report on the inputs names it; `None` where all steps pass. It is the same for every number of
 /// workers, every gate and every cut, and lines behind a step that is known to fail may be left
@@ -84,72 +111,17 @@ pub fn first_fail<G: Gate, R: Threads + Wait + Sync>(
     ensures silent { is_write result ≡ false }
     ensures memory { IfErr result TellsMemory }
 {
-    let Prepared { case, cuts, sums } = match prepare(rt, alloc, gate, inputs, options) {
-        Ok(prepared) => prepared,
-        Err(fault) => return Err(fault),
+    let call = match PortCall::read_beside(rt, alloc, options.workers.get(), inputs) {
+        Ok(call) => call,
+        Err(fault) => return Err(RunFault::from(fault)),
     };
-    let lines = Lines {
-        case: case.view(),
-        hull: Hull::new(&case.profile),
-        cuts: &cuts,
-        sums: &sums,
-    };
-    match first_in_chunks(rt, alloc, gate, options.workers, &lines) {
-        Ok(first) => Ok(first),
-        Err(AllocError) => Err(RunFault::NoMemory),
-    }
+    first_of_call(rt, alloc, gate, &call, options)
 }
 
-/// The first step that fails of a sequence that was made with this profile and arrival, 0 being the
-/// condition on arrival, with its first criterion, as a report on it names it; `None` where all
-/// steps pass. `total` is everything that is aboard on arrival, added up.
-pub fn first_fail_from(
-    profile: &Profile,
-    arrival: &Arrival,
-    sequence: &Sequence,
-    total: &Totals,
-) -> Option<(u32, Criterion)>
-    requires arrived { HasArrived profile.now arrival.now }
-    requires made { IsMade profile.now arrival.now sequence.now }
-    requires total { IsArrivalTotal profile.now arrival.now total.now }
-    ensures { result ≡ (outcome_in (case_on profile.now arrival.now sequence.now)).summary.first }
-{
-    first_fail_behind(profile, arrival, sequence, 0, total)
-}
-
-/// As [`first_fail_from`], for whoever knows that all lines before the line `start` pass: the steps
-/// before it are added up, and only the lines from there on are judged.
-pub fn first_fail_behind(
-    profile: &Profile,
-    arrival: &Arrival,
-    sequence: &Sequence,
-    start: u32,
-    total: &Totals,
-) -> Option<(u32, Criterion)>
-    requires arrived { HasArrived profile.now arrival.now }
-    requires made { IsMade profile.now arrival.now sequence.now }
-    requires total { IsArrivalTotal profile.now arrival.now total.now }
-    requires inside { start ≤ length sequence.now.ops }
-    requires passed { ArePassed (case_on profile.now arrival.now sequence.now) start }
-    ensures { result ≡ (outcome_in (case_on profile.now arrival.now sequence.now)).summary.first }
-{
-    items_are_light(arrival.items());
-    ops_are_light(sequence.ops());
-    let case = CaseView {
-        profile,
-        arrival,
-        sequence,
-    };
-    first_of_rest(case, start, total)
-}
-
-/// Everything that is aboard at line `k` of a case that is ready for a report, added up step by
-/// step from what is aboard on arrival.
-fn sum_at(case: CaseView<'_>, k: u32, total: &Totals) -> Totals
-    requires ready { IsReady (case_in_view case) }
+/// Everything that is aboard at line `k`, added up step by step from what is aboard on arrival.
+fn sum_at(case: Case<'_>, k: u32, total: &Totals) -> Totals
     requires there { k ≤ length case.sequence.now.ops }
-    requires sum { values total.now ≡ sum_in (case_in_view case) 0 }
-    requires room { size_of total.now + parts_behind case.sequence.now.steps 0 ≤ most_parts }
+    requires total { IsArrivalTotal case.profile.now case.arrival.now total.now }
     ensures sum { values result ≡ sum_in (case_in_view case.entry) k }
     ensures room { size_of result + parts_behind case.entry.sequence.now.steps k ≤ most_parts }
 {
@@ -160,13 +132,13 @@ fn sum_at(case: CaseView<'_>, k: u32, total: &Totals) -> Totals
     sum
 }
 
-/// The first step that fails of a case that is ready for a report, with its first criterion, where
-/// all lines before `start` pass.
-fn first_of_rest(case: CaseView<'_>, start: u32, total: &Totals) -> Option<(u32, Criterion)>
-    requires ready { IsReady (case_in_view case) }
+/// The first step that fails of a case, 0 being the condition on arrival, with its first criterion,
+/// as a report on it names it, for whoever knows that all lines before the line `start` pass: the
+/// steps before it are added up, and only the lines from there on are judged. `None` where all
+/// steps pass. `total` is everything that is aboard on arrival, added up.
+pub fn first_fail_behind(case: Case<'_>, start: u32, total: &Totals) -> Option<(u32, Criterion)>
+    requires total { IsArrivalTotal case.profile.now case.arrival.now total.now }
     requires inside { start ≤ length case.sequence.now.ops }
-    requires sum { values total.now ≡ sum_in (case_in_view case) 0 }
-    requires room { size_of total.now + parts_behind case.sequence.now.steps 0 ≤ most_parts }
     requires passed { ArePassed (case_in_view case) start }
     ensures { result ≡ (outcome_in (case_in_view case.entry)).summary.first }
 {

@@ -3,17 +3,18 @@ ghost use Rattle.std.proofs.Props.{props};
 ghost use Rattle.std.specs.List.{range_with_len};
 ghost use Rattle.prefix_scan.specs.Cut.{Divides, start_of};
 ghost use Rattle.strength.specs.Hull.{IsHullOf};
-ghost use Rattle.seq_report.specs.Cases.{IsChunk, IsReady, line_in, lines_in, case_in_view};
+ghost use Rattle.port_call.specs.Views.{case_in_view};
+ghost use Rattle.seq_report.specs.Cases.{IsChunk, line_in, lines_in};
 ghost use Rattle.seq_report.specs.Chunks.{AreFirstSums, chunk_of};
 ghost use Rattle.seq_report.specs.Report.{first_of};
 
-use crate::cases::CaseView;
 use crate::chunks::chunk_total;
 use crate::sections::{Chunk, Section, first_failing, make_section};
 use claim_run::{Job, Scout};
 use criteria::Criterion;
 use decimal_text::FourDigits;
 use moment_sums::Totals;
+use port_call::Case;
 use prefix_scan::Cuts;
 use std::alloc::{AllocError, Global};
 use std::ops::Range;
@@ -22,9 +23,8 @@ use strength::Hull;
 /// What the steps behind the lines of each chunk change, as a job for workers.
 #[derive(Drop)]
 pub struct Changes<'a> {
-    pub case: CaseView<'a>,
+    pub case: Case<'a>,
     pub cuts: &'a Cuts,
-    pub ghost ready: { IsReady (case_in_view case) },
     pub ghost cut: { Divides cuts.now (length case.sequence.now.ops + 1) },
 }
 
@@ -48,12 +48,11 @@ impl<'a> Job for Changes<'a> {
 /// The lines of each chunk, for scouts that look for the first of them that fails.
 #[derive(Drop)]
 pub struct Lines<'a> {
-    pub case: CaseView<'a>,
+    pub case: Case<'a>,
     pub hull: Hull,
     pub cuts: &'a Cuts,
     /// The sum at the first line of each chunk.
     pub sums: &'a [Totals],
-    pub ghost ready: { IsReady (case_in_view case) },
     pub ghost of: { IsHullOf hull case.profile.now.ship } by { Prim.hlevel props },
     pub ghost cut: { Divides cuts.now (length case.sequence.now.ops + 1) },
     pub ghost sum: { AreFirstSums case.profile.now.ship.frames case.arrival.now.bodies
@@ -70,7 +69,8 @@ pub struct Texts<'a> {
 
 impl<'a> Job for Texts<'a> {
     ghost use Rattle.std.specs.Prelude.{length, map};
-    ghost use Rattle.seq_report.specs.Cases.{line_in, case_in_view};
+    ghost use Rattle.port_call.specs.Views.{case_in_view};
+    ghost use Rattle.seq_report.specs.Cases.{line_in};
     ghost use Rattle.seq_report.specs.Chunks.{chunk_of, part_of};
 
     type Out = Section;
@@ -95,7 +95,8 @@ impl<'a> Job for Texts<'a> {
 impl<'a> Scout for Lines<'a> {
     ghost use Rattle.std.specs.Prelude.{length};
     ghost use Rattle.prefix_scan.specs.Cut.{start_of};
-    ghost use Rattle.seq_report.specs.Cases.{first_step_in, case_in_view};
+    ghost use Rattle.port_call.specs.Views.{case_in_view};
+    ghost use Rattle.seq_report.specs.Cases.{first_step_in};
     ghost use Rattle.seq_report.specs.Firsts.{steps_within};
 
     ghost begins = { λ s k. start_of s.cuts.now k };
@@ -104,8 +105,8 @@ impl<'a> Scout for Lines<'a> {
 
     ghost pieces = { λ s. length s.cuts.now };
 
-    ghost within = { λ s k step. steps_within (case_in_view s.case) s.cuts.now s.ready.few s.cut k
-        step };
+    ghost within = { λ s k step. steps_within (case_in_view s.case) s.cuts.now
+        s.case.ready.few s.cut k step };
 
     fn begin(&self, k: u32) -> u32 {
         lines_of(self.case, self.cuts, k).start
@@ -159,16 +160,15 @@ impl<'a> Changes<'a> {
 }
 
 /// How many chunks the cuts make of a case's lines.
-fn chunk_count(case: CaseView<'_>, cuts: &Cuts) -> u32
-    requires few { length case.sequence.now.ops ≤ 120000 }
-    requires cut { Divides cuts.now (length case.sequence.now.ops + 1) }
+fn chunk_count(case: Case<'_>, cuts: &Cuts) -> u32
+    requires { Divides cuts.now (length case.sequence.now.ops + 1) }
     ensures { result ≡ length cuts.now }
 {
     cuts.chunks() as u32
 }
 
 /// The lines of chunk `k`.
-fn lines_of(case: CaseView<'_>, cuts: &Cuts, k: u32) -> Range<u32>
+fn lines_of(case: Case<'_>, cuts: &Cuts, k: u32) -> Range<u32>
     requires cut { Divides cuts.now (length case.sequence.now.ops + 1) }
     requires there { k < length cuts.now }
     ensures start { result.start ≡ start_of cuts.now k }

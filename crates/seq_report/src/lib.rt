@@ -3,8 +3,8 @@
 //! every refusal in a fixed order.
 #![tactic(auto)]
 
-mod cases;
 mod causes;
+mod chunked;
 mod chunks;
 mod columns;
 mod complete;
@@ -15,21 +15,18 @@ mod laws;
 mod lifts;
 mod lines;
 mod plans;
-mod prepared;
-mod readings;
 mod runs;
 mod sections;
 mod sink;
 mod step_lines;
 
-pub use cases::{Case, case_of};
-pub use chunks::{arrival_total, joined_to_arrival};
+pub use chunks::joined_to_arrival;
 pub use complete::Summary;
 pub use criteria::Criterion;
-pub use failures::{first_fail, first_fail_behind, first_fail_from};
+pub use failures::{first_fail, first_fail_behind};
 pub use laws::sums_are_folds;
 pub use lines::write_last_line;
 pub use plans::{CutPlan, Options, cuts_of};
-pub use run_inputs::{Inputs, RunFault};
+pub use port_call::{Inputs, RunFault};
 pub use runs::{report, report_from};
 pub use sink::{Sink, SinkFailed, Through, put_all};

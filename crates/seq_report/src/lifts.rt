@@ -1,10 +1,10 @@
 ghost use Rattle.std.specs.Prelude.{◌≡◌, ◌+◌, ◌≤◌, ◌++◌, length, map, option_map, codes};
-ghost use Rattle.run_inputs.specs.Shown.{cell_text, shown};
+ghost use Rattle.port_call.specs.Shown.{cell_text, shown};
 ghost use Rattle.seq_report.specs.Lifts.{lift_text, op_text};
 
 use decimal_text::BackwardText;
 use lift_sequence::Op;
-use run_inputs::shown;
+use port_call::shown;
 use stow_messages::Lift;
 use units_core::Cell;
 

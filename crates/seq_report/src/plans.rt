@@ -1,12 +1,9 @@
-ghost use Rattle.std.specs.Prelude.{◌≡◌, ◌≢◌, ◌<◌, IfOk, IfErr, false};
+ghost use Rattle.std.specs.Prelude.{◌≢◌, ◌<◌, IfOk, IfErr};
 ghost use Rattle.prefix_scan.specs.Cut.{Divides};
-ghost use Rattle.prefix_scan.specs.declared.divisions.CutFault.{CutFault as CutFaultValue};
 ghost use Rattle.seq_report.specs.Plans.{Fits, IsPlanFault};
-ghost use Rattle.run_inputs.specs.Refusals.{TellsMemory, is_refusal, is_write};
 
 use claim_run::Workers;
 use prefix_scan::{CutFault, Cuts};
-use run_inputs::{RunFault, cuts_refusal};
 use std::alloc::Global;
 
 /// Where the lines of a report are cut into chunks. The report is the same for every plan.
@@ -29,7 +26,7 @@ pub struct Options<'a> {
 }
 
 /// The cuts of a plan for this number of lines, or the first fault of the plan.
-fn divided(alloc: Global, plan: CutPlan<'_>, lines: u32) -> Result<Cuts, CutFault>
+pub fn cuts_of(alloc: Global, plan: CutPlan<'_>, lines: u32) -> Result<Cuts, CutFault>
     requires { 0 < lines }
     ensures cut { IfOk result (λ cuts. Divides cuts lines) }
     ensures fits { IfOk result (λ _. Fits plan.entry lines) }
@@ -39,22 +36,5 @@ fn divided(alloc: Global, plan: CutPlan<'_>, lines: u32) -> Result<Cuts, CutFaul
     match plan {
         CutPlan::Every(n) => Cuts::every(alloc, n, lines),
         CutPlan::At(ends) => Cuts::at(alloc, ends, lines),
-    }
-}
-
-/// The cuts of a plan, or its first fault as one of the run.
-pub fn cuts_of(alloc: Global, plan: CutPlan<'_>, lines: u32) -> Result<Cuts, RunFault>
-    requires { 0 < lines }
-    ensures cut { IfOk result (λ cuts. Divides cuts lines) }
-    ensures fits { IfOk result (λ _. Fits plan.entry lines) }
-    ensures unfit { IfErr result (λ e. (fault : CutFaultValue) → e ≡ RunFault.Cuts fault
-        → IsPlanFault plan.entry lines fault) }
-    ensures plan { IfErr result (λ e. is_refusal e ≡ false) }
-    ensures memory { IfErr result TellsMemory }
-    ensures silent { is_write result ≡ false }
-{
-    match divided(alloc, plan, lines) {
-        Ok(cuts) => Ok(cuts),
-        Err(fault) => Err(cuts_refusal(fault)),
     }
 }

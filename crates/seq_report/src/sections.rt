@@ -1,11 +1,12 @@
-ghost use Rattle.std.specs.Prelude.{◌≡◌, ◌++◌, [], map, IfOk, OnOk, None, option_map};
+ghost use Rattle.std.specs.Prelude.{◌≡◌, ◌≤◌, ◌++◌, [], length, map, IfOk, OnOk, None};
+ghost use Rattle.std.specs.Prelude.{option_map};
 ghost use Rattle.std.specs.Option.{option_or};
 ghost use Rattle.strength.specs.Hull.{IsHullOf};
-ghost use Rattle.seq_report.specs.Cases.{IsChunk, IsReady, line_in, lines_in, case_in_view};
+ghost use Rattle.port_call.specs.Views.{case_in_view};
+ghost use Rattle.seq_report.specs.Cases.{IsChunk, line_in, lines_in};
 ghost use Rattle.seq_report.specs.Chunks.{part_of};
-ghost use Rattle.seq_report.specs.Report.{failure_of, first_of, line_of, statement_of};
+ghost use Rattle.seq_report.specs.Report.{failure_of, first_of, lift_to, line_of, statement_of};
 
-use crate::cases::CaseView;
 use crate::chunks::pass_line;
 use crate::deciding::failure_at;
 use crate::lines::write_line;
@@ -14,6 +15,7 @@ use criteria::{Criterion, Nearby};
 use decimal_text::{BackwardText, FourDigits};
 use lift_sequence::Op;
 use moment_sums::Totals;
+use port_call::Case;
 use ship_profile::Profile;
 use std::alloc::{AllocError, Global};
 use std::marker::Model;
@@ -96,15 +98,25 @@ fn line_room(profile: &Profile) -> usize {
     100 + 24 * profile.frames().as_slice().len()
 }
 
+/// The step that leads to line `k`; none leads to line 0.
+fn lift_to<'a>(case: Case<'a>, k: u32) -> Option<&'a Op>
+    requires { k ≤ length case.sequence.now.ops }
+    ensures { option_map (λ op. op.now) result ≡ lift_to case.entry.sequence.now.ops k }
+{
+    if k == 0 {
+        return None;
+    }
+    Some(case.sequence.lift(k as usize))
+}
+
 /// The lines of a chunk, their numbers written by this table.
 pub fn make_section(
     alloc: Global,
-    case: CaseView<'_>,
+    case: Case<'_>,
     hull: &Hull,
     digits: &FourDigits,
     chunk: &Chunk,
 ) -> Result<Section, AllocError>
-    requires ready { IsReady (case_in_view case) }
     requires of { IsHullOf hull.now case.profile.now.ship }
     requires chunk { IsChunk (case_in_view case) chunk.now }
     ensures { IfOk result
@@ -118,15 +130,14 @@ pub fn make_section(
     let mut line = StepLine::new();
     for k in chunk.start..chunk.end {
         line.judge(case.profile, hull, k, &sum, &mut near);
-        section.add(&mut end, case.lift(k), &line)?;
+        section.add(&mut end, lift_to(case, k), &line)?;
         pass_line(case, k, &mut sum);
     }
     Ok(section)
 }
 
 /// The first line of a chunk that fails, with its first criterion.
-pub fn first_failing(case: CaseView<'_>, hull: &Hull, chunk: &Chunk) -> Option<(u32, Criterion)>
-    requires ready { IsReady (case_in_view case) }
+pub fn first_failing(case: Case<'_>, hull: &Hull, chunk: &Chunk) -> Option<(u32, Criterion)>
     requires of { IsHullOf hull.now case.profile.now.ship }
     requires chunk { IsChunk (case_in_view case) chunk.now }
     ensures { result ≡ first_of (map (line_in (case_in_view case.entry)) (lines_in chunk.now)) }

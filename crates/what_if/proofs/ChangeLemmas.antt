@@ -8,7 +8,7 @@ use Rattle.std.proofs.lemmas.List.Sums.{fold_more, sum_by-cons}
 use Rattle.units_core.specs.declared.frames.Frame.{Frame}
 use Rattle.lift_sequence.specs.declared.operations.Op.{Op}
 use Rattle.units_core.specs.declared.steps.Step.{Step}
-use Rattle.lift_sequence.specs.Sequence.{SequenceRecord}
+use Rattle.lift_sequence.specs.Sequence.{AreKept, SequenceRecord}
 use Rattle.lift_sequence.proofs.States.{as_many}
 use Rattle.prefix_scan.specs.Counted.{Counted}
 use Rattle.prefix_scan.specs.Cut.{Divides, start_of}
@@ -20,13 +20,15 @@ use Rattle.moment_sums.specs.KeptLaws.{kept_laws}
 use Rattle.moment_sums.specs.Sum.{changed_by, joined}
 use Rattle.moment_sums.proofs.Bounds.{values_both}
 use Rattle.moment_sums.proofs.KeptLemmas.{kept_size}
-use Rattle.run_inputs.specs.Readings.{IsMade}
-use Rattle.seq_report.specs.Cases.{IsReady, case_on, outcome_in}
+use Rattle.port_call.specs.Cases.{case_on, IsMade, IsReady}
+use Rattle.seq_report.specs.Cases.{outcome_in}
 use Rattle.seq_report.specs.Chunks.{AreFirstSums, change_behind, changes_behind, parts_behind, sum_to}
-use Rattle.seq_report.specs.Report.{sum_at}
-use Rattle.seq_report.proofs.CaseLemmas.{can_be_done, ready}
+use Rattle.port_call.specs.Sums.{sum_at}
+use Rattle.port_call.proofs.CaseLemmas.{ready}
+use Rattle.seq_report.proofs.ChunkLemmas.{many_lines}
 use Rattle.seq_report.proofs.SumLemmas.{change_size, changes_more, changes_size, changes_sum, few_bodies, room_behind, sum_here}
-use Rattle.what_if.specs.Bases.{Base, IsBase, aboard_first, change_of, changes_on, report_on, steps_on}
+use Rattle.port_call.specs.Grounds.{GroundRecord, IsGround, aboard_first, steps_on}
+use Rattle.what_if.specs.Bases.{change_of, changes_on, report_on}
 use Rattle.what_if.specs.Changes.{AreOfFour, AreSmall, fours}
 use Rattle.what_if.specs.Sessions.{IsSummed}
 use Rattle.what_if.proofs.FourLemmas.{four_of, fours-at, length-fours, of_four}
@@ -131,23 +133,22 @@ sizes_few frames steps few =
     let sum = small_sum all (small frames steps) in
     omega (arith, sum, few, length-map steps (change_of frames))
 
-pub sizes_fit : (base : Base) (ops : List Op) → length ops ≤ 120000 → sum_by size_of (changes_on base ops) ≤ 2 ^ 19
+pub sizes_fit : (base : GroundRecord) (ops : List Op) → length ops ≤ 120000 → sum_by size_of (changes_on base ops) ≤ 2 ^ 19
 sizes_fit base ops few = sizes_few base.ship.ship.frames (steps_on base ops) (omega (arith, few, as_many base.ship (aboard_first base) ops))
 
 -- with what is aboard on arrival the first k changes are what is aboard after k steps
-module _ (base : Base) (sequence : SequenceRecord) (tree : Counted Kept) (total : Kept) (is_base : IsBase base.ship base.arrival total)
-    (summed : IsSummed base sequence tree) (k : ℕ) (within : k ≤ length sequence.ops) (change : Kept) (is : change ≡ prefix none_kept both_kept (map (change_of base.ship.ship.frames) sequence.steps) k) where
+module _ (base : GroundRecord) (sequence : SequenceRecord) (tree : Counted Kept) (total : Kept) (is_base : IsGround base.ship base.arrival total)
+    (summed : IsSummed base sequence tree) (kept : AreKept sequence.ops sequence.steps) (k : ℕ) (within : k ≤ length sequence.ops) (change : Kept) (is : change ≡ prefix none_kept both_kept (map (change_of base.ship.ship.frames) sequence.steps) k) where
   made : IsMade base.ship base.arrival sequence
   made = record { legal = summed.legal; steps = summed.steps }
 
   pub is_ready : IsReady (case_on base.ship base.arrival sequence)
-  is_ready = ready base.ship base.arrival sequence is_base.arrived made is_base.light summed.light
+  is_ready = ready base.ship base.arrival sequence is_base.arrived made is_base.stowed kept
 
   together : change ≡ changes_behind base.ship.ship.frames sequence.steps (range_with_len 0 k)
   together =
       let frames = base.ship.ship.frames in
-      let long = ap length summed.steps ∙ as_many base.ship (aboard_first base) sequence.ops in
-      is ∙ changes_to frames sequence.steps k (omega (arith, long, within))
+      is ∙ changes_to frames sequence.steps k (omega (arith, kept.long, within))
 
   pub change_fits : size_of change ≤ 2 * k
   change_fits = omega (arith, ap size_of together, changes_size base.ship.ship.frames sequence.steps 0 k (omega (arith, within, is_ready.few)))
@@ -181,7 +182,7 @@ starts_within n ends d c low =
     omega (arith, rises, end)
 
 -- there are as many sums as the list has whole fours of steps
-module _ (base : Base) (sequence : SequenceRecord) (tree : Counted Kept) (summed : IsSummed base sequence tree) where
+module _ (base : GroundRecord) (sequence : SequenceRecord) (tree : Counted Kept) (summed : IsSummed base sequence tree) where
   pub as_many_fours : length tree.values ≡ length sequence.ops / 4
   as_many_fours =
       ap (λ l. length l) summed.changes ∙ length-fours (changes_on base sequence.ops)
@@ -194,14 +195,11 @@ module _ (base : Base) (sequence : SequenceRecord) (tree : Counted Kept) (summed
   pub as_many_steps : length sequence.steps ≡ length sequence.ops
   as_many_steps = ap (λ l. length l) summed.steps ∙ as_many base.ship (aboard_first base) sequence.ops
 
-  pub few_steps : length sequence.ops ≤ 120000
-  few_steps = (can_be_done base.ship (aboard_first base) sequence.ops summed.legal).few
-
   pub are_of_four : AreOfFour tree.values
   are_of_four = subst AreOfFour (sym summed.changes) (of_four (changes_on base sequence.ops) (small base.ship.ship.frames (steps_on base sequence.ops)))
 
   -- the sums at the first lines of chunks
-  module _ (total : Kept) (is_base : IsBase base.ship base.arrival total) (ends : List ℕ) (d : Divides ends (length sequence.ops + 1))
+  module _ (total : Kept) (is_base : IsGround base.ship base.arrival total) (kept : AreKept sequence.ops sequence.steps) (ends : List ℕ) (d : Divides ends (length sequence.ops + 1))
       (changes : List Kept) (count : length changes ≡ length ends)
       (each : (c : ℕ) (e : Kept) → c < length ends → get_or changes c e ≡ prefix none_kept both_kept (map (change_of base.ship.ship.frames) sequence.steps) (start_of ends c)) where
     within : (c : ℕ) → c < length ends → start_of ends c ≤ length sequence.ops
@@ -210,8 +208,8 @@ module _ (base : Base) (sequence : SequenceRecord) (tree : Counted Kept) (summed
     pub changes_fit : (c : ℕ) (e : Kept) → c < length changes → size_of (get_or changes c e) ≤ 2 ^ 18
     changes_fit c e low =
         let inside : c < length ends = omega (arith, low, count) in
-        let fits = change_fits base sequence tree total is_base summed (start_of ends c) (within c inside) (get_or changes c e) (each c e inside) in
-        omega (arith, fits, within c inside, few_steps)
+        let fits = change_fits base sequence tree total is_base summed kept (start_of ends c) (within c inside) (get_or changes c e) (each c e inside) in
+        omega (arith, fits, within c inside, kept.few)
 
     pub first_sums : (sums : List Kept) → sums ≡ map (both_kept total) changes → AreFirstSums base.ship.ship.frames base.arrival.bodies sequence.steps ends sums
     first_sums sums is =
@@ -219,11 +217,16 @@ module _ (base : Base) (sequence : SequenceRecord) (tree : Counted Kept) (summed
         ap (λ l. get_or l c e) is ∙ get_or-map (both_kept total) changes c none_kept e (omega (arith, count, low)) in
         record {
           count = ap (λ l. length l) is ∙ length-map changes (both_kept total) ∙ count;
-          sum = λ c e low. sum_to_line base sequence tree total is_base summed (start_of ends c) (within c low) (get_or changes c none_kept) (each c none_kept low) (get_or sums c e) (at c e low);
-          size = λ c e low. room_after base sequence tree total is_base summed (start_of ends c) (within c low) (get_or changes c none_kept) (each c none_kept low) (get_or sums c e) (at c e low);
+          sum = λ c e low. sum_to_line base sequence tree total is_base summed kept (start_of ends c) (within c low) (get_or changes c none_kept) (each c none_kept low) (get_or sums c e) (at c e low);
+          size = λ c e low. room_after base sequence tree total is_base summed kept (start_of ends c) (within c low) (get_or changes c none_kept) (each c none_kept low) (get_or sums c e) (at c e low);
         }
 
 -- what a session reports is what a run reports
-pub reports : (base : Base) (sequence : SequenceRecord) → report_on base sequence.ops ≡ outcome_in (case_on base.ship base.arrival sequence)
+pub reports : (base : GroundRecord) (sequence : SequenceRecord) → report_on base sequence.ops ≡ outcome_in (case_on base.ship base.arrival sequence)
 unfolding report_on
 reports base sequence = refl
+
+-- how many lines it has
+pub lines_on : (base : GroundRecord) (ops : List Op) → length ops + 1 ≡ (report_on base ops).summary.lines
+unfolding report_on
+lines_on base ops = many_lines (case_on base.ship base.arrival (record { ops = ops; steps = [] }))

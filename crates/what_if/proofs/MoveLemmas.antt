@@ -1,7 +1,7 @@
 -- A step that is moved: what stands before and behind the stretch that it is moved over.
 use Rattle.std.proofs.Common.{◌≡◌, ◌⊎◌, ℕ, zero, suc, ◌+◌, ◌-◌, ◌*◌, ◌/◌, ◌<◌, ◌≤◌, List, [], ◌∷◌, ◌++◌, length, map, take, drop, get_or, Option, None, Some, refl, sym, ap, ◌∙◌, subst, arith, lt_of_not-le, ⊎_elim}
 use Rattle.std.specs.Prelude.{slice_get}
-use Rattle.std.specs.List.{AllByRecursion, insert, remove}
+use Rattle.std.specs.List.{insert, remove}
 use Rattle.std.proofs.lemmas.List.{drop-map, ext_get_or, get_or-drop, get_or-take, get_or_past, take-map}
 use mathlib.Core.Logic.{dite}
 use native.Mathlib.Decide.{dec_le}
@@ -9,7 +9,6 @@ use Rattle.std.proofs.lemmas.List.Edits.{length-insert, length-remove}
 use Rattle.std.proofs.lemmas.Option.{none-some, slice_get-get_or}
 use Rattle.lift_sequence.specs.declared.operations.Op.{Op}
 use Rattle.lift_sequence.specs.Independent.{moved, put_in}
-use Rattle.bounded_sums.specs.Laws.{IsLight}
 use Rattle.prefix_scan.specs.Rows.{IsWritten}
 use Rattle.moment_sums.specs.Kept.{Kept, none_kept, size_of}
 use Rattle.step_edits.proofs.EditLemmas.{can_be_done}
@@ -141,29 +140,3 @@ is_moved (op ∷ ops) (suc i) (suc j) h =
     (λ k. moved (op ∷ ops) (one i k) (one j k)) ∙ by_step (op ∷ ops) i j op (slice_get (op ∷ ops) i) refl (omega (arith, can.0.1)) where
       one : (n : ℕ) → suc n - 1 ≡ n
       one n = omega arith
-
--- a list is as light with a step moved
-light_insert : (ops : List Op) (j : ℕ) (op : Op) → AllByRecursion IsLight ops → IsLight op → AllByRecursion IsLight (insert ops j op)
-light_insert ops zero op all light = (light, all)
-light_insert [] (suc j) op all light = (light, tt)
-light_insert (x ∷ xs) (suc j) op all light = (all.0, light_insert xs j op all.1 light)
-
-light_remove : (ops : List Op) (i : ℕ) → AllByRecursion IsLight ops → AllByRecursion IsLight (remove ops i)
-light_remove [] zero all = tt
-light_remove [] (suc i) all = tt
-light_remove (x ∷ xs) zero all = all.1
-light_remove (x ∷ xs) (suc i) all = (all.0, light_remove xs i all.1)
-
-light_at : (ops : List Op) (i : ℕ) (op : Op) → slice_get ops i ≡ Some op → AllByRecursion IsLight ops → IsLight op
-light_at [] i op e all = absurd (none-some op e)
-light_at (x ∷ xs) zero op e all = subst IsLight (ap held e) all.0 where
-  held : Option Op → Op
-  held None = x
-  held (Some y) = y
-light_at (x ∷ xs) (suc i) op e all = light_at xs i op e all.1
-
-pub light_moved : (ops : List Op) (i j : ℕ) → AllByRecursion IsLight ops → AllByRecursion IsLight (moved ops i j)
-light_moved ops i j all = by_step_there (slice_get ops i) refl where
-  by_step_there : (o : Option Op) → slice_get ops i ≡ o → AllByRecursion IsLight (put_in (remove ops i) j o)
-  by_step_there None e = light_remove ops i all
-  by_step_there (Some op) e = light_insert (remove ops i) j op (light_remove ops i all) (light_at ops i op e all)

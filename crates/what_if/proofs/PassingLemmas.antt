@@ -7,14 +7,15 @@ use Rattle.lift_sequence.specs.Aboard.{after_all}
 use Rattle.lift_sequence.specs.Bodies.{bodies}
 use Rattle.moment_sums.specs.Sum.{sum_of}
 use Rattle.seq_report.specs.Report.{failure_of, step_line}
-use Rattle.what_if.specs.Bases.{Base, Pass, aboard_first}
+use Rattle.port_call.specs.Grounds.{GroundRecord, aboard_first}
+use Rattle.what_if.specs.Bases.{Pass}
 
 -- what is told of the condition after these steps
-told : Base → ℕ → List Op → Option (ℕ × Criterion)
+told : GroundRecord → ℕ → List Op → Option (ℕ × Criterion)
 told base k ops = failure_of (step_line base.ship k (sum_of base.ship.ship.frames (bodies base.ship (after_all base.ship (aboard_first base) ops))))
 
 -- in a list that begins with as many equal steps
-pub pass_alike : (base : Base) (ops others : List Op) (count same n : ℕ) → take same ops ≡ take same others → n ≤ count → n ≤ same + 1 → Pass base ops count → Pass base others n
+pub pass_alike : (base : GroundRecord) (ops others : List Op) (count same n : ℕ) → take same ops ≡ take same others → n ≤ count → n ≤ same + 1 → Pass base ops count → Pass base others n
 unfolding told
 pass_alike base ops others count same n alike few near pass k low =
     let inside : k ≤ same = omega (arith, low, near) in

@@ -10,7 +10,7 @@ use Rattle.step_edits.specs.declared.faults.EditFault.{EditFault}
 use Rattle.step_edits.specs.declared.faults.EditFault.TheVariants.{Sequence}
 use Rattle.step_edits.specs.Edits.{edited, edit_fault, inverse}
 use Rattle.step_edits.proofs.EditLemmas.{takes_back}
-use Rattle.what_if.specs.Bases.{Base, list_fault}
+use Rattle.port_call.specs.Grounds.{GroundRecord, list_fault}
 use Rattle.what_if.specs.Sessions.{ArePast, IsPast, past_of, refusal}
 
 -- the earlier lists cut
@@ -19,7 +19,7 @@ past_cut ops zero edits = refl
 past_cut ops (suc n) [] = refl
 past_cut ops (suc n) (edit ∷ more) = ap (λ lists. edited ops edit ∷ lists) (past_cut (edited ops edit) n more)
 
-are_cut : (base : Base) (ops : List Op) (n : ℕ) (edits : List Edit) → ArePast base ops edits → ArePast base ops (take n edits)
+are_cut : (base : GroundRecord) (ops : List Op) (n : ℕ) (edits : List Edit) → ArePast base ops edits → ArePast base ops (take n edits)
 are_cut base ops zero edits h = tt
 are_cut base ops (suc n) [] h = tt
 are_cut base ops (suc n) (edit ∷ more) h = (h.0, are_cut base (edited ops edit) n more h.1)
@@ -30,7 +30,7 @@ own_none None list h = refl
 own_none (Some fault) list h = absurd (none-some fault (sym h))
 
 -- an edit more
-module _ (base : Base) (ops : List Op) (edit : Edit) (can : edit_fault ops edit ≡ None) where
+module _ (base : GroundRecord) (ops : List Op) (edit : Edit) (can : edit_fault ops edit ≡ None) where
   one_more : (edits : List Edit) → past_of (edited ops edit) (take 64 (inverse ops edit ∷ edits)) ≡ take 64 (ops ∷ past_of ops edits)
   one_more edits =
       past_cut (edited ops edit) 64 (inverse ops edit ∷ edits) ∙ ap (λ before. take 64 (before ∷ past_of before edits)) (takes_back ops edit can).1
@@ -62,7 +62,7 @@ abbrev newest : Edit → Option Edit → Edit
 newest d None = d
 newest d (Some edit) = edit
 
-module _ (base : Base) (ops : List Op) where
+module _ (base : GroundRecord) (ops : List Op) where
   pub none_kept : (edits : List Edit) → slice_get edits 0 ≡ None → past_of ops edits ≡ []
   none_kept [] h = refl
   none_kept (edit ∷ more) h = absurd (none-some edit (sym h))

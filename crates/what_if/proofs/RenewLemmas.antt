@@ -15,8 +15,6 @@ use Rattle.units_core.specs.Steps.{step_weighed}
 use Rattle.lift_sequence.specs.Follow.{AreReweighed, loaded_at, loaded_cell, moves, moves_in, next_cell, reweighed, steps_weighed, weighed_at, with_step}
 use Rattle.lift_sequence.proofs.FollowLemmas.{moves_few}
 use Rattle.units_core.specs.declared.frames.Frame.{Frame}
-use Rattle.std.specs.List.{AllByRecursion}
-use Rattle.bounded_sums.specs.Laws.{IsLight}
 use Rattle.moment_sums.specs.Kept.{Kept, none_kept}
 use Rattle.step_edits.specs.Edits.{place_of}
 use Rattle.what_if.specs.Bases.{change_of}
@@ -325,19 +323,6 @@ module _ (frames : List Frame) (kg i : ℕ) (ops after : List Op) (is : after �
       let more : (moves_in (loaded_at ops i) (drop (i + 1) ops) + 1) * (k + 1) ≤ (restows_behind ops i + 2) * (k + 1) = mul-le-mul_right (k + 1) (omega (arith, few)) in
       let at : now ≤ joins + (moves_in (loaded_at ops i) (drop (i + 1) ops) + 1) * (k + 1) = subst (λ m. now ≤ joins + (m + 1) * (k + 1)) same h in
       omega (arith, at, more)
-
--- it is light enough, too
-weighed_one : (kg : ℕ) (op : Op) → kg ≤ 10 ^ 9 → IsLight (reweighed kg op)
-weighed_one kg (operation.Lift (Load item)) h = h
-weighed_one kg op h = tt
-
-pub weighed_light : (kg : ℕ) (ops : List Op) (i : ℕ) → kg ≤ 10 ^ 9 → AllByRecursion IsLight ops → AllByRecursion IsLight (weighed_at kg i ops)
-weighed_light kg [] i h all = tt
-weighed_light kg (op ∷ ops) zero h all = (weighed_one kg op h, all.1)
-weighed_light kg (op ∷ ops) (suc i) h all = by (option_map (reweighed kg) (slice_get ops i)) (weighed_light kg ops i h all.1) where
-  by : (o : Option Op) → AllByRecursion IsLight (with_step ops i o) → AllByRecursion IsLight (with_step (op ∷ ops) (suc i) o)
-  by None rest = all
-  by (Some x) rest = (all.0, rest)
 
 pub place_less : (n : ℕ) → n - 1 ≡ place_of n
 place_less zero = refl

@@ -1,12 +1,10 @@
 -- The sums of the fours of two steps that were exchanged.
 use Rattle.std.proofs.Common.{◌≡◌, ℕ, zero, suc, ◌/◌, ◌<◌, List, [], ◌∷◌, length, map, set, get_or, refl, sym, ap, ◌∙◌, subst, arith, get_or-set_same, get_or-set_other}
-use Rattle.std.specs.List.{AllByRecursion, swap}
+use Rattle.std.specs.List.{swap}
 use Rattle.std.proofs.lemmas.List.{ext_get_or, length-map, length-set}
 use Rattle.std.proofs.lemmas.List.Edits.{length-swap, swap_is}
 use mathlib.Core.Logic.{dite}
 use native.Mathlib.Decide.{ℕ_discrete}
-use Rattle.lift_sequence.specs.declared.operations.Op.{Op}
-use Rattle.bounded_sums.specs.Laws.{IsLight}
 use Rattle.moment_sums.specs.Kept.{Kept, none_kept}
 use Rattle.what_if.specs.Changes.{WereExchanged, fours}
 use Rattle.what_if.proofs.FourLemmas.{fours_same, length-fours}
@@ -85,20 +83,3 @@ module _ {X Y : Type 0} (f : X → Y) where
       ∙ ap (λ l. set l j (f (get_or xs i z))) (map_set xs i (get_or xs j z))
       ∙ (λ k. set (set (map f xs) i (map_get xs j z k)) j (map_get xs i z k))
       ∙ swap_is (map f xs) i j (f z) (omega (arith, long, low)) (omega (arith, long, high))
-
-light_set : (ops : List Op) (i : ℕ) (op : Op) → AllByRecursion IsLight ops → IsLight op → AllByRecursion IsLight (set ops i op)
-light_set [] i op all light = tt
-light_set (x ∷ xs) zero op all light = (light, all.1)
-light_set (x ∷ xs) (suc i) op all light = (all.0, light_set xs i op all.1 light)
-
-light_get : (ops : List Op) (i : ℕ) (d : Op) → i < length ops → AllByRecursion IsLight ops → IsLight (get_or ops i d)
-light_get [] i d within all = absurd (omega (arith, within))
-light_get (x ∷ xs) zero d within all = all.0
-light_get (x ∷ xs) (suc i) d within all = light_get xs i d (omega (arith, within)) all.1
-
-pub light_swapped : (ops : List Op) (i j : ℕ) → i < length ops → j < length ops → AllByRecursion IsLight ops → AllByRecursion IsLight (swap ops i j)
-light_swapped [] i j low high all = absurd (omega (arith, low))
-light_swapped (op ∷ more) i j low high all =
-    let ops : List Op = op ∷ more in
-    subst (AllByRecursion IsLight) (swap_is ops i j op low high)
-    (light_set (set ops i (get_or ops j op)) j (get_or ops i op) (light_set ops i (get_or ops j op) all (light_get ops j op high all)) (light_get ops i op low all))

@@ -1,7 +1,7 @@
 -- Bookkeeping: lists of what steps change, before and after the steps that move one container were
 -- given bodies of another weight; and the sums of each four of them.
-use Rattle.std.specs.Prelude.{◌≡◌, ℕ, ⊤, ◌+◌, ◌<◌, ◌≤◌, List, [], ◌∷◌, ◌++◌, length, take, drop}
-use Rattle.std.specs.Prelude.{Option, Some, slice_get, false}
+use Rattle.std.specs.Prelude.{◌≡◌, ℕ, ⊤, ◌+◌, ◌*◌, ◌^◌, ◌<◌, ◌≤◌, List, [], ◌∷◌, ◌++◌, length}
+use Rattle.std.specs.Prelude.{take, drop, Option, Some, slice_get, false}
 use Rattle.std.specs.List.{swap}
 use Rattle.units_core.specs.declared.cells.Cell.{Cell}
 use Rattle.prefix_scan.specs.Rows.{paired}
@@ -69,3 +69,9 @@ pub record WereExchanged (one other : ℕ) (changes sums : List Kept) : Type 0 w
   pub small : AreSmall olds
   pub are : sums ≡ fours olds
   pub exchanged : changes ≡ swap olds one other
+
+-- A count of joins grows by at most so many times those of one change or query, which are at most
+-- l + 1 where there are at most 2^l steps.
+abbrev pub CostsUpTo : (times steps old new : ℕ) → Type 0
+CostsUpTo times steps old new =
+    (old ≤ new) × ((levels : ℕ) → steps ≤ 2 ^ levels → new ≤ old + times * (levels + 1))

@@ -3,10 +3,10 @@ use Rattle.std.specs.Prelude.{ℕ, List, Vec}
 use Rattle.std.specs.declared.alloc.Global.{Global}
 use Rattle.boxcar.specs.Table.{Shelves, Where, Shows}
 use Rattle.lift_sequence.specs.declared.operations.Op.{Op}
-use Rattle.what_if.specs.Bases.{Base}
+use Rattle.port_call.specs.Grounds.{GroundRecord}
 
 pub record DeskRecord : Type 0 where
-  pub base : Base
+  pub base : GroundRecord
   pub lists : Shelves
 
 -- a number, and the list at that place of the desk; the place alone determines the list

@@ -2,10 +2,10 @@ ghost use Rattle.std.specs.Prelude.{◌≡◌, [], IfOk, IfSome};
 ghost use Rattle.std.specs.Arc.{arc_value};
 ghost use Rattle.what_if.specs.Desks.{IsOf, list_of};
 
-use crate::bases::Ground;
 use crate::sessions::Session;
 use crate::tickets::Ticket;
 use lift_sequence::Op;
+use port_call::Ground;
 use std::alloc::{AllocError, Global};
 use std::marker::Model;
 use std::sync::{Arc, Wait};

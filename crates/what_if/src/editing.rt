@@ -5,8 +5,9 @@ ghost use Rattle.std.specs.Bool.{OnTrue, OnFalse};
 ghost use Rattle.lift_sequence.specs.Follow.{IsLoad, weighed_at};
 ghost use Rattle.lift_sequence.specs.Independent.{moved};
 ghost use Rattle.step_edits.specs.Edits.{TellsMemory, edited, edit_fault};
-ghost use Rattle.what_if.specs.Bases.{list_fault};
-ghost use Rattle.what_if.specs.Sessions.{IsSummed, refusal, restows_behind, CostsLittle};
+ghost use Rattle.port_call.specs.Grounds.{list_fault};
+ghost use Rattle.what_if.specs.Changes.{CostsUpTo};
+ghost use Rattle.what_if.specs.Sessions.{CostsLittle, IsSummed, refusal, restows_behind};
 
 use crate::fours::Fours;
 use crate::passing::{Room, move_into, other_room};
@@ -15,7 +16,6 @@ use crate::summed_lists::SummedList;
 use lift_sequence::{SeqCode, SeqFault, Sequence};
 use moment_sums::Totals;
 use prefix_scan::Monoid;
-use run_inputs::ops_are_light;
 use std::alloc::AllocError;
 use step_edits::{Edit, EditFault, edited, fault_of};
 use units_core::Kg;
@@ -39,14 +39,13 @@ impl SummedList {
     /// is independent of makes the sums of these steps anew. Any other edit makes the sequence and
     /// all of its sums anew, and sees to the room for what searches keep, or leaves it.
     pub fn edit(&mut self, edit: &Edit, room: Room) -> Result<(), EditFault>
-        ensures legal { OnOk result (refusal self.old.base self.old.ops edit.now ≡ None) }
+        ensures made { OnOk result ((refusal self.old.base self.old.ops edit.now ≡ None)
+            × (self.new.ops ≡ edited self.old.ops edit.now)) }
         ensures base { self.new.base ≡ self.old.base }
-        ensures ops { OnOk result (self.new.ops ≡ edited self.old.ops edit.now) }
         ensures refused { IfErr result (λ e. e ≢ EditFault.NoMemory
             → refusal self.old.base self.old.ops edit.now ≡ Some e) }
         ensures before { OnErr result (self.new ≡ self.old) }
         ensures memory { IfErr result TellsMemory }
-        ensures grows { self.old.joins ≤ self.new.joins }
         ensures cost { CostsLittle edit.now self.old.ops self.old.joins self.new.joins }
     {
         if let Some(fault) = fault_of(self.sequence.ops(), edit) {
@@ -81,9 +80,7 @@ impl SummedList {
         ensures ops { OnTrue result (self.new.ops ≡ swap self.old.ops (a - 1) (b - 1)) }
         ensures legal { OnTrue result (list_fault self.old.base self.new.ops ≡ None) }
         ensures same { OnFalse result (self.new ≡ self.old) }
-        ensures grows { self.old.joins ≤ self.new.joins }
-        ensures cost { (levels : ℕ) → length self.old.ops ≤ 2 ^ levels
-            → self.new.joins ≤ self.old.joins + 2 * (levels + 1) }
+        ensures cost { CostsUpTo 2 (length self.old.ops) self.old.joins self.new.joins }
     {
         if !self.sequence.swap(a, b) {
             return false;
@@ -156,11 +153,9 @@ impl SummedList {
         ensures base { self.new.base ≡ self.old.base }
         ensures ops { self.new.ops ≡ weighed_at kg (k - 1) self.old.ops }
         ensures legal { list_fault self.old.base self.new.ops ≡ None }
-        ensures grows { self.old.joins ≤ self.new.joins }
-        ensures cost { (levels : ℕ) → length self.old.ops ≤ 2 ^ levels → self.new.joins
-            ≤ self.old.joins + (restows_behind self.old.ops (k - 1) + 2) * (levels + 1) }
+        ensures cost { CostsUpTo (restows_behind self.old.ops (k - 1) + 2) (length self.old.ops)
+            self.old.joins self.new.joins }
     {
-        let _ = kg.get();
         weigh(&mut self.sequence, k, kg);
         renew(
             &mut self.sums,
@@ -188,7 +183,6 @@ impl SummedList {
             Ok(sequence) => sequence,
             Err(fault) => return Err(list_refusal(fault)),
         };
-        ops_are_light(sequence.ops());
         match self.sums.renewed(self.alloc, &self.base, &sequence) {
             Ok(sums) => Ok((sequence, sums)),
             Err(AllocError) => Err(EditFault::NoMemory),
@@ -198,9 +192,9 @@ impl SummedList {
     /// Makes an edit other than a new weight. All memory is there before anything changes.
     fn rearrange(&mut self, edit: &Edit, room: Room) -> Result<(), EditFault>
         requires { edit_fault self.old.ops edit.now ≡ None }
-        ensures legal { OnOk result (refusal self.old.base self.old.ops edit.now ≡ None) }
+        ensures made { OnOk result ((refusal self.old.base self.old.ops edit.now ≡ None)
+            × (self.new.ops ≡ edited self.old.ops edit.now)) }
         ensures base { self.new.base ≡ self.old.base }
-        ensures ops { OnOk result (self.new.ops ≡ edited self.old.ops edit.now) }
         ensures refused { IfErr result (λ e. e ≢ EditFault.NoMemory
             → refusal self.old.base self.old.ops edit.now ≡ Some e) }
         ensures before { OnErr result (self.new ≡ self.old) }

@@ -11,12 +11,13 @@ ghost use Rattle.prefix_scan.specs.Folds.{prefix};
 ghost use Rattle.prefix_scan.specs.Rows.{IsWritten};
 ghost use Rattle.prefix_scan.specs.Laws.{most_parts};
 ghost use Rattle.moment_sums.specs.Kept.{Kept, bodies_of, both_kept, none_kept, size_of};
-ghost use Rattle.what_if.specs.Bases.{change_of, changes_on, steps_on};
-ghost use Rattle.what_if.specs.Changes.{AreOfFour, fours};
+ghost use Rattle.port_call.specs.Grounds.{steps_on};
+ghost use Rattle.what_if.specs.Bases.{change_of, changes_on};
+ghost use Rattle.what_if.specs.Changes.{AreOfFour, CostsUpTo, fours};
 
-use crate::bases::Ground;
 use lift_sequence::Sequence;
 use moment_sums::Totals;
+use port_call::Ground;
 use prefix_scan::{Cuts, TotalsTree};
 use ship_profile::Frames;
 use std::alloc::{AllocError, Global};
@@ -59,14 +60,13 @@ fn add_counted(sum: &mut Totals, step: &Step, frames: &Frames, count: &mut u64)
 /// What the four steps of a number change together, the first four having the number 0. It takes
 /// three joins.
 fn sum_of_four(sequence: &Sequence, frames: &Frames, four: usize, count: &mut u64) -> Totals
-    requires steps { length sequence.now.steps ≡ length sequence.now.ops }
-    requires few { length sequence.now.ops ≤ 120000 }
     requires within { 4 * four + 4 ≤ length sequence.now.ops }
     ensures value { result ≡ slice_index_or
         (fours (map (change_of frames.now) sequence.now.steps)) four none_kept }
     ensures bound { (count.old ≤ count.new) × (count.new ≤ count.old + 3) }
     ensures counted { count.old + 3 < 2 ^ 64 → count.new ≡ count.old + 3 }
 {
+    sequence.facts();
     let first = 4 * four;
     let mut sum = Totals::of_step(&sequence.step(first + 1), frames);
     add_counted(&mut sum, &sequence.step(first + 2), frames, count);
@@ -77,11 +77,10 @@ fn sum_of_four(sequence: &Sequence, frames: &Frames, four: usize, count: &mut u6
 
 /// What each four steps of a sequence change together. The joins made here aren't counted.
 fn sums(alloc: Global, sequence: &Sequence, frames: &Frames) -> Result<Vec<Totals>, AllocError>
-    requires steps { length sequence.now.steps ≡ length sequence.now.ops }
-    requires few { length sequence.now.ops ≤ 120000 }
     ensures { IfOk result
         (λ v. v.items ≡ fours (map (change_of frames.now) sequence.now.steps)) }
 {
+    sequence.facts();
     let number = sequence.len() / 4;
     let mut all = Vec::with_capacity(alloc, number)?;
     let mut uncounted = 0;
@@ -93,7 +92,6 @@ fn sums(alloc: Global, sequence: &Sequence, frames: &Frames) -> Result<Vec<Total
 
 /// What each four steps of a sequence that was made from this base change together.
 fn sums_on(alloc: Global, base: &Ground, sequence: &Sequence) -> Result<Vec<Totals>, AllocError>
-    requires few { length sequence.now.ops ≤ 120000 }
     requires steps { sequence.now.steps ≡ steps_on base.now sequence.now.ops }
     ensures { IfOk result (λ v. v.items ≡ fours (changes_on base.now sequence.now.ops)) }
 {
@@ -103,8 +101,6 @@ fn sums_on(alloc: Global, base: &Ground, sequence: &Sequence) -> Result<Vec<Tota
 /// Adds to the sum of all whole fours before step `k` what the steps behind them change, up to that
 /// step, and counts them.
 fn add_single(sequence: &Sequence, frames: &Frames, k: usize, sum: &mut Totals, count: &mut u64)
-    requires steps { length sequence.now.steps ≡ length sequence.now.ops }
-    requires few { length sequence.now.ops ≤ 120000 }
     requires within { k ≤ length sequence.now.ops }
     requires so_far { sum.old ≡ prefix none_kept both_kept
         (map (change_of frames.now) sequence.now.steps) (k / 4 * 4) }
@@ -114,6 +110,7 @@ fn add_single(sequence: &Sequence, frames: &Frames, k: usize, sum: &mut Totals, 
     ensures cost { count.new ≤ count.old + k % 4 }
     ensures counted { count.old + k % 4 < 2 ^ 64 → count.new ≡ count.old + k % 4 }
 {
+    sequence.facts();
     for place in k / 4 * 4..k {
         add_counted(sum, &sequence.step(place + 1), frames, count);
     }
@@ -122,14 +119,13 @@ fn add_single(sequence: &Sequence, frames: &Frames, k: usize, sum: &mut Totals, 
 /// Sets in the room what each four steps change together, from the four of a number on. The joins
 /// made here aren't counted.
 fn set_room(sequence: &Sequence, frames: &Frames, four: usize, room: &mut [Totals])
-    requires steps { length sequence.now.steps ≡ length sequence.now.ops }
-    requires few { length sequence.now.ops ≤ 120000 }
     requires within { 4 * (four + length room.old) ≤ length sequence.now.ops }
     ensures long { length room.new ≡ length room.old }
     ensures each { (k : ℕ) → k < length room.old → slice_index_or room.new k none_kept
         ≡ slice_index_or (fours (map (change_of frames.now) sequence.now.steps)) (four + k)
         none_kept }
 {
+    sequence.facts();
     let mut uncounted = 0;
     for k in 0..room.len() {
         room[k] = sum_of_four(sequence, frames, four + k, &mut uncounted);
@@ -139,11 +135,11 @@ fn set_room(sequence: &Sequence, frames: &Frames, four: usize, room: &mut [Total
 impl Fours {
     /// The sums of the steps of such a sequence. The joins made here aren't counted.
     pub fn of(alloc: Global, base: &Ground, sequence: &Sequence) -> Result<Fours, AllocError>
-        requires few { length sequence.now.ops ≤ 120000 }
         requires steps { sequence.now.steps ≡ steps_on base.now sequence.now.ops }
         ensures { IfOk result
             (λ f. (f.values ≡ fours (changes_on base.now sequence.now.ops)) × (f.joins ≡ 0)) }
     {
+        sequence.facts();
         let sums = sums_on(alloc, base, sequence)?;
         let tree = TotalsTree::of(alloc, sums)?;
         Ok(Fours { tree, single: 0 })
@@ -157,11 +153,11 @@ impl Fours {
         base: &Ground,
         sequence: &Sequence,
     ) -> Result<Fours, AllocError>
-        requires few { length sequence.now.ops ≤ 120000 }
         requires steps { sequence.now.steps ≡ steps_on base.now sequence.now.ops }
         ensures { IfOk result (λ f. (f.values ≡ fours (changes_on base.now sequence.now.ops))
             × (f.joins ≡ self.now.joins)) }
     {
+        sequence.facts();
         let sums = sums_on(alloc, base, sequence)?;
         let tree = self.tree.renewed(alloc, sums)?;
         Ok(Fours {
@@ -173,19 +169,16 @@ impl Fours {
     /// What the first `k` steps of the sequence change together. It takes at most l + 1 joins,
     /// where there are at most 2^l steps, and at least one, unless `k` is 0.
     pub fn prefix(&mut self, sequence: &Sequence, frames: &Frames, k: usize) -> Totals
-        requires steps { length sequence.now.steps ≡ length sequence.now.ops }
-        requires few { length sequence.now.ops ≤ 120000 }
         requires within { k ≤ length sequence.now.ops }
         requires sums { self.old.values
             ≡ fours (map (change_of frames.now) sequence.now.steps) }
         ensures value { result ≡ prefix none_kept both_kept
             (map (change_of frames.now) sequence.now.steps) k }
         ensures values { self.new.values ≡ self.old.values }
-        ensures grows { self.old.joins ≤ self.new.joins }
-        ensures cost { (levels : ℕ) → length sequence.now.ops ≤ 2 ^ levels
-            → self.new.joins ≤ self.old.joins + (levels + 1) }
+        ensures cost { CostsUpTo 1 (length sequence.now.ops) self.old.joins self.new.joins }
         ensures counted { 0 < k → self.old.joins + 3 < 2 ^ 64 → self.old.joins < self.new.joins }
     {
+        sequence.facts();
         let mut sum = self.tree.prefix(k / 4);
         add_single(sequence, frames, k, &mut sum, &mut self.single);
         sum
@@ -193,14 +186,13 @@ impl Fours {
 
     /// As [`Fours::prefix`], for whoever has the sums only to read; its joins aren't counted.
     pub fn peek(&self, sequence: &Sequence, frames: &Frames, k: usize) -> Totals
-        requires steps { length sequence.now.steps ≡ length sequence.now.ops }
-        requires few { length sequence.now.ops ≤ 120000 }
         requires within { k ≤ length sequence.now.ops }
         requires sums { self.now.values
             ≡ fours (map (change_of frames.now) sequence.now.steps) }
         ensures { result ≡ prefix none_kept both_kept
             (map (change_of frames.now) sequence.now.steps) k }
     {
+        sequence.facts();
         let mut sum = self.tree.peek(k / 4);
         let mut uncounted = 0;
         add_single(sequence, frames, k, &mut sum, &mut uncounted);
@@ -215,8 +207,6 @@ impl Fours {
         frames: &Frames,
         cuts: &Cuts,
     ) -> Result<Vec<Totals>, AllocError>
-        requires steps { length sequence.now.steps ≡ length sequence.now.ops }
-        requires few { length sequence.now.ops ≤ 120000 }
         requires within { (c : ℕ) → c < length cuts.now
             → start_of cuts.now c ≤ length sequence.now.ops }
         requires sums { self.now.values
@@ -237,18 +227,15 @@ impl Fours {
     /// Sets what the four steps change together one of which is at a place, if they are four. It
     /// takes at most l + 1 joins, where there are at most 2^l steps.
     pub fn set(&mut self, sequence: &Sequence, frames: &Frames, place: usize)
-        requires steps { length sequence.now.steps ≡ length sequence.now.ops }
-        requires few { length sequence.now.ops ≤ 120000 }
         requires long { length self.old.values ≡ length sequence.now.ops / 4 }
         requires small { AreOfFour self.old.values }
         ensures values { self.new.values ≡ slice_set self.old.values (place / 4) (slice_index_or
             (fours (map (change_of frames.now) sequence.now.steps)) (place / 4) none_kept) }
-        ensures grows { self.old.joins ≤ self.new.joins }
-        ensures cost { (levels : ℕ) → length sequence.now.ops ≤ 2 ^ levels
-            → self.new.joins ≤ self.old.joins + (levels + 1) }
+        ensures cost { CostsUpTo 1 (length sequence.now.ops) self.old.joins self.new.joins }
         ensures counted { place / 4 < length self.old.values → self.old.joins + 3 < 2 ^ 64
             → self.old.joins + 3 ≤ self.new.joins }
     {
+        sequence.facts();
         let four = place / 4;
         if four >= self.tree.len() {
             return;
@@ -260,8 +247,6 @@ impl Fours {
     /// Sets what each four steps change together, from the four of a number on, as many as there is
     /// room for. As where the sums are made, no join is counted.
     pub fn renew(&mut self, sequence: &Sequence, frames: &Frames, four: usize, room: &mut [Totals])
-        requires steps { length sequence.now.steps ≡ length sequence.now.ops }
-        requires few { length sequence.now.ops ≤ 120000 }
         requires long { length self.old.values ≡ length sequence.now.ops / 4 }
         requires small { AreOfFour self.old.values }
         requires within { four + length room.old ≤ length self.old.values }
@@ -270,6 +255,7 @@ impl Fours {
             self.new.values }
         ensures joins { self.new.joins ≡ self.old.joins }
     {
+        sequence.facts();
         set_room(sequence, frames, four, room);
         self.tree.renew(four, room);
     }

@@ -8,7 +8,6 @@
 //! [`Desk`] keeps lists that were published, and [`Desk::open`] makes a session of one.
 #![tactic(auto)]
 
-mod bases;
 mod desks;
 mod editing;
 mod fours;
@@ -18,8 +17,8 @@ mod sessions;
 mod summed_lists;
 mod tickets;
 
-pub use bases::Ground;
 pub use desks::Desk;
+pub use port_call::Ground;
 pub use sessions::Session;
 pub use step_edits::{Edit, EditFault};
 pub use tickets::Ticket;

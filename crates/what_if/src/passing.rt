@@ -8,8 +8,8 @@ ghost use Rattle.std.specs.Arc.{arc_value};
 ghost use Rattle.seq_report.specs.Cases.{passed_before};
 ghost use Rattle.what_if.specs.Bases.{Pass};
 
-use crate::bases::Ground;
 use lift_sequence::Op;
+use port_call::Ground;
 use seq_report::Criterion;
 use std::alloc::{AllocError, Global};
 use std::sync::Arc;

@@ -9,7 +9,8 @@ ghost use Rattle.lift_sequence.specs.Follow.{weighed_at};
 ghost use Rattle.lift_sequence.specs.Sequence.{sequence_fault};
 ghost use Rattle.moment_sums.specs.Kept.{none_kept};
 ghost use Rattle.what_if.specs.Bases.{change_of};
-ghost use Rattle.what_if.specs.Changes.{AreOfFour, AreStill, WereExchanged, WereNear, fours};
+ghost use Rattle.what_if.specs.Changes.{AreOfFour, AreStill, CostsUpTo, WereExchanged, WereNear};
+ghost use Rattle.what_if.specs.Changes.{fours};
 
 use crate::fours::Fours;
 use lift_sequence::{Op, Sequence};
@@ -34,18 +35,15 @@ fn set_moved(
     done: usize,
 ) -> usize
     requires within { place < length sequence.now.ops }
-    requires steps { length sequence.now.steps ≡ length sequence.now.ops }
-    requires few { length sequence.now.ops ≤ 120000 }
     requires long { length sums.old.values ≡ length sequence.now.ops / 4 }
     requires small { AreOfFour sums.old.values }
     ensures inside { place < done → (result ≡ done) × (sums.new.values ≡ sums.old.values) }
     ensures set { done ≤ place → (result ≡ place / 4 * 4 + 4)
         × (sums.new.values ≡ slice_set sums.old.values (place / 4) (slice_index_or
         (fours (map (change_of frames.now) sequence.now.steps)) (place / 4) none_kept)) }
-    ensures grows { sums.old.joins ≤ sums.new.joins }
-    ensures cost { (levels : ℕ) → length sequence.now.ops ≤ 2 ^ levels
-        → sums.new.joins ≤ sums.old.joins + (levels + 1) }
+    ensures cost { CostsUpTo 1 (length sequence.now.ops) sums.old.joins sums.new.joins }
 {
+    sequence.facts();
     if place < done {
         return done;
     }
@@ -95,16 +93,14 @@ fn next_move(ops: &[Op], from: usize, cell: Option<Cell>) -> usize
 /// sums are of what the steps changed before the container was given another weight.
 pub fn renew(sums: &mut Fours, sequence: &Sequence, frames: &Frames, place: usize)
     requires within { place < length sequence.now.ops }
-    requires steps { length sequence.now.steps ≡ length sequence.now.ops }
-    requires few { length sequence.now.ops ≤ 120000 }
     requires near { WereNear place sequence.now.ops
         (map (change_of frames.now) sequence.now.steps) sums.old.values }
     ensures values { sums.new.values ≡ fours (map (change_of frames.now) sequence.now.steps) }
-    ensures grows { sums.old.joins ≤ sums.new.joins }
-    ensures cost { (levels : ℕ) → length sequence.now.ops ≤ 2 ^ levels
-        → sums.new.joins ≤ sums.old.joins + (moves_in (loaded_at sequence.now.ops place)
-        (drop (place + 1) sequence.now.ops) + 1) * (levels + 1) }
+    ensures cost { CostsUpTo (moves_in (loaded_at sequence.now.ops place)
+        (drop (place + 1) sequence.now.ops) + 1) (length sequence.now.ops) sums.old.joins
+        sums.new.joins }
 {
+    sequence.facts();
     sums.set(sequence, frames, place);
     let mut done = end_of_four(place);
     let ops = sequence.ops();
@@ -122,15 +118,12 @@ pub fn renew(sums: &mut Fours, sequence: &Sequence, frames: &Frames, place: usiz
 pub fn renew_both(sums: &mut Fours, sequence: &Sequence, frames: &Frames, one: usize, other: usize)
     requires one { one < length sequence.now.ops }
     requires other { other < length sequence.now.ops }
-    requires steps { length sequence.now.steps ≡ length sequence.now.ops }
-    requires few { length sequence.now.ops ≤ 120000 }
     requires exchanged { WereExchanged one other
         (map (change_of frames.now) sequence.now.steps) sums.old.values }
     ensures values { sums.new.values ≡ fours (map (change_of frames.now) sequence.now.steps) }
-    ensures grows { sums.old.joins ≤ sums.new.joins }
-    ensures cost { (levels : ℕ) → length sequence.now.ops ≤ 2 ^ levels
-        → sums.new.joins ≤ sums.old.joins + 2 * (levels + 1) }
+    ensures cost { CostsUpTo 2 (length sequence.now.ops) sums.old.joins sums.new.joins }
 {
+    sequence.facts();
     sums.set(sequence, frames, one);
     sums.set(sequence, frames, other);
 }

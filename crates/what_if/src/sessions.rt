@@ -1,25 +1,24 @@
-ghost use Rattle.std.specs.Prelude.{◌≡◌, ◌≢◌, ℕ, ◌^◌, ◌+◌, ◌<◌, ◌≤◌, [], ◌∷◌, length, take, false};
-ghost use Rattle.std.specs.Prelude.{true, OnOk, OnErr, IfOk, IfErr, Ok, Err, Some, None};
+ghost use Rattle.std.specs.Prelude.{◌≡◌, ◌≢◌, ◌≤◌, [], ◌∷◌, length, take, false, true};
+ghost use Rattle.std.specs.Prelude.{OnOk, OnErr, IfOk, IfErr, Ok, Err, Some, None};
 ghost use Rattle.std.specs.Arc.{arc_value};
-ghost use Rattle.std.specs.Io.KnownBytes.{Appends};
-ghost use Rattle.prefix_scan.specs.declared.divisions.CutFault.{CutFault as CutFaultValue};
 ghost use Rattle.lift_sequence.specs.Arrival.{TellsAt};
-ghost use Rattle.run_inputs.specs.Readings.{HasArrived, IsMade};
-ghost use Rattle.seq_report.specs.Plans.{Fits, IsPlanFault};
-ghost use Rattle.run_inputs.specs.Refusals.{TellsMemory, is_refusal, is_write, is_write_fault};
+ghost use Rattle.port_call.specs.Grounds.{list_fault};
+ghost use Rattle.port_call.specs.Refusals.{TellsMemory, is_refusal, is_write};
+ghost use Rattle.seq_report.specs.Delivery.{Delivers, IsByPlan};
 ghost use Rattle.seq_report.specs.Refusal.{outcome_of};
 ghost use Rattle.step_edits.specs.Edits.{TellsMemory as TellsEditMemory, edited};
-ghost use Rattle.what_if.specs.Bases.{IsJudgedAt, list_fault, report_on};
+ghost use Rattle.what_if.specs.Bases.{IsJudgedAt, report_on};
+ghost use Rattle.what_if.specs.Changes.{CostsUpTo};
 ghost use Rattle.what_if.specs.Sessions.{AreTold, CostsLittle, refusal};
 
-use crate::bases::Ground;
 use crate::passing::Room;
 use crate::summed_lists::SummedList;
 use circular_buffer::HeapCircularBuffer;
 use claim_run::Gate;
 use criteria::Verdict;
 use lift_sequence::{Op, SeqCode, SeqFault};
-use seq_report::{Case, Criterion, Inputs, Options, RunFault, Sink, Summary, case_of};
+use port_call::{Ground, PortCall};
+use seq_report::{Criterion, Inputs, Options, RunFault, Sink, Summary};
 use std::alloc::{AllocError, Global};
 use std::marker::Model;
 use std::sync::{Arc, Wait};
@@ -97,30 +96,31 @@ impl Session {
         ensures memory { IfErr result TellsMemory }
         ensures silent { is_write result ≡ false }
     {
-        let case = case_of(alloc, inputs)?;
-        match Session::of_case(alloc, case) {
+        let call = match PortCall::read(alloc, inputs) {
+            Ok(call) => call,
+            Err(fault) => return Err(RunFault::from(fault)),
+        };
+        match Session::of_call(alloc, call) {
             Ok(session) => Ok(session),
             Err(AllocError) => Err(RunFault::NoMemory),
         }
     }
 
-    /// The session on a case.
-    fn of_case(alloc: Global, case: Case) -> Result<Session, AllocError>
-        requires arrived { HasArrived case.profile case.arrival }
-        requires made { IsMade case.profile case.arrival case.sequence }
-        ensures { IfOk result (λ s. s ≡ record {
-          base = record { ship = case.profile; arrival = case.arrival };
-          ops = case.sequence.ops;
+    /// The session on a port call.
+    fn of_call(alloc: Global, call: PortCall) -> Result<Session, AllocError>
+        ensures made { IfOk result (λ s. s ≡ record {
+          base = record { ship = call.profile; arrival = call.arrival };
+          ops = call.sequence.ops;
           past = [];
           joins = 0;
         }) }
+        ensures legal { OnOk result (list_fault (record {
+          ship = call.profile;
+          arrival = call.arrival;
+        }) call.sequence.ops ≡ None) }
     {
-        let Case {
-            profile,
-            arrival,
-            sequence,
-        } = case;
-        let base = Arc::new(alloc, Ground::new(profile, arrival))?;
+        let (ground, sequence) = call.into_parts();
+        let base = Arc::new(alloc, ground)?;
         let past = HeapCircularBuffer::with_capacity(alloc, KEPT)?;
         let list = SummedList::of_sequence(alloc, base, sequence)?;
         Ok(Session { list, past })
@@ -149,15 +149,14 @@ impl Session {
     /// joins, where the list has at most 2^l steps; an exchange of two steps takes at most 2 (l +
     /// 1).
     pub fn apply(&mut self, edit: Edit) -> Result<(), EditFault>
-        ensures legal { OnOk result (refusal self.old.base self.old.ops edit ≡ None) }
+        ensures made { OnOk result ((refusal self.old.base self.old.ops edit ≡ None)
+            × (self.new.ops ≡ edited self.old.ops edit)
+            × (self.new.past ≡ take 64 (self.old.ops ∷ self.old.past))) }
         ensures base { self.new.base ≡ self.old.base }
-        ensures ops { OnOk result (self.new.ops ≡ edited self.old.ops edit) }
-        ensures past { OnOk result (self.new.past ≡ take 64 (self.old.ops ∷ self.old.past)) }
         ensures refused { IfErr result (λ e. e ≢ EditFault.NoMemory
             → refusal self.old.base self.old.ops edit ≡ Some e) }
         ensures before { OnErr result (self.new ≡ self.old) }
         ensures memory { IfErr result TellsEditMemory }
-        ensures grows { self.old.joins ≤ self.new.joins }
         ensures cost { CostsLittle edit self.old.ops self.old.joins self.new.joins }
     {
         let back = inverse(self.list.ops(), &edit);
@@ -194,9 +193,7 @@ impl Session {
         ensures base { self.new.base ≡ self.old.base }
         ensures ops { self.new.ops ≡ self.old.ops }
         ensures past { self.new.past ≡ self.old.past }
-        ensures grows { self.old.joins ≤ self.new.joins }
-        ensures cost { (levels : ℕ) → length self.old.ops ≤ 2 ^ levels
-            → self.new.joins ≤ self.old.joins + (levels + 1) }
+        ensures cost { CostsUpTo 1 (length self.old.ops) self.old.joins self.new.joins }
     {
         self.list.judge(k)
     }
@@ -222,22 +219,11 @@ impl Session {
         sink: &mut S,
     ) -> Result<Summary, RunFault>
         requires sound { S.has_failed sink.old ≡ false }
-        ensures written { IfOk result (λ summary.
-            (summary ≡ (report_on self.now.base self.now.ops).summary)
-            × Appends (S.contents sink.old) (S.contents sink.new)
-            (report_on self.now.base self.now.ops).text) }
-        ensures fits { IfOk result (λ _. Fits options.now.cuts (length self.now.ops + 1)) }
-        ensures refused { IfErr result (λ e. is_refusal e ≡ false) }
-        ensures unfit { IfErr result (λ e. (fault : CutFaultValue) → e ≡ RunFault.Cuts fault
-            → IsPlanFault options.now.cuts (length self.now.ops + 1) fault) }
-        ensures untouched { IfErr result
-            (λ e. is_write_fault e ≡ false → S.contents sink.new ≡ S.contents sink.old) }
-        ensures failed { S.has_failed sink.new ≡ is_write result }
-        ensures cut_short { IfErr result (λ e. (m : ℕ) → e ≡ RunFault.Write m
-            → Fits options.now.cuts (length self.now.ops + 1)
-            × (m < length (report_on self.now.base self.now.ops).text)
-            × Appends (S.contents sink.old) (S.contents sink.new)
-            (take m (report_on self.now.base self.now.ops).text)) }
+        ensures delivers { Delivers (Ok (report_on self.now.base self.now.ops)) result
+            (S.contents sink.old) (S.contents sink.new) (S.has_failed sink.new) }
+        ensures plan { IsByPlan options.now.cuts (Ok (report_on self.now.base self.now.ops))
+            result }
+        ensures accepted { IfErr result (λ e. is_refusal e ≡ false) }
         ensures memory { IfErr result TellsMemory }
     {
         self.list.report(rt, gate, options, sink)

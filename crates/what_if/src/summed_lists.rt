@@ -1,25 +1,27 @@
-ghost use Rattle.std.specs.Prelude.{◌≡◌, ℕ, ◌+◌, ◌^◌, ◌<◌, ◌≤◌, length, take, false, true, OnOk};
-ghost use Rattle.std.specs.Prelude.{IfOk, IfErr, None};
+ghost use Rattle.std.specs.Prelude.{◌≡◌, ◌+◌, length, false, true, OnOk, IfOk, IfErr, Ok, None};
 ghost use Rattle.std.specs.Arc.{arc_value};
-ghost use Rattle.std.specs.Io.KnownBytes.{Appends};
 ghost use Rattle.prefix_scan.specs.Cut.{Divides};
-ghost use Rattle.prefix_scan.specs.declared.divisions.CutFault.{CutFault as CutFaultValue};
 ghost use Rattle.lift_sequence.specs.Arrival.{TellsAt};
+ghost use Rattle.port_call.specs.Grounds.{list_fault, steps_on};
+ghost use Rattle.port_call.specs.Refusals.{TellsMemory, is_refusal};
 ghost use Rattle.seq_report.specs.Chunks.{AreFirstSums};
-ghost use Rattle.seq_report.specs.Plans.{Fits, IsPlanFault};
-ghost use Rattle.run_inputs.specs.Refusals.{TellsMemory, is_refusal, is_write, is_write_fault};
-ghost use Rattle.what_if.specs.Bases.{IsJudgedAt, Pass, list_fault, report_on, steps_on};
+ghost use Rattle.seq_report.specs.Delivery.{Delivers, IsByPlan};
+ghost use Rattle.seq_report.specs.Plans.{Fits, IsUncut};
+ghost use Rattle.what_if.specs.Bases.{IsJudgedAt, Pass, report_on};
+ghost use Rattle.what_if.specs.Changes.{CostsUpTo};
 
-use crate::bases::Ground;
 use crate::fours::Fours;
 use crate::passing::{Passed, keep, passing_before, passing_on};
 use claim_run::Gate;
 use criteria::{Verdict, judge};
 use lift_sequence::{Op, SeqCode, SeqFault, Sequence};
 use moment_sums::Totals;
+use port_call::{Ground, cuts_refusal};
 use prefix_scan::{Cuts, Monoid};
-use run_inputs::ops_are_light;
-use seq_report::{Criterion, Options, RunFault, Sink, Summary, cuts_of, joined_to_arrival};
+use seq_report::{
+    Criterion, CutPlan, Options, RunFault, Sink, Summary, cuts_of, first_fail_behind,
+    joined_to_arrival, report_from,
+};
 use std::alloc::{AllocError, Global};
 use std::marker::Model;
 use std::sync::{Arc, Mutex, Wait};
@@ -92,7 +94,6 @@ impl SummedList {
         ensures { IfOk result
             (λ l. l ≡ record { base = arc_value base; ops = sequence.ops; joins = 0 }) }
     {
-        ops_are_light(sequence.ops());
         let sums = Fours::of(alloc, &base, &sequence)?;
         let passed = Passed::nothing(alloc, &base, sequence.len())?;
         Ok(SummedList {
@@ -125,14 +126,13 @@ impl SummedList {
         ensures judged { IsJudgedAt result self.old.base self.old.ops k }
         ensures base { self.new.base ≡ self.old.base }
         ensures ops { self.new.ops ≡ self.old.ops }
-        ensures grows { self.old.joins ≤ self.new.joins }
-        ensures cost { (levels : ℕ) → length self.old.ops ≤ 2 ^ levels
-            → self.new.joins ≤ self.old.joins + (levels + 1) }
+        ensures cost { CostsUpTo 1 (length self.old.ops) self.old.joins self.new.joins }
     {
         let k = k as usize;
         if k > self.sequence.len() {
             return None;
         }
+        self.sequence.facts();
         let frames = self.base.profile().frames();
         let change = self.sums.prefix(&self.sequence, frames, k);
         let sum = self.base.total().join(&change);
@@ -148,7 +148,7 @@ impl SummedList {
     {
         match self.passed.try_lock() {
             Some(mut kept) => self.first_fail_kept(&mut kept),
-            None => self.base.first_fail(&self.sequence),
+            None => self.first_fail_behind(0),
         }
     }
 
@@ -173,7 +173,8 @@ impl SummedList {
         if passing > self.sequence.len() {
             return None;
         }
-        self.base.first_fail_behind(&self.sequence, passing as u32)
+        let case = self.base.case(&self.sequence);
+        first_fail_behind(case, passing as u32, self.base.total())
     }
 
     /// The sum at the first line of each chunk of the report.
@@ -183,9 +184,32 @@ impl SummedList {
             self.now.base.arrival.bodies (steps_on self.now.base self.now.ops) cuts.now
             sums.items) }
     {
+        self.sequence.facts();
         let frames = self.base.profile().frames();
         let changes = self.sums.offsets(self.alloc, &self.sequence, frames, cuts)?;
         joined_to_arrival(self.alloc, self.base.total(), &changes)
+    }
+
+    /// The cuts that a plan makes of the report's lines, and the sum at the first line of each
+    /// chunk; or the fault of the plan.
+    fn chunked(&self, plan: CutPlan<'_>) -> Result<(Cuts, Vec<Totals>), RunFault>
+        ensures cut { IfOk result (λ made. Divides made.0 (length self.now.ops + 1)) }
+        ensures sums { IfOk result (λ made. AreFirstSums self.now.base.ship.ship.frames
+            self.now.base.arrival.bodies (steps_on self.now.base self.now.ops) made.0
+            made.1.items) }
+        ensures fits { IfOk result
+            (λ _. Fits plan.entry (report_on self.now.base self.now.ops).summary.lines) }
+        ensures uncut { IfErr result
+            (IsUncut plan.entry (report_on self.now.base self.now.ops).summary.lines) }
+    {
+        let cuts = match cuts_of(self.alloc, plan, self.sequence.len() as u32 + 1) {
+            Ok(cuts) => cuts,
+            Err(fault) => return Err(cuts_refusal(fault)),
+        };
+        match self.first_sums(&cuts) {
+            Ok(sums) => Ok((cuts, sums)),
+            Err(AllocError) => Err(RunFault::NoMemory),
+        }
     }
 
     /// Writes the report on the list to a sink that has not failed.
@@ -197,37 +221,29 @@ impl SummedList {
         sink: &mut S,
     ) -> Result<Summary, RunFault>
         requires sound { S.has_failed sink.old ≡ false }
-        ensures written { IfOk result (λ summary.
-            (summary ≡ (report_on self.now.base self.now.ops).summary)
-            × Appends (S.contents sink.old) (S.contents sink.new)
-            (report_on self.now.base self.now.ops).text) }
-        ensures fits { IfOk result (λ _. Fits options.now.cuts (length self.now.ops + 1)) }
-        ensures refused { IfErr result (λ e. is_refusal e ≡ false) }
-        ensures unfit { IfErr result (λ e. (fault : CutFaultValue) → e ≡ RunFault.Cuts fault
-            → IsPlanFault options.now.cuts (length self.now.ops + 1) fault) }
-        ensures untouched { IfErr result
-            (λ e. is_write_fault e ≡ false → S.contents sink.new ≡ S.contents sink.old) }
-        ensures failed { S.has_failed sink.new ≡ is_write result }
-        ensures cut_short { IfErr result (λ e. (m : ℕ) → e ≡ RunFault.Write m
-            → Fits options.now.cuts (length self.now.ops + 1)
-            × (m < length (report_on self.now.base self.now.ops).text)
-            × Appends (S.contents sink.old) (S.contents sink.new)
-            (take m (report_on self.now.base self.now.ops).text)) }
+        ensures delivers { Delivers (Ok (report_on self.now.base self.now.ops)) result
+            (S.contents sink.old) (S.contents sink.new) (S.has_failed sink.new) }
+        ensures plan { IsByPlan options.now.cuts (Ok (report_on self.now.base self.now.ops))
+            result }
+        ensures accepted { IfErr result (λ e. is_refusal e ≡ false) }
         ensures memory { IfErr result TellsMemory }
     {
-        let cuts = cuts_of(self.alloc, options.cuts, self.sequence.len() as u32 + 1)?;
-        match self.first_sums(&cuts) {
-            Ok(sums) => self.base.report(
-                rt,
-                self.alloc,
-                gate,
-                &self.sequence,
-                options.workers,
-                &cuts,
-                &sums,
-                sink,
-            ),
-            Err(AllocError) => Err(RunFault::NoMemory),
-        }
+        let (cuts, sums) = match self.chunked(options.cuts) {
+            Ok(made) => made,
+            Err(fault) => return Err(fault),
+        };
+        self.base.facts();
+        report_from(
+            rt,
+            self.alloc,
+            gate,
+            self.base.profile(),
+            self.base.arrival(),
+            &self.sequence,
+            options.workers,
+            &cuts,
+            &sums,
+            sink,
+        )
     }
 }

@@ -1,10 +1,9 @@
 use super::{Inputs, files};
 use crate::checks::same;
+use port_call::{InputFault, PortCall, cuts_refusal};
 use prefix_scan::CutFault;
-use run_inputs::{
-    arrival, cuts_refusal, items, items_are_light, lifts, ops_are_light, orders_by, sequence, ship,
-};
 use std::test::Fail;
+use stow_messages::{StowCode, StowFault};
 
 /// A container of 20,500 kg to starboard.
 const ONE_ABOARD: &[u8] =
@@ -14,37 +13,48 @@ const ONE_ABOARD: &[u8] =
 const OUT_AND_IN: &[u8] =
     b"UNB+UNOA:2+PLAN+SHIP+250101:1200+8'UNH+1+MOVINS:D:95B:UN'HAN+DIS'LOC+147+0030782'EQD+CN+ABCU1234560'HAN+LOA'LOC+147+0050082::5'MEA+WT++KGM:4300'EQD+CN+ABCU7654321'UNT+9+1'UNZ+1+8'";
 
-// Each input by itself, for a caller who puts them together in another way than a report does.
+// What is read is at hand for a caller who makes something else of it than a report; read by one
+// thread or by several, it is the same.
 #[test]
-fn inputs_one_by_one(rt: HostRuntime) {
+fn port_call_of_inputs(rt: HostRuntime) {
     let inputs = Inputs {
         profile: files(),
         baplie: ONE_ABOARD,
         movins: OUT_AND_IN,
         steps: None,
     };
-    let Ok(profile) = ship(rt.alloc(), &inputs) else {
-        panic!(&rt; "the profile is refused")
+    for threads in 1..4 {
+        let Ok(call) = PortCall::read_beside(&rt, rt.alloc(), threads, &inputs) else {
+            panic!(&rt; "the inputs are refused")
+        };
+        same(&rt, call.case().lines(), 3);
+        let (ground, sequence) = call.into_parts();
+        let masses = ground.arrival().items().first().map(|item| item.kg.get());
+        same(&rt, masses, Some(20_500));
+        same(&rt, sequence.len(), 2);
+    }
+}
+
+// The bay plan is refused before the movement instruction, though that is read first.
+#[test]
+fn first_input_refused(rt: HostRuntime) {
+    let inputs = Inputs {
+        profile: files(),
+        baplie: b"X",
+        movins: b"Y",
+        steps: None,
     };
-    let Ok(plan) = items(rt.alloc(), inputs.baplie) else {
-        panic!(&rt; "the bay plan is refused")
+    let Err(fault) = PortCall::read(rt.alloc(), &inputs) else {
+        panic!(&rt; "the inputs are taken")
     };
-    items_are_light(&plan);
-    let masses = plan.first().map(|item| item.kg.get());
-    same(&rt, (plan.len(), masses), (1, Some(20_500)));
-    let Ok(aboard) = arrival(rt.alloc(), &profile, plan) else {
-        panic!(&rt; "the arrival is refused")
+    let StowFault { code, segment } = match fault {
+        InputFault::Baplie(fault) => fault,
+        _ => panic!(&rt; "another input is refused"),
     };
-    let moves = lifts(rt.alloc(), inputs.movins);
-    let Ok(ops) = orders_by(rt.alloc(), &inputs, moves) else {
-        panic!(&rt; "the orders are refused")
+    let StowCode::Envelope(envelope) = code else {
+        panic!(&rt; "something behind the envelope is refused")
     };
-    ops_are_light(&ops);
-    let Ok(steps) = sequence(rt.alloc(), &profile, &aboard, ops) else {
-        panic!(&rt; "the sequence is refused")
-    };
-    same(&rt, steps.len(), 2);
-    same(&rt, aboard.items().len(), 1);
+    same(&rt, (envelope.place, segment), (1, 0));
 }
 
 #[test]

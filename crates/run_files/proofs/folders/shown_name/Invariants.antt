@@ -1,5 +1,5 @@
 use Rattle.std.proofs.Common.{◌≡◌, string_bytes, map, take}
-use Rattle.run_inputs.specs.Shown.{shown}
+use Rattle.port_call.specs.Shown.{shown}
 use Rattle.run_files.proofs.folders.shown_name.Given as goal
 
 abbrev pub invariant-loop-byte : goal.invariant-loop-byte

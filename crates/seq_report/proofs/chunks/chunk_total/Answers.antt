@@ -19,8 +19,8 @@ pass_line-requires-clause-room c =
     let steps = c.args.case.sequence.now.steps in
     let start = c.args.start in
     let k = c.loop-k.k in
-    let so_far = changes_size frames steps start (k - start) (omega (arith, c.loop-k-test.true, c.requires.there, c.requires.ready.few)) in
-    omega (arith, c.loop-k-test.true, c.requires.there, c.requires.ready.few, ap size_of c.loop-k.invariant, so_far, few_bodies (slice_get steps k))
+    let so_far = changes_size frames steps start (k - start) (omega (arith, c.loop-k-test.true, c.requires.there, c.args.case.ready.few)) in
+    omega (arith, c.loop-k-test.true, c.requires.there, c.args.case.ready.few, ap size_of c.loop-k.invariant, so_far, few_bodies (slice_get steps k))
 
 pub loop-k-preserved : goal.loop-k-preserved
 loop-k-preserved c =

@@ -13,7 +13,7 @@ returns-then-k-len c =
     let steps = c.args.case.sequence.now.steps in
     let sum = c.args.sum.now in
     let at : c.args.k ≡ length c.args.case.sequence.now.ops = omega (arith, c.if-k-len.true, c.len.ensures) in
-    let none : slice_get steps c.args.k ≡ None = ap (slice_get steps) at ∙ c.requires.ready.last in
+    let none : slice_get steps c.args.k ≡ None = ap (slice_get steps) at ∙ c.args.case.ready.last in
     let room : size_of sum ≤ most_parts = omega (arith, c.requires.room) in
     sym (kept_laws.right_identity sum room)
     ∙ ap (λ (o : Option Step). both_kept sum (kept_of (changed_in frames o) (bodies_in o))) (sym none)

@@ -1,19 +1,27 @@
-use Rattle.std.proofs.Common.{◌^◌, ◌≤◌, subst, arith}
-use Rattle.std.specs.List.{AllByRecursion}
-use Rattle.stow_messages.specs.declared.items.Item.{Item}
-use Rattle.bounded_sums.specs.Laws.{IsLight}
-use Rattle.moment_sums.specs.Kept.{size_of}
-use Rattle.seq_report.proofs.CaseLemmas.{few_steps, ready}
-use Rattle.seq_report.proofs.SumLemmas.{room_behind}
+use Rattle.std.proofs.Common.{◌≡◌, ◌∙◌, ◌+◌, ◌-◌, suc, length, map, ap, sym, arith}
+use Rattle.std.specs.List.{range_with_len}
+use Rattle.port_call.specs.Views.{case_in_view}
+use Rattle.seq_report.specs.Cases.{line_in}
+use Rattle.seq_report.specs.Report.{first_of}
+use Rattle.seq_report.proofs.PassedLemmas.{first_behind}
 use Rattle.seq_report.proofs.failures.first_fail_behind.Goals as goal
 
-pub first_of_rest-requires-clause-ready : goal.first_of_rest-requires-clause-ready
-first_of_rest-requires-clause-ready c =
-    ready c.args.profile.now c.args.arrival.now c.args.sequence.now c.requires.arrived c.requires.made
-    (subst (AllByRecursion (λ (item : Item). item.kg ≤ 10 ^ 9)) c.items.ensures c.items_are_light.ensures)
-    (subst (AllByRecursion IsLight) c.ops.ensures c.ops_are_light.ensures)
+pub first_failing-requires-clause-chunk : goal.first_failing-requires-clause-chunk
+first_failing-requires-clause-chunk c =
+    record {
+      some = omega (arith, c.lines.ensures, c.requires.inside);
+      inside = omega (arith, c.lines.ensures);
+      sum = c.sum_at.ensures.sum;
+      size = c.sum_at.ensures.room;
+    }
 
-pub first_of_rest-requires-clause-room : goal.first_of_rest-requires-clause-room
-first_of_rest-requires-clause-room c =
-    let few = few_steps c.args.profile.now c.args.arrival.now c.args.sequence.now c.requires.made in
-    room_behind c.args.sequence.now.steps 0 (size_of c.args.total.now) few (omega arith) (omega (arith, c.requires.total.size))
+pub returns : goal.returns
+returns c =
+    let case = case_in_view c.args.case in
+    let n = length c.args.case.sequence.now.ops in
+    let a = c.args.start in
+    let rest = c.lines.result - a in
+    let all : a + rest ≡ suc n = omega (arith, c.lines.ensures, c.requires.inside) in
+    let here : 0 + a ≡ a = omega arith in
+    c.first_failing.ensures ∙ sym (ap (λ m. first_of (map (line_in case) (range_with_len 0 m))) (sym all)
+    ∙ (first_behind case a 0 rest (λ k low high. c.requires.passed k (omega (arith, high))) ∙ ap (λ b. first_of (map (line_in case) (range_with_len b rest))) here))

@@ -1,6 +1,7 @@
 use Rattle.std.proofs.Common.{None, Option, ℕ, subst}
 use Rattle.claim_board.specs.Claims.{IsLeastFound}
-use Rattle.seq_report.specs.Cases.{first_step_in, case_in_view}
+use Rattle.port_call.specs.Views.{case_in_view}
+use Rattle.seq_report.specs.Cases.{first_step_in}
 use Rattle.seq_report.proofs.FirstLemmas.{none_first}
 use Rattle.seq_report.proofs.failures.first_in_chunks.Goals as goal
 

@@ -1,5 +1,5 @@
 use Rattle.std.proofs.Common.{◌∙◌, ◌<◌, ◌≤◌, get_or, length, below_more, arith}
-use Rattle.seq_report.specs.Cases.{case_in_view}
+use Rattle.port_call.specs.Views.{case_in_view}
 use Rattle.seq_report.proofs.FirstLemmas.{chunk_with_first, some_chunk}
 use Rattle.seq_report.proofs.failures.first_with.Goals as goal
 

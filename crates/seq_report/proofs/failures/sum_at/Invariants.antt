@@ -1,7 +1,8 @@
 use Rattle.std.proofs.Common.{◌≡◌, ◌+◌, ◌≤◌}
 use Rattle.prefix_scan.specs.Laws.{most_parts}
 use Rattle.moment_sums.specs.Kept.{size_of, values}
-use Rattle.seq_report.specs.Cases.{case_in_view, sum_in}
+use Rattle.port_call.specs.Views.{case_in_view}
+use Rattle.seq_report.specs.Cases.{sum_in}
 use Rattle.seq_report.specs.Chunks.{parts_behind}
 use Rattle.seq_report.proofs.failures.sum_at.Given as goal
 

@@ -1,5 +1,5 @@
 use Rattle.std.proofs.Common.{◌≡◌, ◌≤◌, ◌++◌, length, map, drop}
-use Rattle.run_inputs.specs.Shown.{shown}
+use Rattle.port_call.specs.Shown.{shown}
 use Rattle.seq_report.proofs.lifts.put_name.Given as goal
 
 abbrev pub invariant-loop-left : goal.invariant-loop-left

@@ -1,29 +1,36 @@
-use Rattle.std.proofs.Common.{ap, sym, subst}
-use Rattle.std.proofs.lemmas.Result.{IfErr-weaker, IfOk-weaker}
-use Rattle.seq_report.specs.declared.complete.Summary.{Summary}
+use Rattle.std.proofs.Common.{◌≡◌, ◌∙◌, Ok, ap, subst, sym}
+use Rattle.std.specs.Prelude.{Result}
+use Rattle.port_call.specs.declared.faults.RunFault.{RunFault}
+use Rattle.port_call.specs.Refusals.{TellsMemory}
 use Rattle.seq_report.specs.Cases.{outcome_in}
-use Rattle.seq_report.specs.Plans.{Fits}
-use Rattle.seq_report.proofs.RunLemmas.{no_cut, no_refusal, tells}
+use Rattle.seq_report.specs.Delivery.{Delivers, IsByPlan}
+use Rattle.seq_report.specs.Refusal.{Outcome, outcome_if, outcome_of}
+use Rattle.seq_report.proofs.RunLemmas.{refused, unwritten}
 use Rattle.seq_report.proofs.runs.report.Goals as goal
 
-pub returns-clause-written : goal.returns-clause-written
-returns-clause-written g c =
-    IfOk-weaker c.report_prepared.result _ _ (λ summary h. (outcome_in c.in-Ok.made.case, c.in-Ok.ensures.ok, h.0, h.1)) c.report_prepared.ensures.written
+pub returns-in-Err-clause-delivers : goal.returns-in-Err-clause-delivers
+returns-in-Err-clause-delivers g c =
+    let why = refused c.args.inputs.now c.args.options.now.cuts c.in-Err.fault c.from.result c.from.ensures c.in-Err.ensures.reads.refused in
+    unwritten (outcome_of c.args.inputs.now) c.from.result (g.S.Sink.contents c.args.sink.now) (g.S.Sink.has_failed c.args.sink.now) c.requires.sound why.silent
 
-pub returns-clause-fits : goal.returns-clause-fits
-returns-clause-fits g c =
-    IfOk-weaker c.report_prepared.result _ _
-    (λ summary h. subst (Fits c.args.options.now.cuts) (ap (λ (s : Summary). s.lines) (sym h.0)) c.in-Ok.ensures.fits) c.report_prepared.ensures.written
+pub returns-in-Err-clause-plan : goal.returns-in-Err-clause-plan
+returns-in-Err-clause-plan g c =
+    (refused c.args.inputs.now c.args.options.now.cuts c.in-Err.fault c.from.result c.from.ensures c.in-Err.ensures.reads.refused).by_plan
 
-pub returns-clause-refused : goal.returns-clause-refused
-returns-clause-refused g c = IfErr-weaker c.report_prepared.result _ _ (λ e of is. absurd (no_refusal e of is)) c.report_prepared.ensures.fault
+pub returns-in-Err-clause-refused : goal.returns-in-Err-clause-refused
+returns-in-Err-clause-refused g c =
+    (refused c.args.inputs.now c.args.options.now.cuts c.in-Err.fault c.from.result c.from.ensures c.in-Err.ensures.reads.refused).refused
 
-pub returns-clause-unfit : goal.returns-clause-unfit
-returns-clause-unfit g c = IfErr-weaker c.report_prepared.result _ _ (λ e of fault is. absurd (no_cut e fault of is)) c.report_prepared.ensures.fault
+pub returns-in-Err-clause-memory : goal.returns-in-Err-clause-memory
+returns-in-Err-clause-memory g c = subst TellsMemory (sym c.from.ensures) c.in-Err.ensures.reads.memory
 
-pub returns-clause-cut_short : goal.returns-clause-cut_short
-returns-clause-cut_short g c =
-    IfErr-weaker c.report_prepared.result _ _ (λ e h m is. (outcome_in c.in-Ok.made.case, c.in-Ok.ensures.ok, c.in-Ok.ensures.fits, (h m is).0, (h m is).1)) c.report_prepared.ensures.cut_short
+pub returns-clause-delivers : goal.returns-clause-delivers
+returns-clause-delivers g c =
+    let is : outcome_of c.args.inputs.now ≡ Ok (outcome_in c.in-Ok.call) = ap outcome_if c.in-Ok.ensures.reads.read in
+    subst (λ (d : Result Outcome RunFault). Delivers d c.report_call.result (g.S.Sink.contents c.args.sink.now) (g.S.Sink.contents c.report_call.new.sink) (g.S.Sink.has_failed c.report_call.new.sink))
+    (sym is) c.report_call.ensures.delivers
 
-pub returns-clause-memory : goal.returns-clause-memory
-returns-clause-memory g c = IfErr-weaker c.report_prepared.result _ _ tells c.report_prepared.ensures.fault
+pub returns-clause-plan : goal.returns-clause-plan
+returns-clause-plan g c =
+    let is : outcome_of c.args.inputs.now ≡ Ok (outcome_in c.in-Ok.call) = ap outcome_if c.in-Ok.ensures.reads.read in
+    subst (λ (d : Result Outcome RunFault). IsByPlan c.args.options.now.cuts d c.report_call.result) (sym is) c.report_call.ensures.plan

@@ -1,12 +1,10 @@
-use Rattle.std.proofs.Common.{◌^◌, ◌≤◌, subst}
-use Rattle.std.specs.List.{AllByRecursion}
-use Rattle.stow_messages.specs.declared.items.Item.{Item}
-use Rattle.bounded_sums.specs.Laws.{IsLight}
-use Rattle.seq_report.proofs.CaseLemmas.{ready}
+use Rattle.std.proofs.Common.{Ok, subst}
+use Rattle.port_call.specs.Cases.{CaseRecord}
+use Rattle.seq_report.specs.Cases.{outcome_in}
+use Rattle.seq_report.specs.Delivery.{Delivers}
 use Rattle.seq_report.proofs.runs.report_from.Goals as goal
 
-pub report_ready-requires-clause-ready : goal.report_ready-requires-clause-ready
-report_ready-requires-clause-ready g c = λ κs lives.
-    ready c.args.profile.now c.args.arrival.now c.args.sequence.now c.requires.arrived c.requires.made
-    (subst (AllByRecursion (λ (item : Item). item.kg ≤ 10 ^ 9)) c.items.ensures c.items_are_light.ensures)
-    (subst (AllByRecursion IsLight) c.ops.ensures c.ops_are_light.ensures)
+pub returns-clause-delivers : goal.returns-clause-delivers
+returns-clause-delivers g c =
+    subst (λ (r : CaseRecord). Delivers (Ok (outcome_in r)) c.report_lines.result (g.S.Sink.contents c.args.sink.now) (g.S.Sink.contents c.report_lines.new.sink)
+    (g.S.Sink.has_failed c.report_lines.new.sink)) c.new-case.ensures c.report_lines.ensures.delivers

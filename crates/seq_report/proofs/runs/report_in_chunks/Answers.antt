@@ -1,7 +1,7 @@
 use Rattle.std.proofs.Common.{◌∙◌, map, ap}
 use Rattle.std.specs.List.{range_with_len}
 use Rattle.std.proofs.lemmas.Result.{IfOk-weaker}
-use Rattle.seq_report.specs.Cases.{case_in_view}
+use Rattle.port_call.specs.Views.{case_in_view}
 use Rattle.seq_report.proofs.ChunkLemmas.{part_at, parts_whole}
 use Rattle.seq_report.proofs.runs.report_in_chunks.Goals as goal
 

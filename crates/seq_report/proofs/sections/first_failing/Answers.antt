@@ -3,7 +3,8 @@ use Rattle.std.specs.List.{range_with_len}
 use Rattle.std.specs.Option.{option_or}
 use Rattle.moment_sums.specs.Bounded.{IsBounded}
 use Rattle.moment_sums.specs.Kept.{values}
-use Rattle.seq_report.specs.Cases.{line_in, case_in_view}
+use Rattle.port_call.specs.Views.{case_in_view}
+use Rattle.seq_report.specs.Cases.{line_in}
 use Rattle.seq_report.specs.Chunks.{change_behind}
 use Rattle.seq_report.specs.Report.{first_of, step_line}
 use Rattle.seq_report.proofs.ChunkLemmas.{first_here, or_other, or_some}
@@ -13,7 +14,7 @@ use Rattle.seq_report.proofs.sections.first_failing.Goals as goal
 pub failure_at-failure-requires-clause-bounded : goal.failure_at-failure-requires-clause-bounded
 failure_at-failure-requires-clause-bounded c =
     let case = case_in_view c.args.case in
-    let ready = c.requires.ready in
+    let ready = c.args.case.ready in
     let k = c.loop-k.k in
     subst IsBounded (sym (c.loop-k.invariant.sum ∙ sum_here case ready k)) (ready.bounded k)
 
@@ -27,7 +28,7 @@ returns-then-is_some c =
     let case = case_in_view c.args.case in
     let k = c.loop-k.k in
     let e = c.args.chunk.now.end in
-    let told = line_told case c.requires.ready k (values c.loop-k.sum) (step_line case.profile k (values c.loop-k.sum)) c.failure_at-failure.result c.loop-k.invariant.sum refl c.failure_at-failure.ensures in
+    let told = line_told case c.args.case.ready k (values c.loop-k.sum) (step_line case.profile k (values c.loop-k.sum)) c.failure_at-failure.result c.loop-k.invariant.sum refl c.failure_at-failure.ensures in
     sym (c.loop-k.invariant.first ∙ first_here case k e c.loop-k-test.true
     ∙ ap (λ o. option_or o (first_of (map (line_in case) (range_with_len (k + 1) (e - (k + 1)))))) (sym told)
     ∙ or_some c.failure_at-failure.result _ (sym c.is_some.ensures ∙ c.if-is_some.true))
@@ -35,7 +36,7 @@ returns-then-is_some c =
 pub loop-k-preserved : goal.loop-k-preserved
 loop-k-preserved c =
     let case = case_in_view c.args.case in
-    let ready = c.requires.ready in
+    let ready = c.args.case.ready in
     let k = c.loop-k.k in
     let e = c.args.chunk.now.end in
     let inv = c.loop-k.invariant in

@@ -2,7 +2,8 @@ use Rattle.std.proofs.Common.{◌≡◌, ◌+◌, ◌-◌, ◌≤◌, map}
 use Rattle.std.specs.List.{range_with_len}
 use Rattle.prefix_scan.specs.Laws.{most_parts}
 use Rattle.moment_sums.specs.Kept.{size_of, values}
-use Rattle.seq_report.specs.Cases.{line_in, case_in_view, sum_in}
+use Rattle.port_call.specs.Views.{case_in_view}
+use Rattle.seq_report.specs.Cases.{line_in, sum_in}
 use Rattle.seq_report.specs.Chunks.{parts_behind}
 use Rattle.seq_report.specs.Report.{first_of}
 use Rattle.seq_report.proofs.sections.first_failing.Given as goal

@@ -4,7 +4,8 @@ use Rattle.std.specs.Option.{option_or}
 use Rattle.std.proofs.lemmas.List.FromFn.{map-range_with_len_more}
 use Rattle.moment_sums.specs.Bounded.{IsBounded}
 use Rattle.moment_sums.specs.Kept.{values}
-use Rattle.seq_report.specs.Cases.{line_in, case_in_view}
+use Rattle.port_call.specs.Views.{case_in_view}
+use Rattle.seq_report.specs.Cases.{line_in}
 use Rattle.seq_report.specs.Chunks.{Part, change_behind, part_of}
 use Rattle.seq_report.specs.Report.{Line, Statement, failure_of, lift_to, line_of, step_line, text_of}
 use Rattle.seq_report.proofs.ChunkLemmas.{part_more}
@@ -14,7 +15,7 @@ use Rattle.seq_report.proofs.sections.make_section.Goals as goal
 pub judge-requires-clause-bounded : goal.judge-requires-clause-bounded
 judge-requires-clause-bounded c =
     let case = case_in_view c.args.case in
-    let ready = c.requires.ready in
+    let ready = c.args.case.ready in
     let k = c.loop-k.k in
     subst IsBounded (sym (c.loop-k.invariant.sum ∙ sum_here case ready k)) (ready.bounded k)
 
@@ -26,7 +27,7 @@ pass_line-requires-clause-room c =
 pub loop-k-preserved : goal.loop-k-preserved
 loop-k-preserved c =
     let case = case_in_view c.args.case in
-    let ready = c.requires.ready in
+    let ready = c.args.case.ready in
     let ops = case.sequence.ops in
     let k = c.loop-k.k in
     let start = c.args.chunk.now.start in
@@ -39,7 +40,7 @@ loop-k-preserved c =
     let line : Line = record { lift = lift_to ops k; step = s } in
     record {
       lines = c.in_ok-add.ensures
-          ∙ (λ j. record { text = c.loop-k.section.text ++ line_of (c.lift.ensures j) (c.judge.ensures j); first = option_or c.loop-k.section.first (failure_of (c.judge.ensures j)) })
+          ∙ (λ j. record { text = c.loop-k.section.text ++ line_of (c.lift_to.ensures j) (c.judge.ensures j); first = option_or c.loop-k.section.first (failure_of (c.judge.ensures j)) })
           ∙ ap (λ (p : Part). record { text = p.text ++ text_of line; first = option_or p.first (failure_of s) }) inv.lines
           ∙ part_more lines line
           ∙ ap (λ (l : Line). part_of (lines ++ l ∷ [])) (line_here case ready k (values c.loop-k.sum) inv.sum)

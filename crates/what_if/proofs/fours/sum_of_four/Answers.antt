@@ -19,7 +19,7 @@ returns-clause-value c =
     let steps = c.args.sequence.now.steps in
     let first = 4 * c.args.four in
     four_is frames steps c.args.four c.step.result c.step-2.result c.step-3.result c.step-4.result c.of_step-sum.result c.add_counted.new.sum c.add_counted-2.new.sum c.add_counted-3.new.sum
-    (omega (arith, c.requires.within, c.requires.steps))
+    (omega (arith, c.requires.within, c.facts.ensures.long))
     (step_at frames steps _ first c.step.result (omega arith) c.step.ensures) (step_at frames steps _ (suc first) c.step-2.result (omega arith) c.step-2.ensures)
     (step_at frames steps _ (suc (suc first)) c.step-3.result (omega arith) c.step-3.ensures) (step_at frames steps _ (suc (suc (suc first))) c.step-4.result (omega arith) c.step-4.ensures)
     c.of_step-sum.ensures.kept c.add_counted.ensures.value c.add_counted-2.ensures.value c.add_counted-3.ensures.value

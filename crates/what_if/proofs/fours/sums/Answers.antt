@@ -11,7 +11,7 @@ loop-four-preserved c =
     let steps = c.args.sequence.now.steps in
     let xs : List Kept = map (change_of c.args.frames.now) steps in
     let four = c.loop-four.four in
-    let long = length-map steps (change_of c.args.frames.now) ∙ c.requires.steps in
+    let long = length-map steps (change_of c.args.frames.now) ∙ c.facts.ensures.long in
     let low : four < length (fours xs) = omega (arith, length-fours xs, long, c.loop-four-test.true, c.len-number.ensures) in
     c.in_ok-push.ensures.items ∙ (λ j. c.loop-four.invariant j ++ c.sum_of_four.ensures.value j ∷ []) ∙ sym (take_more (fours xs) four none_kept low)
 
@@ -20,5 +20,5 @@ returns c =
     let steps = c.args.sequence.now.steps in
     let xs : List Kept = map (change_of c.args.frames.now) steps in
     let four = c.loop-four.four in
-    let long = length-map steps (change_of c.args.frames.now) ∙ c.requires.steps in
+    let long = length-map steps (change_of c.args.frames.now) ∙ c.facts.ensures.long in
     c.loop-four.invariant ∙ take_all four (fours xs) (omega (arith, length-fours xs, long, c.loop-four-test.false, c.len-number.ensures))

@@ -1,4 +1,4 @@
-use Rattle.std.proofs.Common.{◌≡◌, ◌≤◌, ◌∙◌, ◌++◌, List, ap, arith, length, length-append}
+use Rattle.std.proofs.Common.{rules, ◌≡◌, ◌≤◌, ◌∙◌, ◌++◌, List, ap, arith, length, length-append}
 use Rattle.stow_messages.specs.declared.items.Item.{Item}
 use Rattle.lift_sequence.specs.Arrival.{arrival_bodies, on_arrival}
 use Rattle.lift_sequence.specs.Bodies.{bodies}
@@ -19,8 +19,8 @@ returns-clause-sums c =
     ap (total f) listed ∙ arrival_sums ship items fills c.blocks-blocks.ensures.sound.tables.tables.distinct c.in_ok-stowed.ensures.legal once f
     ∙ ap (λ (given : List Item). total f (bodies ship (on_arrival given fills))) c.deref.ensures.value
 
-pub returns-clause-few : goal.returns-clause-few
-returns-clause-few c =
+pub invariant_of-result : goal.invariant_of-result
+invariant_of-result c =
     let ship = c.args.profile.now in
     let blocks = c.blocks-blocks.result.now in
     let filled = c.in_ok-filled.filled.items in
@@ -29,4 +29,7 @@ returns-clause-few c =
     let few_blocks : length blocks ≤ 200 = rw c.blocks-blocks.ensures.value c.blocks-blocks.ensures.sound.ship.blocks.few in
     let few_fills : length filled ≤ length c.args.fills.now = rw c.in_ok-filled.ensures.bodies (filter_few _ c.args.fills.now) in
     let few_items : length stowed ≤ length c.deref.result.now = rw c.in_ok-stowed.ensures.bodies (filter_few _ c.deref.result.now) in
-    omega (arith, ap length all, length-append blocks (filled ++ stowed), length-append filled stowed, few_blocks, few_fills, few_items, c.in_ok-stowed.ensures.few, c.requires)
+    record {
+      few = omega (arith, ap length all, length-append blocks (filled ++ stowed), length-append filled stowed, few_blocks, few_fills, few_items, c.in_ok-stowed.ensures.few, c.requires);
+      light = search rules;
+    }

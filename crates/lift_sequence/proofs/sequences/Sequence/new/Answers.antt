@@ -1,4 +1,4 @@
-use Rattle.std.proofs.Common.{◌≡◌, ◌∙◌, None, ap, length, subst, sym}
+use Rattle.std.proofs.Common.{rules, ◌≡◌, ◌∙◌, None, ap, length, subst, sym}
 use Rattle.lift_sequence.specs.Aboard.{cargo_in}
 use Rattle.lift_sequence.specs.Arrival.{on_arrival}
 use Rattle.lift_sequence.specs.Bodies.{steps_of}
@@ -8,9 +8,12 @@ use Rattle.lift_sequence.proofs.States.{as_many, each_step}
 use Rattle.lift_sequence.proofs.sequences.Sequence.new.Goals as goal
 
 pub invariant_of-result : goal.invariant_of-result
-invariant_of-result c =
-    ap (λ steps. length steps) c.in_ok-steps.ensures.steps ∙ as_many c.args.profile.now (cargo_in c.in-Ok.stowage) c.deref.result.now
-    ∙ ap (λ ops. length ops) c.deref.ensures.value
+invariant_of-result c = record {
+  long = ap (λ steps. length steps) c.in_ok-steps.ensures.steps ∙ as_many c.args.profile.now (cargo_in c.in-Ok.stowage) c.deref.result.now
+      ∙ ap (λ ops. length ops) c.deref.ensures.value;
+  few = search rules;
+  light = search rules;
+}
 
 pub returns-clause-each : goal.returns-clause-each
 returns-clause-each c =

@@ -1,5 +1,6 @@
 use Rattle.std.proofs.Common.{◌∙◌, ap, sym, arith}
-use Rattle.seq_report.specs.Cases.{case_in_view, sum_in}
+use Rattle.port_call.specs.Views.{case_in_view}
+use Rattle.seq_report.specs.Cases.{sum_in}
 use Rattle.seq_report.specs.Chunks.{parts_behind}
 use Rattle.seq_report.proofs.jobs.Lines.chunk.Goals as goal
 

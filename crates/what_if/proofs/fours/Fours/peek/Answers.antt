@@ -12,7 +12,7 @@ pub peek-sum-requires : goal.peek-sum-requires
 peek-sum-requires c =
     let xs : List Kept = map (change_of c.args.frames.now) c.args.sequence.now.steps in
     let is = ap (λ (f : Counted Kept). f.values) c.self.view_is ∙ c.requires.sums in
-    omega (arith, ap length is, length-fours xs, length-map c.args.sequence.now.steps (change_of c.args.frames.now), c.requires.steps, c.requires.within)
+    omega (arith, ap length is, length-fours xs, length-map c.args.sequence.now.steps (change_of c.args.frames.now), c.facts.ensures.long, c.requires.within)
 
 pub add_single-requires-clause-so_far : goal.add_single-requires-clause-so_far
 add_single-requires-clause-so_far c =
@@ -21,5 +21,5 @@ add_single-requires-clause-so_far c =
     let k = c.args.k in
     let is = ap (λ (f : Counted Kept). f.values) c.self.view_is ∙ c.requires.sums in
     c.peek-sum.ensures ∙ ap (λ (l : List Kept). prefix none_kept both_kept l (k / 4)) is
-    ∙ fours-prefix xs (k / 4) (omega (arith, length-map steps (change_of c.args.frames.now), c.requires.steps, c.requires.within))
-    (sizes_few c.args.frames.now steps (omega (arith, c.requires.steps, c.requires.few)))
+    ∙ fours-prefix xs (k / 4) (omega (arith, length-map steps (change_of c.args.frames.now), c.facts.ensures.long, c.requires.within))
+    (sizes_few c.args.frames.now steps (omega (arith, c.facts.ensures.long, c.facts.ensures.few)))

@@ -24,7 +24,7 @@ renew-requires-clause-sizes c =
     let all = of_four_sum (take four old ++ vs ++ drop (four + length vs) old)
     (of_four_append (take four old ++ vs) (drop (four + length vs) old) (of_four_append (take four old) vs (of_four_take four old old_few) room_few) (of_four_drop (four + length vs) old old_few)) in
     let long = length-with both_kept none_kept old vs four (omega (arith, c.requires.within, c.set_room.ensures.long, ap length is)) in
-    omega (arith, all, long, ap length is, c.requires.long, c.requires.few)
+    omega (arith, all, long, ap length is, c.requires.long, c.facts.ensures.few)
 
 pub returns-clause-values : goal.returns-clause-values
 returns-clause-values c =

@@ -8,4 +8,4 @@ use Rattle.what_if.proofs.fours.Fours.renewed.Goals as goal
 pub renewed-requires : goal.renewed-requires
 renewed-requires c =
     let ops = c.args.sequence.now.ops in
-    subst (λ (l : List Kept). sum_by size_of l ≤ 2 ^ 19) (sym c.in_ok-sums.ensures) (fours-weight (changes_on c.args.base.now ops) (sizes_fit c.args.base.now ops c.requires.few))
+    subst (λ (l : List Kept). sum_by size_of l ≤ 2 ^ 19) (sym c.in_ok-sums.ensures) (fours-weight (changes_on c.args.base.now ops) (sizes_fit c.args.base.now ops c.facts.ensures.few))

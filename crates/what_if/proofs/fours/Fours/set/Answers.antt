@@ -18,12 +18,15 @@ set-requires-clause-sizes c =
     let few = of_four_set c.self.inside.tree.values four v (subst AreOfFour (sym is) c.requires.small) (of_four_at (fours xs) four (of_four xs (small c.args.frames.now steps))) in
     let sum = of_four_sum (set c.self.inside.tree.values four v) few in
     subst (λ (x : Kept). sum_by size_of (set c.self.inside.tree.values four x) ≤ 2 ^ 19) (sym c.sum_of_four-sum.ensures.value)
-    (omega (arith, sum, length-set c.self.inside.tree.values four v, ap length is, c.requires.long, c.requires.few))
+    (omega (arith, sum, length-set c.self.inside.tree.values four v, ap length is, c.requires.long, c.facts.ensures.few))
 
 pub returns-clause-cost : goal.returns-clause-cost
-returns-clause-cost c = λ levels h.
-    let count = ap (λ (f : Counted Kept). f.joins) c.self.view_is in
-    let long = ap length (ap (λ (f : Counted Kept). f.values) c.self.view_is) ∙ c.requires.long in
-    let q = quarter (length c.args.sequence.now.ops) levels (omega (arith, c.if-four-len.false, c.len.ensures, long)) h in
-    let cost = c.set.ensures.few (levels - 2) (omega (arith, long, q.1)) in
-    omega (arith, cost, q.0, count, c.sum_of_four-sum.ensures.bound)
+returns-clause-cost c =
+    let count = ap (λ (f : Counted Kept). f.joins) c.self.view_is in (
+      omega (arith, count, c.set.ensures.grows, c.sum_of_four-sum.ensures.bound),
+      λ levels h.
+          let long = ap length (ap (λ (f : Counted Kept). f.values) c.self.view_is) ∙ c.requires.long in
+          let q = quarter (length c.args.sequence.now.ops) levels (omega (arith, c.if-four-len.false, c.len.ensures, long)) h in
+          let cost = c.set.ensures.few (levels - 2) (omega (arith, long, q.1)) in
+          omega (arith, cost, q.0, count, c.sum_of_four-sum.ensures.bound),
+    )

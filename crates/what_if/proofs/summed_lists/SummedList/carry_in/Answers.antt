@@ -2,40 +2,21 @@ use Rattle.std.proofs.Common.{◌≡◌, ◌⊎◌, ◌∙◌, ◌+◌, ◌-◌,
 use Rattle.std.specs.Prelude.{max}
 use Rattle.std.proofs.lemmas.List.{length-map}
 use Rattle.std.specs.Arc.{arc_value}
-use Rattle.std.specs.List.{AllByRecursion}
 use Rattle.ship_profile.specs.Record.{ProfileRecord}
 use Rattle.lift_sequence.specs.declared.operations.Op.{Op}
 use Rattle.lift_sequence.proofs.States.{as_many}
-use Rattle.bounded_sums.specs.Laws.{IsLight}
 use Rattle.prefix_scan.specs.Rows.{IsWritten}
 use Rattle.moment_sums.specs.Kept.{Kept, none_kept}
-use Rattle.what_if.specs.Bases.{Base, aboard_first, change_of}
+use Rattle.port_call.specs.Grounds.{GroundRecord, aboard_first}
+use Rattle.what_if.specs.Bases.{change_of}
 use Rattle.what_if.specs.Changes.{fours}
 use Rattle.what_if.specs.Sessions.{IsSummed, Summed}
-use Rattle.what_if.proofs.ChangeLemmas.{are_kept, are_of_four, as_many_fours, as_many_steps, few_steps}
-use Rattle.what_if.proofs.MoveLemmas.{changes_before, changes_behind, fours_renewed, length_moved, light_moved}
+use Rattle.what_if.proofs.ChangeLemmas.{are_kept, are_of_four, as_many_fours, as_many_steps}
+use Rattle.what_if.proofs.MoveLemmas.{changes_before, changes_behind, fours_renewed, length_moved}
 use Rattle.what_if.proofs.summed_lists.SummedList.carry_in.Goals as goal
 
 pub invariant_of-self : goal.invariant_of-self
 invariant_of-self c = subst (λ s. IsSummed (arc_value c.self.inside.base) s c.self.inside.sums) (sym c.if-not-shift.ensures.same) c.self.invariant
-
-pub renew-requires-clause-steps : goal.renew-requires-clause-steps
-renew-requires-clause-steps c =
-    let base = arc_value c.self.inside.base in
-    let done = c.shift.ensures.done base.ship (aboard_first base) c.self.invariant.legal c.self.invariant.steps in
-    ap (λ l. length l) done ∙ as_many base.ship (aboard_first base) c.shift.new.self.ops
-
-pub renew-requires-clause-few : goal.renew-requires-clause-few
-renew-requires-clause-few c =
-    let base = arc_value c.self.inside.base in
-    let sequence = c.self.inside.sequence in
-    let sums = c.self.inside.sums in
-    let i = c.args.from - 1 in
-    let j = c.args.to - 1 in
-    let viewed = ap (λ (v : Summed). length v.ops) c.self.view_is in
-    let long = ap (λ (l : List Op). length l) c.if-not-shift.ensures.ops
-    ∙ length_moved sequence.ops i j (omega (arith, c.requires.first.0, c.requires.last.0, viewed)) (omega (arith, c.requires.first.1, c.requires.last.1, viewed)) in
-    omega (arith, long, few_steps base sequence sums c.self.invariant)
 
 pub renew-requires-clause-long : goal.renew-requires-clause-long
 renew-requires-clause-long c =
@@ -82,7 +63,7 @@ invariant_of-self-2 c =
     let many = as_many_steps base sequence sums c.self.invariant in
     let low : i < length sequence.steps = omega (arith, c.requires.first.0, c.requires.last.0, many, viewed) in
     let high : j < length sequence.steps = omega (arith, c.requires.first.1, c.requires.last.1, many, viewed) in
-    let same : used ≡ frames = c.frames-frames.ensures.value ∙ ap (λ (p : ProfileRecord). p.ship.frames) (c.profile.ensures ∙ ap (λ (b : Base). b.ship) c.deref.ensures) in
+    let same : used ≡ frames = c.frames-frames.ensures.value ∙ ap (λ (p : ProfileRecord). p.ship.frames) (c.profile.ensures ∙ ap (λ (b : GroundRecord). b.ship) c.deref.ensures) in
     let done = c.shift.ensures.done base.ship (aboard_first base) c.self.invariant.legal c.self.invariant.steps in
     let xs : List Kept = map (change_of used) sequence.steps in
     let ys : List Kept = map (change_of used) after.steps in
@@ -102,6 +83,5 @@ invariant_of-self-2 c =
     record {
       legal = c.shift.ensures.legal base.ship (aboard_first base) c.self.invariant.legal;
       steps = done;
-      light = subst (AllByRecursion IsLight) (sym c.if-not-shift.ensures.ops) (light_moved sequence.ops i j c.self.invariant.light);
       changes = is ∙ (λ k. fours (map (change_of (same k)) (done k)));
     }

@@ -1,16 +1,15 @@
-use Rattle.std.proofs.Common.{◌≡◌, ◌∙◌, ◌+◌, ◌-◌, ◌*◌, ◌^◌, ◌≤◌, ◌<◌, List, length, map, ap, subst, sym, arith}
+use Rattle.std.proofs.Common.{◌≡◌, ◌∙◌, ◌-◌, ◌<◌, List, length, map, ap, subst, sym, arith}
 use Rattle.std.specs.Arc.{arc_value}
-use Rattle.std.specs.List.{AllByRecursion, swap}
+use Rattle.std.specs.List.{swap}
 use Rattle.std.proofs.lemmas.List.Edits.{length-swap}
 use Rattle.ship_profile.specs.Record.{ProfileRecord}
 use Rattle.lift_sequence.specs.declared.operations.Op.{Op}
-use Rattle.lift_sequence.proofs.States.{as_many}
-use Rattle.bounded_sums.specs.Laws.{IsLight}
-use Rattle.what_if.specs.Bases.{Base, aboard_first, change_of}
+use Rattle.port_call.specs.Grounds.{GroundRecord, aboard_first}
+use Rattle.what_if.specs.Bases.{change_of}
 use Rattle.what_if.specs.Sessions.{IsSummed, Summed}
-use Rattle.what_if.specs.Changes.{WereExchanged, fours}
+use Rattle.what_if.specs.Changes.{CostsUpTo, WereExchanged, fours}
 use Rattle.what_if.proofs.ChangeLemmas.{are_kept, as_many_steps, small}
-use Rattle.what_if.proofs.SwapLemmas.{light_swapped, map_swap}
+use Rattle.what_if.proofs.SwapLemmas.{map_swap}
 use Rattle.what_if.proofs.summed_lists.SummedList.exchange.Goals as goal
 
 pub invariant_of-self : goal.invariant_of-self
@@ -28,12 +27,6 @@ renew_both-requires-clause-other c =
     let same = ap (λ (v : Summed). length v.ops) c.self.view_is in
     omega (arith, c.requires.first.1, c.requires.last.1, long, same)
 
-pub renew_both-requires-clause-steps : goal.renew_both-requires-clause-steps
-renew_both-requires-clause-steps c =
-    let base = arc_value c.self.inside.base in
-    let done = c.swap.ensures.done base.ship (aboard_first base) c.self.invariant.legal c.self.invariant.steps in
-    ap (λ l. length l) done ∙ as_many base.ship (aboard_first base) c.swap.new.self.ops
-
 pub renew_both-requires-clause-exchanged : goal.renew_both-requires-clause-exchanged
 renew_both-requires-clause-exchanged c =
     let base = arc_value c.self.inside.base in
@@ -46,7 +39,7 @@ renew_both-requires-clause-exchanged c =
     let viewed = ap (λ (v : Summed). length v.ops) c.self.view_is in
     let low : i < length sequence.steps = omega (arith, c.requires.first.0, c.requires.last.0, many, viewed) in
     let high : j < length sequence.steps = omega (arith, c.requires.first.1, c.requires.last.1, many, viewed) in
-    let same : c.frames.result.now ≡ frames = c.frames.ensures.value ∙ ap (λ (p : ProfileRecord). p.ship.frames) (c.profile.ensures ∙ ap (λ (b : Base). b.ship) c.deref.ensures) in
+    let same : c.frames.result.now ≡ frames = c.frames.ensures.value ∙ ap (λ (p : ProfileRecord). p.ship.frames) (c.profile.ensures ∙ ap (λ (b : GroundRecord). b.ship) c.deref.ensures) in
     let swapped : map (change_of frames) c.swap.new.self.steps ≡ swap (map (change_of frames) sequence.steps) i j
     = ap (map (change_of frames)) c.if-not-swap.ensures.steps ∙ map_swap (change_of frames) sequence.steps i j low high in
     subst (λ f. WereExchanged i j (map (change_of f) c.swap.new.self.steps) tree.values) (sym same)
@@ -56,24 +49,17 @@ pub invariant_of-self-2 : goal.invariant_of-self-2
 invariant_of-self-2 c =
     let base = arc_value c.self.inside.base in
     let frames = base.ship.ship.frames in
-    let ops = c.self.inside.sequence.ops in
-    let i = c.args.a - 1 in
-    let j = c.args.b - 1 in
-    let viewed = ap (λ (v : Summed). length v.ops) c.self.view_is in
-    let low : i < length ops = omega (arith, c.requires.first.0, c.requires.last.0, viewed) in
-    let high : j < length ops = omega (arith, c.requires.first.1, c.requires.last.1, viewed) in
     let done = c.swap.ensures.done base.ship (aboard_first base) c.self.invariant.legal c.self.invariant.steps in
-    let same : c.frames.result.now ≡ frames = c.frames.ensures.value ∙ ap (λ (p : ProfileRecord). p.ship.frames) (c.profile.ensures ∙ ap (λ (b : Base). b.ship) c.deref.ensures) in
+    let same : c.frames.result.now ≡ frames = c.frames.ensures.value ∙ ap (λ (p : ProfileRecord). p.ship.frames) (c.profile.ensures ∙ ap (λ (b : GroundRecord). b.ship) c.deref.ensures) in
     record {
       legal = c.swap.ensures.legal base.ship (aboard_first base) c.self.invariant.legal;
       steps = done;
-      light = subst (AllByRecursion IsLight) (sym c.if-not-swap.ensures.ops) (light_swapped ops i j low high c.self.invariant.light);
       changes = c.renew_both.ensures.values ∙ (λ k. fours (map (change_of (same k)) (done k)));
     }
 
 pub returns-clause-cost : goal.returns-clause-cost
-returns-clause-cost c = λ levels h.
-    let long = ap (λ (l : List Op). length l) c.if-not-swap.ensures.ops ∙ length-swap c.self.inside.sequence.ops (c.args.a - 1) (c.args.b - 1)
-    ∙ ap (λ (v : Summed). length v.ops) c.self.view_is in
-    let cost = c.renew_both.ensures.cost levels (subst (λ n. n ≤ 2 ^ levels) (sym long) h) in
-    subst (λ (v : Summed). c.renew_both.new.sums.joins ≤ v.joins + 2 * (levels + 1)) c.self.view_is cost
+returns-clause-cost c =
+    let joins = c.renew_both.new.sums.joins in
+    let long = ap (λ (l : List Op). length l) c.if-not-swap.ensures.ops ∙ length-swap c.self.inside.sequence.ops (c.args.a - 1) (c.args.b - 1) in
+    subst (λ (v : Summed). CostsUpTo 2 (length v.ops) v.joins joins) c.self.view_is
+    (subst (λ n. CostsUpTo 2 n c.self.inside.sums.joins joins) long c.renew_both.ensures.cost)

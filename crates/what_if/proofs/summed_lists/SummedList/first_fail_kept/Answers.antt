@@ -1,7 +1,8 @@
 use Rattle.std.proofs.Common.{◌≡◌, ◌∙◌, ◌+◌, suc, length, List, ap, subst, sym, arith}
 use Rattle.std.specs.Arc.{arc_value}
 use Rattle.lift_sequence.specs.declared.operations.Op.{Op}
-use Rattle.seq_report.specs.Cases.{case_on, outcome_in, passed_before}
+use Rattle.port_call.specs.Cases.{case_on}
+use Rattle.seq_report.specs.Cases.{outcome_in, passed_before}
 use Rattle.seq_report.specs.Refusal.{Outcome}
 use Rattle.seq_report.proofs.PassedLemmas.{all_passed}
 use Rattle.what_if.specs.Bases.{Pass, report_on}

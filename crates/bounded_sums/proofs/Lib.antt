@@ -1,3 +1,0 @@
-pub mod AboardBounds
-pub mod BodyBounds
-pub mod StepBounds

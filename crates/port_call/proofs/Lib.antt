@@ -1,0 +1,6 @@
+pub mod AboardBounds
+pub mod BodyBounds
+pub mod CaseLemmas
+pub mod Digits
+pub mod StepBounds
+pub mod Totals

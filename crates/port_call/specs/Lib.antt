@@ -1,0 +1,10 @@
+pub mod Cases
+pub mod Grounds
+pub mod Inputs
+pub mod Laws
+pub mod Printed
+pub mod Readings
+pub mod Refusals
+pub mod Shown
+pub mod Sums
+pub mod Views

@@ -1,0 +1,84 @@
+ghost use Rattle.std.specs.Prelude.{◌≤◌, length, option_map};
+ghost use Rattle.port_call.specs.Inputs.{orders_in, orders_on, rows_of};
+ghost use Rattle.port_call.specs.Readings.{AreMovesRead, IsPlanRead, IsShipRead, Reads};
+ghost use Rattle.ship_profile.specs.Record.{texts_of};
+
+use crate::faults::InputFault;
+use crate::refusals::{baplie_refusal, movins_refusal, profile_refusal, steps_refusal};
+use lift_sequence::{Op, ops};
+use ship_profile::{Profile, ProfileBytes};
+use std::alloc::{AllocError, Global};
+use stow_messages::{Item, Lift, StepRow, baplie, movins, steps};
+
+/// The texts that a run reads. Without a steps file the steps are the lifts of the movement
+/// instruction, in their order.
+#[derive(Clone, Copy)]
+pub struct Inputs<'a> {
+    /// The files of the ship's profile.
+    pub profile: ProfileBytes<'a>,
+    /// The bay plan on arrival (BAPLIE).
+    pub baplie: &'a [u8],
+    /// The movement instruction (MOVINS).
+    pub movins: &'a [u8],
+    /// The planner's steps file.
+    pub steps: Option<&'a [u8]>,
+}
+
+/// The ship's profile.
+pub fn ship(alloc: Global, files: &ProfileBytes<'_>) -> Result<Profile, InputFault>
+    ensures { IsShipRead result (texts_of files.now) }
+{
+    Profile::read(alloc, files).map_err(profile_refusal)
+}
+
+/// The items of the text of a bay plan.
+pub fn items(alloc: Global, text: &[u8]) -> Result<Vec<Item>, InputFault>
+    ensures { IsPlanRead result text.now }
+{
+    baplie(alloc, text).map_err(baplie_refusal)
+}
+
+/// The lifts of the text of a movement instruction.
+pub fn lifts(alloc: Global, text: &[u8]) -> Result<Vec<Lift>, InputFault>
+    ensures { AreMovesRead result text.now }
+{
+    movins(alloc, text).map_err(movins_refusal)
+}
+
+/// The rows of the steps file, where there is one.
+fn rows(alloc: Global, text: Option<&[u8]>, lifts: u32) -> Result<Option<Vec<StepRow>>, InputFault>
+    ensures { Reads (λ rows. option_map (λ r. r.items) rows)
+        (rows_of (option_map (λ t. t.now) text.entry) lifts) result }
+{
+    let Some(text) = text else {
+        return Ok(None);
+    };
+    Ok(Some(steps(alloc, text, lifts).map_err(steps_refusal)?))
+}
+
+/// The steps that the lifts and the steps file order.
+fn orders_on(alloc: Global, inputs: &Inputs<'_>, lifts: Vec<Lift>) -> Result<Vec<Op>, InputFault>
+    requires { length lifts.items ≤ 200000 }
+    ensures { Reads (λ ops. ops.items) (orders_on inputs.now lifts.items) result }
+{
+    let rows = rows(alloc, inputs.steps, lifts.len() as u32)?;
+    match ops(alloc, lifts, rows) {
+        Ok(ops) => Ok(ops),
+        Err(AllocError) => Err(InputFault::NoMemory),
+    }
+}
+
+/// The steps that the movement instruction, as it was read, and the steps file order.
+pub fn orders_by(
+    alloc: Global,
+    inputs: &Inputs<'_>,
+    moves: Result<Vec<Lift>, InputFault>,
+) -> Result<Vec<Op>, InputFault>
+    requires { AreMovesRead moves inputs.now.movins.now }
+    ensures { Reads (λ ops. ops.items) (orders_in inputs.now) result }
+{
+    match moves {
+        Ok(lifts) => orders_on(alloc, inputs, lifts),
+        Err(fault) => Err(fault),
+    }
+}
