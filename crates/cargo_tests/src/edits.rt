@@ -1,24 +1,12 @@
 use crate::checks::same;
-use arrayvec::ArrayVec;
+use crate::lifts::{mass, short};
 use lift_sequence::{Op, SeqCode, SeqFault};
 use std::alloc::{AllocError, Global};
 use std::process::Abort;
 use std::test::Fail;
-use step_edits::{Edit, EditFault, copies, edited, fault_of, inverse, inverse_takes_back};
+use step_edits::{Edit, EditFault, copies, edit_list, fault_of, inverse, inverse_takes_back};
 use stow_messages::{Item, Lift};
-use units_core::{Cell, Kg};
-
-/// A text of at most `MOST` bytes.
-fn short<const MOST: usize>(text: &str) -> ArrayVec<u8, MOST> {
-    let mut bytes = ArrayVec::new();
-    let _ = bytes.try_extend_from_slice(text.as_bytes());
-    bytes
-}
-
-/// This mass in kg, or the greatest mass of a container.
-fn mass(kg: u32) -> Kg {
-    Kg::new(kg.min(Kg::MAX)).unwrap()
-}
+use units_core::Cell;
 
 /// The step of a code: from 1,000 on the load of a container whose mass in kg is the code, below
 /// that the filling of a tank with that mass.
@@ -164,7 +152,7 @@ fn list_after(alloc: Global, ops: &[Op], edit: &Edit) -> Result<Vec<Op>, EditFau
     if let Some(fault) = fault_of(ops, edit) {
         return Err(fault);
     }
-    match edited(alloc, ops, edit) {
+    match edit_list(alloc, ops, edit) {
         Ok(after) => Ok(after),
         Err(_) => Err(EditFault::NoMemory),
     }

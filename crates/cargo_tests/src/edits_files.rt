@@ -72,7 +72,7 @@ fn edit(alloc: Global, edit: &Edit) -> Result<String, AllocError> {
 }
 
 /// What a line prints.
-fn shown(alloc: Global, line: &EditLine) -> Result<String, AllocError> {
+fn line_text(alloc: Global, line: &EditLine) -> Result<String, AllocError> {
     match line {
         EditLine::Edit(order) => edit(alloc, order),
         EditLine::Undo => Ok(String::from_str(alloc, "taken back")?),
@@ -89,7 +89,7 @@ fn answer(alloc: Global, text: &[u8]) -> Result<String, AllocError> {
     };
     let mut answer = String::new(alloc);
     for line in &lines {
-        let one = shown(alloc, line)?;
+        let one = line_text(alloc, line)?;
         answer.push_str(one.as_str())?;
         answer.push(';')?;
     }

@@ -8,3 +8,5 @@ mod orders;
 mod reweighing;
 mod sequences;
 mod ships;
+
+pub(crate) use orders::{mass, short};

@@ -69,7 +69,7 @@ fn at_stage(entry: Entry, stage: Stage) -> Entry
 }
 
 /// The outcome of a draw.
-fn drawing(next: u32, least: Option<u32>) -> Outcome
+fn draw_outcome(next: u32, least: Option<u32>) -> Outcome
     requires { next < 2 ^ 32 - 1 }
     ensures { result ≡ draws_next next least }
 {
@@ -87,7 +87,7 @@ fn drawing(next: u32, least: Option<u32>) -> Outcome
 }
 
 /// The outcome of any other event, by what becomes of the newest entry.
-fn keeping(newest: Entry, status: Status, next: u32, least: Option<u32>) -> Outcome
+fn entry_outcome(newest: Entry, status: Status, next: u32, least: Option<u32>) -> Outcome
     ensures { result ≡ becomes newest status next least }
 {
     Outcome {
@@ -105,14 +105,14 @@ fn first_outcome(event: Event, next: u32, least: Option<u32>) -> Option<Outcome>
     ensures { (s : State) → s.next ≡ next → s.least ≡ least → result ≡ outcome_of s event None }
 {
     match event {
-        Event::Draw(_) => Some(drawing(next, least)),
+        Event::Draw(_) => Some(draw_outcome(next, least)),
         Event::Refuse(_) => {
             let none = Entry {
                 number: next,
                 looked: None,
                 stage: Stage::Drawn,
             };
-            Some(keeping(none, Status::Refused, next, least))
+            Some(entry_outcome(none, Status::Refused, next, least))
         }
         _ => None,
     }
@@ -141,9 +141,9 @@ pub fn outcome(
     };
     let begin = begin_of(begins, entry.number);
     let before = saw_before(begin, entry.looked);
-    let runs_with = |newest: Entry| Some(keeping(newest, Status::Runs, next, least));
+    let runs_with = |newest: Entry| Some(entry_outcome(newest, Status::Runs, next, least));
     match (event, entry.stage) {
-        (Event::Draw(_), stage) if is_end(stage) => Some(drawing(next, least)),
+        (Event::Draw(_), stage) if is_end(stage) => Some(draw_outcome(next, least)),
         (Event::Look(_), Stage::Drawn) if (entry.number as usize) < begins.len() => runs_with(seen),
         (Event::Skip(_), Stage::Looked) if before => runs_with(at_stage(entry, Stage::Skipped)),
         (Event::Work(_), Stage::Looked) if !before => {
@@ -151,12 +151,12 @@ pub fn outcome(
         }
         (Event::Post(_), Stage::Worked(Some(step))) => {
             let posted = at_stage(entry, Stage::Posted(step));
-            Some(keeping(posted, Status::Runs, next, least_with(least, step)))
+            Some(entry_outcome(posted, Status::Runs, next, least_with(least, step)))
         }
         (Event::Stop(_), Stage::Drawn) if (entry.number as usize) >= begins.len() => {
-            Some(keeping(entry, Status::Stopped, next, least))
+            Some(entry_outcome(entry, Status::Stopped, next, least))
         }
-        (Event::Refuse(_), _) => Some(keeping(entry, Status::Refused, next, least)),
+        (Event::Refuse(_), _) => Some(entry_outcome(entry, Status::Refused, next, least)),
         _ => None,
     }
 }

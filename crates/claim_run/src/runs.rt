@@ -9,7 +9,7 @@ ghost use Rattle.claim_run.specs.Slots.{IsRight, is_there};
 use crate::jobs::{Job, NoValues};
 use crate::scouts::{FindsNothing, Gate, Scout};
 use crate::shared_board::{Hand, SharedBoard};
-use crate::slots::{empty_slots, place, unwrapped};
+use crate::slots::{empty_slots, place, values_in_slots};
 use crate::threads::run_threads;
 use crate::work::WorkDone;
 use crate::workers::Workers;
@@ -77,7 +77,7 @@ fn run_both<S: Scout, J: Job, G: Gate, R: Threads + Wait + Sync>(
     let mut slots = empty_slots(alloc, pieces)?;
     let hand = gather(&board, job, &mut slots, given)?;
     let (_next, least) = board.close(hand);
-    Ok((unwrapped(job, alloc, slots)?, least))
+    Ok((values_in_slots(job, alloc, slots)?, least))
 }
 
 /// The values of the pieces 0, 1, .. below `pieces`, in order: those that one thread would give. It

@@ -38,7 +38,7 @@ pub fn place<J: Job>(_job: &J, slots: &mut Vec<Option<J::Out>>, mut values: Vec<
 }
 
 /// The values in the slots, in order, of which none is empty.
-pub fn unwrapped<J: Job>(
+pub fn values_in_slots<J: Job>(
     _job: &J,
     alloc: Global,
     slots: Vec<Option<J::Out>>,

@@ -9,7 +9,7 @@ use std::rt::Env;
 const ROOM: usize = 256;
 
 /// A byte of a word that isn't UTF-8: one beyond ASCII becomes NUL, which is in no name of a file.
-fn masked(byte: u8) -> u8
+fn mask(byte: u8) -> u8
     ensures { result ≡ masked byte }
 {
     if byte.is_ascii() { byte } else { 0 }
@@ -21,7 +21,7 @@ fn masked_text(alloc: Global, bytes: &[u8]) -> Result<String, AllocError>
 {
     let mut text = String::new(alloc);
     for byte in bytes {
-        text.push(char::from(masked(*byte)))?;
+        text.push(char::from(mask(*byte)))?;
     }
     Ok(text)
 }

@@ -161,7 +161,7 @@ fn command<'a>(alloc: Global, name: &'a str, about: &'a str) -> Command<'a>
 }
 
 /// The name and the meaning of the command that asks for this.
-fn named<'a>(alloc: Global, task: Task) -> Command<'a>
+fn bare_command<'a>(alloc: Global, task: Task) -> Command<'a>
     ensures app { app_of result ≡ bare task }
     ensures args { args_of result ≡ [] }
     ensures groups { groups_of result ≡ [] }
@@ -179,7 +179,7 @@ fn named<'a>(alloc: Global, task: Task) -> Command<'a>
 fn with_words<'a>(alloc: Global, task: Task) -> Result<Command<'a>, AllocError>
     ensures { IfOk result (TakesRules (bare task) plain_words) }
 {
-    named(alloc, task)
+    bare_command(alloc, task)
         .arg(word(alloc, "FOLDER", ABOUT_FOLDER))?
         .arg(word(alloc, "BAPLIE", ABOUT_BAPLIE))?
         .arg(word(alloc, "MOVINS", ABOUT_MOVINS))
@@ -239,7 +239,7 @@ fn no_command(alloc: Global) -> LineFault {
 }
 
 /// The usage error that `clap` gives.
-fn refused(alloc: Global, error: &clap::Error) -> LineFault
+fn usage_fault(alloc: Global, error: &clap::Error) -> LineFault
     ensures { IsUsage result → kind_of error.now ≢ ErrorKind.OutOfMemory }
 {
     if error.kind() == ErrorKind::OutOfMemory {
@@ -270,7 +270,7 @@ fn line_for<'a>(alloc: Global, task: Task, words: &'a [&'a str]) -> Result<Line<
 {
     let matches = match matches_for(alloc, task, words) {
         Ok(matches) => matches,
-        Err(error) => return Err(refused(alloc, &error)),
+        Err(error) => return Err(usage_fault(alloc, &error)),
     };
     let folder = matches.get_str("FOLDER").unwrap();
     let baplie = matches.get_str("BAPLIE").unwrap();

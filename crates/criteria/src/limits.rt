@@ -10,7 +10,7 @@ ghost use Rattle.std.specs.Prelude.{Some};
 
 use moment_sums::Totals;
 use ship_profile::Profile;
-use ship_tables::{Curves, curve_gap, displaced};
+use ship_tables::{Curves, curve_gap, curve_reading};
 use units_core::{Frac, enclosing_near};
 
 /// The least metacentric height at a displacement in the interval `i`.
@@ -21,7 +21,7 @@ fn least_in(curves: &Curves, kg: i128, i: usize) -> Frac
     ensures size { IsLeast (Some result) }
 {
     Frac {
-        num: displaced(curves, 0, i, kg),
+        num: curve_reading(curves, 0, i, kg),
         den: curve_gap(curves, i),
     }
 }

@@ -49,7 +49,7 @@ chosen true v n e = refl
 chosen false v n e = cc e
 
 -- a text of digits alone is its number
-pub natural-number : (text : List ℕ) (n : ℕ) → natural_in text ≡ Some n → number_in text ≡ Some (pos n)
+pub natural-number : (text : List ℕ) (n : ℕ) → natural_in 18 text ≡ Some n → number_in text ≡ Some (pos n)
 natural-number [] n e = cc e
 natural-number (c ∷ cs) n e =
     let test = chosen _ (digits_value 10 (c ∷ cs)) n e in

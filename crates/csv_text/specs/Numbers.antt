@@ -21,18 +21,18 @@ abbrev pub before_spaces : List ℕ → List ℕ
 before_spaces [] = []
 before_spaces (c ∷ cs) = unless_last_space c (before_spaces cs)
 
--- the number that 1 to 18 digits write
-abbrev pub natural_in : List ℕ → Option ℕ
-natural_in ds =
-    if (nat_le 1 (length ds) && nat_le (length ds) 18)
+-- the number that digits write, of which there are at least 1 and at most so many
+abbrev pub natural_in : ℕ → List ℕ → Option ℕ
+natural_in most ds =
+    if (nat_le 1 (length ds) && nat_le (length ds) most)
     && list_all is_ascii_digit ds then Some (digits_value 10 ds) else None
 
 -- the number that a minus or none, and digits write
 abbrev pub signed_in : List ℕ → Option ℤ
 signed_in [] = None
 signed_in (c ∷ cs) =
-    if c == 45 then option_map (λ n. neg_ℤ (pos n)) (natural_in cs)
-    else option_map (λ n. pos n) (natural_in (c ∷ cs))
+    if c == 45 then option_map (λ n. neg_ℤ (pos n)) (natural_in 18 cs)
+    else option_map (λ n. pos n) (natural_in 18 (c ∷ cs))
 
 -- the number of a field
 abbrev pub number_in : List ℕ → Option ℤ

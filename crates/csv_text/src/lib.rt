@@ -9,12 +9,12 @@
 //! record ends by CR, LF or both, a line without a byte is no record, and a byte order mark before
 //! the text is dropped (RFC 4180, read as leniently as the kit's `csv` does).
 //!
-//! [`text_at`] is a field's text, and [`number`] the one reading of a number in it. The definitions
-//! are `Reading` and `Numbers` of `specs/`.
+//! [`text_at`] is a field's text, and [`number`] the one reading of a number in it; [`natural`]
+//! reads digits alone. The definitions are `Reading` and `Numbers` of `specs/`.
 #![tactic(auto)]
 
 mod numbers;
 mod records;
 
-pub use numbers::number;
+pub use numbers::{natural, number};
 pub use records::{next_record, open_records, text_at};

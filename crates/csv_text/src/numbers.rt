@@ -1,7 +1,7 @@
-ghost use Rattle.std.specs.Prelude.{◌≡◌, ◌<◌, ◌^◌, IfSome};
+ghost use Rattle.std.specs.Prelude.{◌≡◌, ◌<◌, ◌≤◌, ◌^◌, IfSome};
 ghost use Rattle.csv_text.specs.Numbers.{after_spaces, before_spaces, natural_in, number_in};
 
-/// The greatest number of digits.
+/// The greatest number of digits, which 64 bits hold with a sign.
 const MAX_DIGITS: usize = 18;
 
 /// The text without the spaces that it begins with.
@@ -29,12 +29,14 @@ fn trim_end(text: &[u8]) -> &[u8]
     rest
 }
 
-/// The number that 1 to 18 digits write.
-fn natural(digits: &[u8]) -> Option<u64>
-    ensures value { result ≡ natural_in digits.now }
+/// The number that digits alone write; `None` where there are none of them or more than `most`,
+/// which is at most 18.
+pub fn natural(digits: &[u8], most: usize) -> Option<u64>
+    requires { most ≤ 18 }
+    ensures value { result ≡ natural_in most digits.now }
     ensures small { IfSome result (λ n. n < 10 ^ 18) }
 {
-    if digits.is_empty() || digits.len() > MAX_DIGITS {
+    if digits.is_empty() || digits.len() > most {
         return None;
     }
     let mut value: u64 = 0;
@@ -48,15 +50,15 @@ fn natural(digits: &[u8]) -> Option<u64>
 }
 
 /// The number of any field.
-fn signed(text: &[u8]) -> Option<i64>
+fn signed_number(text: &[u8]) -> Option<i64>
     ensures { result ≡ number_in text.now }
 {
     match trim_end(trim_start(text)) {
-        [b'-', digits @ ..] => match natural(digits) {
+        [b'-', digits @ ..] => match natural(digits, MAX_DIGITS) {
             Some(size) => Some(-(size as i64)),
             None => None,
         },
-        digits => match natural(digits) {
+        digits => match natural(digits, MAX_DIGITS) {
             Some(size) => Some(size as i64),
             None => None,
         },
@@ -69,8 +71,8 @@ pub fn number(text: &[u8]) -> Option<i64>
     ensures { result ≡ number_in text.now }
 {
     // Most fields are digits alone.
-    match natural(text) {
+    match natural(text, MAX_DIGITS) {
         Some(size) => Some(size as i64),
-        None => signed(text),
+        None => signed_number(text),
     }
 }

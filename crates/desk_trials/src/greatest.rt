@@ -43,7 +43,7 @@ fn movement_instruction(alloc: Global) -> Result<Vec<u8>, AllocError> {
 }
 
 /// What it orders, step by step.
-fn ordered(alloc: Global) -> Result<Vec<Op>, AllocError> {
+fn list_of_moves(alloc: Global) -> Result<Vec<Op>, AllocError> {
     let mut list = Vec::new(alloc);
     for _ in 0..TURNS {
         list.push(load(AMIDSHIPS, 20_500))?;
@@ -140,7 +140,7 @@ pub fn try_greatest<R: AllocGlobal + Threads + Wait + Sync, W: Write>(
     let Ok(text) = movement_instruction(rt.alloc()) else {
         return Err(Missing("greatest list: no memory for its text"));
     };
-    let Ok(list) = ordered(rt.alloc()) else {
+    let Ok(list) = list_of_moves(rt.alloc()) else {
         return Err(Missing("greatest list: no memory for its steps"));
     };
     let Ok(session) = Session::read(rt.alloc(), &inputs(&text)) else {

@@ -56,7 +56,7 @@ fn is_bad_service(service: Service) -> bool
 
 /// What UNA sets, from the bytes behind its three letters, and the bytes behind it.
 #[tactic(auto, unfolding(crate::specs::Characters::serves))]
-fn advised(len: usize, place: usize, bytes: &[u8]) -> Result<(Service, &[u8]), EdiFault>
+fn take_advice(len: usize, place: usize, bytes: &[u8]) -> Result<(Service, &[u8]), EdiFault>
     ensures less { IfOk result (λ p. length p.1.now ≤ length bytes.now) }
     ensures fit { IfOk result (λ p. serves p.0 ≡ true) }
     ensures value { Gives (λ p. record { service = p.0; bytes = p.1.now }) result
@@ -98,7 +98,7 @@ pub(crate) fn start_of(len: usize, place: usize, bytes: &[u8]) -> Result<(Servic
     match bytes {
         [a, b, c, rest @ ..] => {
             if *a == b'U' && *b == b'N' && *c == b'A' {
-                advised(len, place, rest)
+                take_advice(len, place, rest)
             } else {
                 Ok((default_service(), bytes))
             }

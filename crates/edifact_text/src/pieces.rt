@@ -191,7 +191,7 @@ fn end_behind(bytes: &[u8], release: Option<u8>, separator: u8) -> Option<usize>
 /// The bytes before this end, and those behind the separator that is there; all of them where there
 /// is none.
 #[inline(always)]
-fn parted(
+fn split_at_end(
     bytes: &[u8],
     release: Option<u8>,
     separator: u8,
@@ -227,7 +227,7 @@ pub(crate) fn cut(bytes: &[u8], release: Option<u8>, separator: u8) -> (&[u8], O
     ensures len { IfSome result.1
         (λ rest. length result.0.now + 1 + length rest.now ≡ length bytes.now) }
 {
-    parted(
+    split_at_end(
         bytes,
         release,
         separator,
@@ -245,7 +245,7 @@ pub(crate) fn far_cut(bytes: &[u8], release: Option<u8>, separator: u8) -> (&[u8
     ensures len { IfSome result.1
         (λ rest. length result.0.now + 1 + length rest.now ≡ length bytes.now) }
 {
-    parted(
+    split_at_end(
         bytes,
         release,
         separator,

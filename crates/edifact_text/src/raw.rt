@@ -100,7 +100,7 @@ impl<'a> Raw<'a> {
     /// The literal, unchanged from the text, where no byte of it is released. Nothing is copied.
     #[inline(always)]
     #[tactic(auto, unfolding(crate::specs::Views::meaning_of))]
-    pub fn unreleased(self) -> Option<&'a [u8]>
+    pub fn without_release(self) -> Option<&'a [u8]>
         ensures { IfSome result (λ text. meaning_of self.entry ≡ text.now) }
     {
         for (at, byte) in self.bytes.iter().enumerate() {
@@ -122,17 +122,17 @@ impl<'a> Raw<'a> {
         ensures literal { IsTrue result → out.new.items ≡ meaning_of self.entry }
         ensures empty { ¬ IsTrue result → out.new.items ≡ [] }
     {
-        if let Some(text) = self.unreleased() {
+        if let Some(text) = self.without_release() {
             out.clear();
             return out.try_extend_from_slice(text).is_ok();
         }
-        self.spelt_into(out)
+        self.spell_into(out)
     }
 
     /// Writes the literal to `out` as `literal_into` does, byte by byte.
     #[cold]
     #[inline(never)]
-    fn spelt_into<const MOST: usize>(self, out: &mut ArrayVec<u8, MOST>) -> bool
+    fn spell_into<const MOST: usize>(self, out: &mut ArrayVec<u8, MOST>) -> bool
         ensures fits { IsTrue result ↔ (length (meaning_of self.entry) ≤ MOST) }
         ensures literal { IsTrue result → out.new.items ≡ meaning_of self.entry }
         ensures empty { ¬ IsTrue result → out.new.items ≡ [] }

@@ -1,12 +1,11 @@
 -- The lines of a text and the words of a line, and what a word says: a number, an identification, a
 -- name.
-use Rattle.std.specs.Prelude.{ℕ, List, [], ◌∷◌, ◌==◌, ◌&&◌, if◌then◌else◌, nat_le, length, codes}
+use Rattle.std.specs.Prelude.{ℕ, List, [], ◌∷◌, ◌==◌, if◌then◌else◌, nat_le, codes}
 use Rattle.std.specs.Prelude.{Option, Some, None}
-use Rattle.std.specs.List.{list_all, slice_split, onto_first}
-use Rattle.std.specs.Char.{is_ascii_digit}
+use Rattle.std.specs.List.{slice_split, onto_first}
 use Rattle.std.specs.Str.{bytes_eq}
-use Rattle.std.specs.Str.Parse.{digits_value}
 use Rattle.arrayvec.specs.ArrayVec.{ArrayVec}
+use Rattle.csv_text.specs.Numbers.{natural_in}
 use Rattle.stow_messages.specs.Steps.{text_of}
 
 -- The lines of a text: each ends with LF (code 10), and the last may also end with the text.
@@ -18,19 +17,14 @@ lines_in (c ∷ cs) = if c == 10 then [] ∷ lines_in cs else onto_first c (line
 abbrev pub words_in : List ℕ → List (List ℕ)
 words_in line = slice_split (λ c. c == 32) line
 
--- the number that 1 to 10 digits write
-abbrev pub natural_in : List ℕ → Option ℕ
-natural_in word =
-    if (nat_le 1 (length word) && nat_le (length word) 10)
-    && list_all is_ascii_digit word then Some (digits_value 10 word) else None
-
 -- the number of a word, where it isn't above the greatest
 abbrev pub up_to : ℕ → Option ℕ → Option ℕ
 up_to most None = None
 up_to most (Some n) = if nat_le n most then Some n else None
 
+-- 1 to 10 digits
 abbrev pub number_in : ℕ → List ℕ → Option ℕ
-number_in most word = up_to most (natural_in word)
+number_in most word = up_to most (natural_in 10 word)
 
 -- the number of a step, or the mass of a tank's filling in kg; and the gross mass of a container in
 -- kg

@@ -1,11 +1,12 @@
-ghost use Rattle.std.specs.Prelude.{◌≡◌, ◌<◌, ◌^◌, ◌==◌, ◌++◌, ◌∷◌, false, length, map, All};
-ghost use Rattle.std.specs.Prelude.{IfSome, MatchOption};
+ghost use Rattle.std.specs.Prelude.{◌≡◌, ◌<◌, ◌==◌, ◌++◌, ◌∷◌, false, length, map, All};
+ghost use Rattle.std.specs.Prelude.{MatchOption};
 ghost use Rattle.std.specs.Str.{bytes_eq};
 ghost use Rattle.stow_messages.specs.Steps.{text_of};
-ghost use Rattle.edits_file.specs.Words.{natural_in, number_in, step_in, mass_in, id_in, name_in};
+ghost use Rattle.edits_file.specs.Words.{number_in, step_in, mass_in, id_in, name_in};
 ghost use Rattle.edits_file.specs.Words.{words_in};
 
 use arrayvec::ArrayVec;
+use csv_text::natural;
 use units_core::Kg;
 
 /// The greatest number of words of a line.
@@ -50,29 +51,11 @@ pub fn words_of(line: &[u8]) -> Option<ArrayVec<&[u8], MOST_WORDS>>
     None
 }
 
-/// The number that 1 to 10 digits write.
-fn natural(digits: &[u8]) -> Option<u64>
-    ensures value { result ≡ natural_in digits.now }
-    ensures small { IfSome result (λ n. n < 10 ^ 10) }
-{
-    if digits.is_empty() || digits.len() > MOST_DIGITS {
-        return None;
-    }
-    let mut value: u64 = 0;
-    for digit in digits {
-        if !digit.is_ascii_digit() {
-            return None;
-        }
-        value = value * 10 + u64::from(*digit - b'0');
-    }
-    Some(value)
-}
-
 /// The number that a word writes, up to the greatest.
 fn number(most: u32, word: &[u8]) -> Option<u32>
     ensures { result ≡ number_in most word.now }
 {
-    let value = natural(word)?;
+    let value = natural(word, MOST_DIGITS)?;
     if value <= u64::from(most) {
         Some(value as u32)
     } else {

@@ -134,7 +134,7 @@ fn is_near(guess: i64, number: i64, divisor: i64, most: i64) -> bool
 
 /// The numbers of 64 bits, with the line in parts: it is guessed in floating point and then tested.
 /// `None` where the divisor is too small, a number in parts too great, or a guess too far off.
-fn fitted(shift: u32, base: i64, step: i64, divisor: i64) -> Option<Leading>
+fn fit(shift: u32, base: i64, step: i64, divisor: i64) -> Option<Leading>
     ensures shift { IfSome result (λ l. l.shift ≡ shift) }
     ensures base { IfSome result (λ l. l.base ≡ base) }
     ensures step { IfSome result (λ l. l.step ≡ step) }
@@ -199,7 +199,7 @@ fn line_of(shift: u32, base: i64, step: i64, divisor: i64) -> Leading
     ensures step { result.step ≡ step }
     ensures divisor { result.divisor ≡ divisor }
 {
-    match fitted(shift, base, step, divisor) {
+    match fit(shift, base, step, divisor) {
         Some(leading) => leading,
         None => in_units_alone(shift, base, step, divisor),
     }
@@ -329,7 +329,7 @@ impl DraughtLine {
     /// The draught in mm at `x`, rounded down, as [`DraughtLine::draught_down`] gives it, where 64
     /// bits decide it.
     #[inline(always)]
-    pub fn decided(&self, x: Mm) -> Option<i64>
+    pub fn quick_draught(&self, x: Mm) -> Option<i64>
         ensures { IfSome result (λ q. q
             ≡ floor_of (draught_at (water self.now.of) (load self.now.of) self.now.of.lbp x)) }
     {
@@ -341,7 +341,7 @@ impl DraughtLine {
 
     /// The draught in mm at `x`, rounded down, as [`DraughtLine::draught_down`] gives it, where a
     /// line in parts of a millimetre leaves no doubt. It takes one product: it is for many places
-    /// one after another, where [`DraughtLine::decided`] takes two and a guess.
+    /// one after another, where [`DraughtLine::quick_draught`] takes two and a guess.
     #[inline(always)]
     pub fn read_in_parts(&self, x: Mm) -> Option<i64>
         ensures { IfSome result (λ q. q
@@ -355,7 +355,7 @@ impl DraughtLine {
 
     /// The draught in mm at `x`, rounded down, as [`DraughtLine::draught_down`] gives it, where 64
     /// bits decide it: as [`DraughtLine::read_in_parts`] does where the line is known in parts of a
-    /// millimetre, and where it isn't, as a steep one, as [`DraughtLine::decided`] does.
+    /// millimetre, and where it isn't, as a steep one, as [`DraughtLine::quick_draught`] does.
     #[inline(always)]
     pub fn read(&self, x: Mm) -> Option<i64>
         ensures { IfSome result (λ q. q
@@ -364,7 +364,7 @@ impl DraughtLine {
         if self.leading.is_known {
             self.read_in_parts(x)
         } else {
-            self.decided(x)
+            self.quick_draught(x)
         }
     }
 

@@ -50,7 +50,7 @@ fn rest_of(top: i64, quotient: i64, divisor: i64) -> i64
 
 /// A number up to a million.
 #[inline(always)]
-fn signed(n: u64) -> i64
+fn to_signed(n: u64) -> i64
     requires { n ≤ 10 ^ 6 }
     ensures { unsigned_abs result ≤ 10 ^ 6 }
 {
@@ -82,7 +82,7 @@ pub fn quotient_in_units(base: i64, step: i64, divisor: i64, reciprocal: u64, x:
     if quotient > 1_000_000 {
         return None;
     }
-    let draught = signed(quotient);
+    let draught = to_signed(quotient);
     if is_sure(rest_of(top, draught, divisor), divisor) {
         return Some(draught);
     }

@@ -14,6 +14,7 @@ use Rattle.lift_sequence.specs.declared.faults.SeqFault.{SeqFault}
 use Rattle.lift_sequence.specs.Aboard.{Aboard, nothing, with_item, with_tank}
 use Rattle.lift_sequence.specs.Bodies.{bodies, fill_body, item_body}
 use Rattle.lift_sequence.specs.Legal.{stand_fault, over_fault}
+use Rattle.lift_sequence.specs.Limits.{most_bodies}
 use Rattle.units_core.specs.Totals.{total}
 
 -- what is aboard once the items are in their cells, and the tanks are filled
@@ -86,7 +87,7 @@ AreLight items = AllByRecursion (λ item. item.kg ≤ 10 ^ 9) items
 
 -- what every arrival keeps: not too many bodies, and no container too heavy for a sum
 pub record IsStowed (arrival : ArrivalRecord) : Type 0 where
-  pub few : length arrival.bodies ≤ 30400
+  pub few : length arrival.bodies ≤ most_bodies
   pub light : AreLight arrival.items
 
 -- what is aboard on it

@@ -1,6 +1,6 @@
 -- The answers of an arrival and of a sequence: nothing is wrong, or the first item, fill or step
 -- that is impossible has this fault. Items, fills and steps are numbered from 1.
-use Rattle.std.specs.Prelude.{◌≡◌, ◌⊎◌, ℕ, zero, suc, ◌<◌, ◌≤◌, List, length, take, slice_get}
+use Rattle.std.specs.Prelude.{◌≡◌, ◌⊎◌, ℕ, zero, suc, ◌+◌, ◌<◌, ◌≤◌, List, length, take, slice_get}
 use Rattle.std.specs.Prelude.{Option, None, Some}
 use Rattle.std.specs.Option.{option_and_then}
 use Rattle.stow_messages.specs.declared.items.Item.{Item}
@@ -14,6 +14,7 @@ use Rattle.lift_sequence.specs.Aboard.{Aboard, after_all, nothing}
 use Rattle.lift_sequence.specs.Arrival.{with_items}
 use Rattle.lift_sequence.specs.Bodies.{fill_body}
 use Rattle.lift_sequence.specs.Legal.{fault_of, over_fault, stand_fault}
+use Rattle.lift_sequence.specs.Limits.{most_steps}
 
 -- what is wrong with an item where those before it are in their cells, with a fill of a tank, and
 -- with a step after those before it
@@ -57,11 +58,11 @@ IsArrivalFault ship items fills f =
 
 -- a sequence in which nothing is wrong
 pub record IsLegalSequence (ship : ProfileRecord) (at : Aboard) (ops : List Op) : Type 0 where
-  pub few : length ops ≤ 120000
+  pub few : length ops ≤ most_steps
   pub steps : AreLegal (fault_of_step ship at) ops
 
 -- its fault: that it has too many steps, or else that of the first step that can't be done
 abbrev pub IsSequenceFault : ProfileRecord → Aboard → List Op → SeqFault → Type 0
 IsSequenceFault ship at ops f =
-    ((120000 < length ops) × (f ≡ record { code = TooManySteps; at = 120001 }))
-    ⊎ ((length ops ≤ 120000) × IsFirst (fault_of_step ship at) ops f)
+    ((most_steps < length ops) × (f ≡ record { code = TooManySteps; at = most_steps + 1 }))
+    ⊎ ((length ops ≤ most_steps) × IsFirst (fault_of_step ship at) ops f)

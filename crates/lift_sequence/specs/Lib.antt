@@ -5,6 +5,7 @@ pub mod Faults
 pub mod Follow
 pub mod Independent
 pub mod Legal
+pub mod Limits
 pub mod Places
 pub mod Printed
 pub mod Rivals

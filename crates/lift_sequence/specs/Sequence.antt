@@ -20,6 +20,7 @@ use Rattle.lift_sequence.specs.Aboard.{Aboard, after_all, after_step}
 use Rattle.lift_sequence.specs.Arrival.{ArrivalRecord, arrival_fault, arrival_bodies, fault_at}
 use Rattle.lift_sequence.specs.Bodies.{bodies, step_of}
 use Rattle.lift_sequence.specs.Legal.{fault_of}
+use Rattle.lift_sequence.specs.Limits.{most_steps}
 use Rattle.units_core.specs.Steps.{change}
 use Rattle.units_core.specs.Totals.{total}
 
@@ -46,10 +47,10 @@ first_fault ship at number (op ∷ more) =
     option_or (option_map (fault_at number) (fault_of ship at op))
     (first_fault ship (after_step ship at op) (number + 1) more)
 
--- a sequence has at most 120,000 steps
+-- that it has too many steps, or the first step that can't be done
 abbrev pub sequence_fault : ProfileRecord → Aboard → List operation.Op → Option SeqFault
 sequence_fault ship at ops =
-    if nat_lt 120000 (length ops) then Some (fault_at 120001 TooManySteps)
+    if nat_lt most_steps (length ops) then Some (fault_at (most_steps + 1) TooManySteps)
     else first_fault ship at 1 ops
 
 -- Each step does what it does to what is aboard after the steps before it.
@@ -79,7 +80,7 @@ IsLight op = ⊤
 -- heavy for a sum
 pub record AreKept (ops : List operation.Op) (steps : List Step) : Type 0 where
   pub long : length steps ≡ length ops
-  pub few : length ops ≤ 120000
+  pub few : length ops ≤ most_steps
   pub light : AllByRecursion IsLight ops
 
 -- the arrival was made with this profile, which keeps what every profile keeps

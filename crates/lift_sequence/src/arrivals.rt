@@ -141,7 +141,7 @@ fn fill_bodies(alloc: Global, profile: &Profile, fills: &[TankFill]) -> Result<V
 }
 
 /// Three lists of bodies, one behind another.
-fn joined(
+fn join_bodies(
     alloc: Global,
     first: &[Body],
     second: &[Body],
@@ -192,7 +192,7 @@ impl Arrival {
         let blocks = profile.blocks();
         let stowed = item_bodies(alloc, profile, &items)?;
         let filled = fill_bodies(alloc, profile, fills)?;
-        let Ok(bodies) = joined(alloc, blocks, &filled, &stowed) else {
+        let Ok(bodies) = join_bodies(alloc, blocks, &filled, &stowed) else {
             return Err(NO_MEMORY);
         };
         let Ok(fills) = fills.to_vec(alloc) else {

@@ -3,7 +3,7 @@ ghost use Rattle.lift_sequence.specs.Aboard.{container_of};
 ghost use Rattle.lift_sequence.specs.Legal.{differ, is_empty};
 
 use arrayvec::ArrayVec;
-use stow_messages::{Item, copied};
+use stow_messages::{Item, copy_text};
 use units_core::Kg;
 
 /// A container aboard: its identification, which may be empty, and its gross mass.
@@ -20,7 +20,7 @@ pub fn container_of(item: &Item) -> Container
     ensures { result ≡ container_of item.now }
 {
     Container {
-        id: copied(&item.id),
+        id: copy_text(&item.id),
         kg: item.kg,
     }
 }

@@ -6,7 +6,7 @@ ghost use Rattle.lift_sequence.specs.Sequence.{lift_at, op_of, ops_of};
 
 use arrayvec::ArrayVec;
 use std::alloc::{AllocError, Global};
-use stow_messages::{Item, Lift, StepRow, copied};
+use stow_messages::{Item, Lift, StepRow, copy_text};
 use units_core::{Cell, Kg};
 
 /// A step of a sequence.
@@ -43,13 +43,13 @@ impl Op {
         match self {
             Op::Lift(lift) => Op::Lift(lift.copy()),
             Op::Fill { name, kg } => Op::Fill {
-                name: copied(name),
+                name: copy_text(name),
                 kg: *kg,
             },
             Op::Restow { from, to, id } => Op::Restow {
                 from: *from,
                 to: *to,
-                id: copied(id),
+                id: copy_text(id),
             },
         }
     }
@@ -66,13 +66,13 @@ impl Op {
 
     /// The step with another weight of the container that it loads; an equal one where it is no
     /// load.
-    pub fn reweighed(&self, kg: Kg) -> Op
+    pub fn with_weight(&self, kg: Kg) -> Op
         ensures { result ≡ reweighed kg self.now }
     {
         match self {
             Op::Lift(Lift::Load(item)) => Op::Lift(Lift::Load(Item {
                 cell: item.cell,
-                id: copied(&item.id),
+                id: copy_text(&item.id),
                 kg,
             })),
             _ => self.copy(),
@@ -135,13 +135,13 @@ fn op_of(lifts: &[Lift], row: &StepRow) -> Option<Op>
             Some(Op::Lift(lift))
         }
         StepRow::Tank { name, kg } => Some(Op::Fill {
-            name: copied(name),
+            name: copy_text(name),
             kg: *kg,
         }),
         StepRow::Restow { from, to, id } => Some(Op::Restow {
             from: *from,
             to: *to,
-            id: copied(id),
+            id: copy_text(id),
         }),
     }
 }

@@ -12,6 +12,7 @@ ghost use Rattle.lift_sequence.specs.Follow.{AreReweighed, IsLoad, moves, steps_
 ghost use Rattle.lift_sequence.specs.Follow.{weighed_at};
 ghost use Rattle.lift_sequence.specs.Independent.{AreExchangeable, CanPass, CanSwap, moved};
 ghost use Rattle.lift_sequence.specs.Legal.{fault_of};
+ghost use Rattle.lift_sequence.specs.Limits.{most_steps};
 ghost use Rattle.lift_sequence.specs.Sequence.{AreKept, AreSteps, IsLight, IsOf, StepsAddUp};
 ghost use Rattle.lift_sequence.specs.Sequence.{first_fault, sequence_fault};
 
@@ -55,7 +56,7 @@ fn make_all(
     stowage: &mut Stowage,
     ops: &[Op],
 ) -> Result<Vec<Step>, SeqFault>
-    requires { length ops.now ≤ 120000 }
+    requires { length ops.now ≤ most_steps }
     ensures legal { OnOk result (first_fault profile.now (cargo_in stowage.old) 1 ops.now ≡ None) }
     ensures steps { IfOk result (λ s.
         s.items ≡ steps_of profile.now (cargo_in stowage.old) ops.now) }
@@ -85,7 +86,7 @@ fn weigh_move(op: &Op, step: &mut Step, cell: Option<Cell>, kg: Kg)
     ensures { step.new ≡ (if moves cell op.now then step_weighed kg step.old else step.old) }
 {
     if op.moves(cell) {
-        *step = step.weighed(kg);
+        *step = step.with_weight(kg);
     }
 }
 
@@ -113,7 +114,7 @@ fn weigh_steps(ops: &[Op], steps: &mut [Step], place: usize, kg: Kg)
     ensures steps { AreReweighed kg place ops.now steps.old steps.new }
     ensures as_many { length steps.new ≡ length ops.now }
 {
-    steps[place] = steps[place].weighed(kg);
+    steps[place] = steps[place].with_weight(kg);
     weigh_moves(ops, steps, place + 1, ops[place].loaded_cell(), kg);
 }
 
@@ -236,7 +237,7 @@ impl Sequence {
         let _ = kg.get();
         let place = k - 1;
         weigh_steps(&self.ops, &mut self.steps, place, kg);
-        self.ops[place] = self.ops[place].reweighed(kg);
+        self.ops[place] = self.ops[place].with_weight(kg);
     }
 
     /// Exchanges the steps at two places, where they are independent of each other and of all steps

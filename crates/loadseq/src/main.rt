@@ -7,7 +7,7 @@
 
 use claim_run::Open;
 use command_line::words;
-use program::{serve, stopped};
+use program::{report_stop, serve};
 use run_files::{Disk, Stop};
 use std::alloc::{AllocError, Global};
 use std::process::ExitCode;
@@ -15,7 +15,7 @@ use std::sync::Wait;
 use std::thread::Threads;
 
 /// The words as they are lent to the program.
-fn borrowed(alloc: Global, words: &[String]) -> Result<Vec<&str>, AllocError> {
+fn lend_words(alloc: Global, words: &[String]) -> Result<Vec<&str>, AllocError> {
     let mut list = Vec::new(alloc);
     for word in words {
         list.push(word.as_str())?;
@@ -27,7 +27,7 @@ fn borrowed(alloc: Global, words: &[String]) -> Result<Vec<&str>, AllocError> {
 /// in `main` alone, so it is handed over once more for that.
 fn run(rt: &HostRuntime, threads: &(impl Threads + Wait + Sync)) -> Result<u8, Stop> {
     let words = words(rt, rt.alloc())?;
-    let list = borrowed(rt.alloc(), &words)?;
+    let list = lend_words(rt.alloc(), &words)?;
     let mut disk = Disk::new(rt);
     let mut out = rt.stdout();
     let mut err = rt.stderr();
@@ -45,7 +45,7 @@ fn run(rt: &HostRuntime, threads: &(impl Threads + Wait + Sync)) -> Result<u8, S
 fn main(rt: HostRuntime) -> ExitCode {
     let status = match run(&rt, &rt) {
         Ok(status) => status,
-        Err(stop) => stopped(&stop, &mut rt.stderr()),
+        Err(stop) => report_stop(&stop, &mut rt.stderr()),
     };
     ExitCode::from(status)
 }

@@ -9,7 +9,7 @@ use crate::sessions::{
     Editing, Kind, LONG, Reading, edit_of, inputs, list_of, with_fillings, with_long_list,
 };
 use crate::texts::{
-    FILLED_LINES, NO_STEPS, RESTOW, RESTOW_LINES, TWO_LINES, TWO_LOADS, filled, long_steps,
+    FILLED_LINES, NO_STEPS, RESTOW, RESTOW_LINES, TWO_LINES, TWO_LOADS, fill_text, long_steps,
 };
 use crate::trials::Trial;
 use crate::watch::{Tally, watch};
@@ -61,7 +61,7 @@ fn note_caught<W: Write>(out: &mut W, name: &str, tally: Tally) -> bool {
 }
 
 /// Tries a call, and says how many of its growths were refused.
-fn tried<R: AllocGlobal + Threads + Wait + Sync, W: Write>(
+fn try_with<R: AllocGlobal + Threads + Wait + Sync, W: Write>(
     rt: &R,
     out: &mut W,
     name: &str,
@@ -105,22 +105,22 @@ fn reports<R: AllocGlobal + Threads + Wait + Sync, W: Write>(
     rt: &R,
     out: &mut W,
 ) -> Result<bool, RunFault> {
-    let ship = filled(rt.alloc())?;
-    let mut right = tried(rt, out, "two_loads", Trial::Report(two_loads()));
-    right &= tried(
+    let ship = fill_text(rt.alloc())?;
+    let mut right = try_with(rt, out, "two_loads", Trial::Report(two_loads()));
+    right &= try_with(
         rt,
         out,
         "two_loads, first failing step",
         Trial::First(two_loads()),
     );
-    right &= tried(rt, out, "restow_step", Trial::Report(restow()));
-    right &= tried(
+    right &= try_with(rt, out, "restow_step", Trial::Report(restow()));
+    right &= try_with(
         rt,
         out,
         "tank_fill",
         Trial::Report(filled_tank(ship.as_bytes())),
     );
-    right &= tried(rt, out, "early_stop", Trial::EarlyStop);
+    right &= try_with(rt, out, "early_stop", Trial::EarlyStop);
     Ok(right)
 }
 
@@ -139,7 +139,7 @@ fn try_apply<'a, R: AllocGlobal + Threads + Wait + Sync, W: Write>(
         before,
         after,
     };
-    tried(rt, out, "session_edits, apply", Trial::Apply(editing))
+    try_with(rt, out, "session_edits, apply", Trial::Apply(editing))
 }
 
 /// The same taken back.
@@ -157,7 +157,7 @@ fn try_undo<'a, R: AllocGlobal + Threads + Wait + Sync, W: Write>(
         before,
         after,
     };
-    tried(rt, out, "session_edits, undo", Trial::Undo(editing))
+    try_with(rt, out, "session_edits, undo", Trial::Undo(editing))
 }
 
 /// Both.
@@ -223,7 +223,7 @@ fn reads<R: AllocGlobal + Threads + Wait + Sync, W: Write>(
     inputs: Inputs<'_>,
     steps: u32,
 ) -> bool {
-    tried(rt, out, name, Trial::Read(Reading { inputs, steps }))
+    try_with(rt, out, name, Trial::Read(Reading { inputs, steps }))
 }
 
 /// The list of a session is opened at a desk.
@@ -235,7 +235,7 @@ fn opens_long<R: AllocGlobal + Threads + Wait + Sync, W: Write>(
 ) -> Result<bool, RunFault>
     requires { session.now.base ≡ desk.now.base }
 {
-    let (ticket, list) = match published(rt, desk, session) {
+    let (ticket, list) = match publish_one(rt, desk, session) {
         Ok(published) => published,
         Err(fault) => return Err(fault),
     };
@@ -247,7 +247,7 @@ fn opens_long<R: AllocGlobal + Threads + Wait + Sync, W: Write>(
         second: &ticket,
         short: &list,
     });
-    Ok(tried(rt, out, "long list, opened", opened))
+    Ok(try_with(rt, out, "long list, opened", opened))
 }
 
 /// Sessions that are read and made, and a list that is opened, so long that room is asked for what
@@ -263,7 +263,7 @@ fn long_sessions<R: AllocGlobal + Threads + Wait + Sync, W: Write>(
         ..inputs()
     };
     let mut right = reads(rt, out, "long list, read", long, LONG);
-    right &= tried(rt, out, "long list, made", Trial::MakeLong(session));
+    right &= try_with(rt, out, "long list, made", Trial::MakeLong(session));
     let made = with_long_list(rt.alloc(), session, LONG)?;
     match desk_of(rt.alloc(), &made) {
         Ok(desk) => Ok(right & opens_long(rt, out, &made, &desk)?),
@@ -327,7 +327,7 @@ fn desk_by<'a, R: AllocGlobal + Threads + Wait + Sync, W: Write>(
         second,
         short,
     });
-    let right = tried(rt, out, "desk_two_threads, publish", published);
+    let right = try_with(rt, out, "desk_two_threads, publish", published);
     let opened = Trial::Open(Publishing {
         desk,
         session,
@@ -336,11 +336,11 @@ fn desk_by<'a, R: AllocGlobal + Threads + Wait + Sync, W: Write>(
         second,
         short,
     });
-    right & tried(rt, out, "desk_two_threads, open", opened)
+    right & try_with(rt, out, "desk_two_threads, open", opened)
 }
 
 /// The ticket of a session's list, and the list.
-fn published<R: AllocGlobal + Wait>(
+fn publish_one<R: AllocGlobal + Wait>(
     rt: &R,
     desk: &Desk,
     session: &Session,
@@ -382,7 +382,7 @@ fn desk_with<R: AllocGlobal + Threads + Wait + Sync, W: Write>(
     ensures { session.new.base ≡ session.old.base }
 {
     let edited = session.apply(edit_of(Kind::Remove)).is_ok();
-    let published = published(rt, desk, session);
+    let published = publish_one(rt, desk, session);
     let back = session.undo() == Ok(true);
     match published {
         Ok((second, short)) => {
@@ -401,7 +401,7 @@ fn desk_rows<R: AllocGlobal + Threads + Wait + Sync, W: Write>(
 ) -> Result<bool, RunFault>
     requires { session.old.base ≡ desk.now.base }
 {
-    let (early, list) = match published(rt, desk, session) {
+    let (early, list) = match publish_one(rt, desk, session) {
         Ok(published) => published,
         Err(fault) => return Err(fault),
     };

@@ -26,7 +26,7 @@ pub const FILLED_LINES: &[u8] =
     b"STEP LIFT KG GM MEAN AFT FWD TRIM LIST A30 A40 A3040 GZ ANGLE CLOSE FRAMES VERDICT\n0 - 8700000 4168 4243 ";
 
 /// `ship.toml` of the box ship with her tank filled.
-pub fn filled(alloc: Global) -> Result<String, RunFault> {
+pub fn fill_text(alloc: Global) -> Result<String, RunFault> {
     let mut text = String::new(alloc);
     let ship = text.push_str(SHIP);
     let fill = text.push_str("[[fills]]\ntank = \"DB1\"\nkg = 500000\n");

@@ -9,7 +9,7 @@ use units_core::{Body, Frames, Mm};
 
 /// A number with what is put in or taken out.
 #[inline(always)]
-pub fn changed(number: i128, part: i64, taken: bool) -> i128
+pub fn add_or_take(number: i128, part: i64, taken: bool) -> i128
     requires number { unsigned_abs number ≤ 10 ^ 30 }
     requires part { unsigned_abs part ≤ 10 ^ 18 }
     ensures { result ≡ number +ℤ signed taken part }
@@ -73,7 +73,7 @@ pub fn change_shares(
         if is_nothing(&share) {
             continue;
         }
-        weights[i] = changed(weights[i], share.weight, taken);
-        moments[i] = changed(moments[i], share.moment, taken);
+        weights[i] = add_or_take(weights[i], share.weight, taken);
+        moments[i] = add_or_take(moments[i], share.moment, taken);
     }
 }

@@ -8,7 +8,7 @@ ghost use Rattle.moment_sums.specs.Changes.{change_in, change_of};
 ghost use Rattle.moment_sums.specs.Kept.{bodies_of, both_kept, is_bounded, kept_of, size_of};
 ghost use Rattle.moment_sums.specs.Kept.{values};
 
-use crate::changes::{change_shares, changed, moment_of, surface_of};
+use crate::changes::{add_or_take, change_shares, moment_of, surface_of};
 use crate::limits::{are_centres, are_shares, both, is_share, times};
 use crate::rows::{add, negate, negate_all, plus};
 use crate::shares::kg;
@@ -160,11 +160,11 @@ impl Totals {
         ensures few { length frames.now ≤ 16 }
     {
         let place = body.place();
-        self.kg = changed(self.kg, kg(body), taken);
-        self.x = changed(self.x, moment_of(body, place.x), taken);
-        self.y = changed(self.y, moment_of(body, place.y), taken);
-        self.z = changed(self.z, moment_of(body, place.z), taken);
-        self.fsm = changed(self.fsm, surface_of(body), taken);
+        self.kg = add_or_take(self.kg, kg(body), taken);
+        self.x = add_or_take(self.x, moment_of(body, place.x), taken);
+        self.y = add_or_take(self.y, moment_of(body, place.y), taken);
+        self.z = add_or_take(self.z, moment_of(body, place.z), taken);
+        self.fsm = add_or_take(self.fsm, surface_of(body), taken);
         change_shares(
             &mut self.weights_aft,
             &mut self.moments_aft,

@@ -7,6 +7,7 @@ mod boards;
 #[cfg(test)]
 mod checks;
 mod chunks;
+mod counts;
 mod notes;
 #[cfg(test)]
 mod runs;
@@ -14,4 +15,5 @@ mod runs;
 mod scans;
 
 pub use chunks::{ThreeChunks, three_chunks};
+pub use counts::Counts;
 pub use notes::{Notes, notes_of};

@@ -120,7 +120,7 @@ impl<'a> Draw<'a> {
 }
 
 /// What is aboard on arrival.
-fn stowed(alloc: Global, all: &[Slot], draw: &mut Draw<'_>) -> Result<Stowage, AllocError> {
+fn stow_plan(alloc: Global, all: &[Slot], draw: &mut Draw<'_>) -> Result<Stowage, AllocError> {
     let slots = used_slots(alloc, all, draw.aboard)?;
     let mut stands = Vec::with_capacity(alloc, slots.len())?;
     let salt = draw.aboard;
@@ -353,7 +353,7 @@ pub fn call_of(
     shape: Shape,
 ) -> Result<Call, AllocError> {
     let mut draw = Draw::new(shape, chance);
-    let mut stowage = stowed(alloc, slots, &mut draw)?;
+    let mut stowage = stow_plan(alloc, slots, &mut draw)?;
     let mut baplie = bay_plan(alloc, &stowage, shape)?;
     let mut movins = instruction(alloc, &mut stowage, &mut draw)?;
     let steps = if shape.steps > 0 {

@@ -4,7 +4,7 @@ ghost use Rattle.what_if.specs.Desks.{IsOf};
 
 use crate::chance::Chance;
 use crate::digests::Digest;
-use crate::edits::{count, reweighed};
+use crate::edits::{count, reweigh_step};
 use crate::stops::Stop;
 use crate::verdicts::add_verdict;
 use std::alloc::Global;
@@ -49,7 +49,7 @@ impl<'a> Planner<'a> {
     /// Gives a load another weight, and publishes the list.
     fn publish<R: Wait>(&mut self, rt: &R, chance: &mut Chance) -> Result<Published<'a>, Stop> {
         let at = chance.below(count(self.session.lifts())).saturating_add(1);
-        if let Some(edit) = reweighed(self.session.lifts(), at, chance) {
+        if let Some(edit) = reweigh_step(self.session.lifts(), at, chance) {
             let _ = self.session.apply(edit);
         }
         match self.desk.publish(rt, &self.session) {

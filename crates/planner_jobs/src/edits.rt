@@ -39,7 +39,7 @@ fn load_from(list: &[Op], at: u32) -> Option<u32> {
 }
 
 /// Another weight of a load, at this step or behind it.
-pub fn reweighed(list: &[Op], at: u32, chance: &mut Chance) -> Option<Edit> {
+pub fn reweigh_step(list: &[Op], at: u32, chance: &mut Chance) -> Option<Edit> {
     let at = load_from(list, at)?;
     Some(Edit::Reweigh {
         at,
@@ -63,7 +63,7 @@ fn filling(chance: &mut Chance) -> Op {
 fn edit_at(list: &[Op], at: u32, chance: &mut Chance) -> Option<Edit> {
     let kind = chance.below(100);
     if kind < 60 {
-        reweighed(list, at, chance)
+        reweigh_step(list, at, chance)
     } else if kind < 72 {
         Some(Edit::Swap {
             a: at,

@@ -7,6 +7,7 @@ use Rattle.ship_profile.specs.Record.{ProfileRecord}
 use Rattle.lift_sequence.specs.Aboard.{Aboard, after_all}
 use Rattle.lift_sequence.specs.Arrival.{ArrivalRecord, cargo_on}
 use Rattle.lift_sequence.specs.Bodies.{bodies, steps_of}
+use Rattle.lift_sequence.specs.Limits.{most_bodies, most_steps}
 use Rattle.lift_sequence.specs.Sequence.{SequenceRecord, sequence_fault}
 use Rattle.moment_sums.specs.Bounded.{IsBounded}
 use Rattle.port_call.specs.declared.inputs.Inputs.{Inputs}
@@ -53,10 +54,10 @@ pub record IsToldBy (inputs : Inputs) (case : CaseRecord) : Type 0 where
 -- after k steps is what is aboard on arrival with what these steps change.
 pub record IsReady (case : CaseRecord) : Type 0 where
   pub frames : length case.profile.ship.frames ≤ 16
-  pub few : length case.sequence.ops ≤ 120000
+  pub few : length case.sequence.ops ≤ most_steps
   pub long : length case.sequence.steps ≡ length case.sequence.ops
   pub last : slice_get case.sequence.steps (length case.sequence.ops) ≡ None
-  pub arrived : length case.arrival.bodies ≤ 30400
+  pub arrived : length case.arrival.bodies ≤ most_bodies
   pub adds_up : (f : Mass → ℤ) (k : ℕ)
       → total f
       (bodies case.profile (after_all case.profile (aboard_first case) (take k case.sequence.ops)))

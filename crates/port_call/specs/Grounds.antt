@@ -9,6 +9,7 @@ use Rattle.lift_sequence.specs.declared.operations.Op.{Op}
 use Rattle.lift_sequence.specs.Aboard.{Aboard}
 use Rattle.lift_sequence.specs.Arrival.{ArrivalRecord, IsStowed, cargo_on}
 use Rattle.lift_sequence.specs.Bodies.{bodies, steps_of}
+use Rattle.lift_sequence.specs.Limits.{most_bodies}
 use Rattle.lift_sequence.specs.Sequence.{IsOf, sequence_fault}
 use Rattle.moment_sums.specs.Kept.{Kept, size_of, values}
 use Rattle.moment_sums.specs.Sum.{sum_of}
@@ -27,7 +28,7 @@ pub record HasArrived (ship : ProfileRecord) (arrival : ArrivalRecord) : Type 0 
 pub record IsArrivalTotal (ship : ProfileRecord) (arrival : ArrivalRecord)
     (total : Kept) : Type 0 where
   pub sum : values total ≡ sum_of ship.ship.frames arrival.bodies
-  pub size : size_of total ≤ 30400
+  pub size : size_of total ≤ most_bodies
 
 -- the arrival was made with the profile, it is as every arrival, and all that is aboard is added up
 pub record IsGround (ship : ProfileRecord) (arrival : ArrivalRecord) (total : Kept) : Type 0 where

@@ -92,7 +92,7 @@ fn ran_out<T>(reading: &Result<T, InputFault>) -> bool
 /// The port call that the inputs define, or the first refusal, the profile and both messages as
 /// they were read. Where any of these was out of memory, so is the port call, whatever else is
 /// refused.
-fn call_read(
+fn call_of_readings(
     alloc: Global,
     inputs: &Inputs<'_>,
     profile: Result<Profile, InputFault>,
@@ -114,7 +114,7 @@ fn call_read(
     let base = arrived_by(alloc, inputs, profile, plan)?;
     // Only now, so that a growth that is refused here is never behind another refusal.
     let orders = orders_by(alloc, inputs, moves);
-    PortCall::ordered(alloc, inputs, base, orders)
+    PortCall::with_orders(alloc, inputs, base, orders)
 }
 
 impl PortCall {
@@ -130,7 +130,7 @@ impl PortCall {
 
     /// The port call that the inputs define, or the first refusal: by the ship with what is aboard
     /// of her on arrival, and by what was read of the steps. The contract alone speaks of `inputs`.
-    fn ordered(
+    fn with_orders(
         alloc: Global,
         inputs: &Inputs<'_>,
         base: Ground,
@@ -158,7 +158,7 @@ impl PortCall {
         let plan = items(alloc, inputs.baplie);
         let moves = lifts(alloc, inputs.movins);
         let profile = ship(alloc, &inputs.profile);
-        call_read(alloc, inputs, profile, plan, moves)
+        call_of_readings(alloc, inputs, profile, plan, moves)
     }
 
     /// As [`PortCall::read`], by so many threads, of which three find work. The first refusal in
@@ -177,7 +177,7 @@ impl PortCall {
             return PortCall::read(alloc, inputs);
         }
         match read_beside(rt, alloc, inputs, threads > 2) {
-            Ok((profile, plan, moves)) => call_read(alloc, inputs, profile, plan, moves),
+            Ok((profile, plan, moves)) => call_of_readings(alloc, inputs, profile, plan, moves),
             Err(AllocError) => Err(InputFault::NoMemory),
         }
     }

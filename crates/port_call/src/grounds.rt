@@ -1,5 +1,6 @@
 ghost use Rattle.std.specs.Prelude.{◌≡◌, ◌↔◌, ◌≤◌, IsTrue, OnOk, IfOk, IfErr, None, length};
 ghost use Rattle.lift_sequence.specs.Arrival.{TellsAt};
+ghost use Rattle.lift_sequence.specs.Limits.{most_bodies};
 ghost use Rattle.moment_sums.specs.Kept.{size_of, values};
 ghost use Rattle.moment_sums.specs.Sum.{sum_of};
 ghost use Rattle.port_call.specs.Cases.{IsMade, on_ground};
@@ -47,9 +48,9 @@ impl Model for Ground {
 /// Everything that is aboard on arrival, added up. There are at most 30,400 bodies; the arrival is
 /// one that was made with this profile.
 fn arrival_total(profile: &Profile, arrival: &Arrival) -> Totals
-    requires { length arrival.now.bodies ≤ 30400 }
+    requires { length arrival.now.bodies ≤ most_bodies }
     ensures sum { values result ≡ sum_of profile.now.ship.frames arrival.now.bodies }
-    ensures size { size_of result ≤ 30400 }
+    ensures size { size_of result ≤ most_bodies }
 {
     let frames = profile.frames();
     let bodies = arrival.bodies();

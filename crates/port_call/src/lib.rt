@@ -24,5 +24,5 @@ pub use faults::{InputFault, RunFault};
 pub use grounds::Ground;
 pub use inputs::Inputs;
 pub use laws::{aboard_is_bounded, sequences_are_bounded};
-pub use printed::shown;
+pub use printed::printable;
 pub use refusals::cuts_refusal;

@@ -22,7 +22,7 @@ impl fmt::Display for CellText {
 
 /// A byte of a name as it can be printed: a question mark stands for a blank, and for what is no
 /// visible character.
-pub fn shown(byte: u8) -> u8
+pub fn printable(byte: u8) -> u8
     ensures { result ≡ shown byte }
 {
     if byte.is_ascii_graphic() { byte } else { b'?' }

@@ -6,7 +6,7 @@ ghost use Rattle.prefix_scan.specs.Laws.{most_parts};
 use crate::folds::{fold, offsets};
 use crate::monoids::Monoid;
 use crate::prefixes::Prefixes;
-use crate::tree_rows::copied;
+use crate::tree_rows::copy_values;
 use std::alloc::{AllocError, Global};
 use std::marker::Model;
 
@@ -40,7 +40,7 @@ impl<M: Monoid + Drop> Flat<M> {
     {
         let mut sums = offsets(alloc, values)?;
         sums.push(fold(values))?;
-        let values = copied(alloc, values)?;
+        let values = copy_values(alloc, values)?;
         Ok(Flat { values, sums })
     }
 

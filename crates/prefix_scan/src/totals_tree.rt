@@ -45,20 +45,6 @@ impl<M: Monoid + Drop> TotalsTree<M> {
         Ok(TotalsTree { rows, count: 0 })
     }
 
-    /// A tree over other values, be they more or fewer, whose count goes on from that of this one.
-    /// The sizes of the values add up to at most [`crate::MAX_PARTS`], and the joins made here
-    /// aren't counted. The one error is out of memory.
-    pub fn rebuilt(&self, alloc: Global, values: &[M]) -> Result<TotalsTree<M>, AllocError>
-        requires { sum_by M.weight values.now ≤ most_parts }
-        ensures { IfOk result (λ t. (t.values ≡ values.now) × (t.joins ≡ self.now.joins)) }
-    {
-        let rows = rows_over(alloc, values)?;
-        Ok(TotalsTree {
-            rows,
-            count: self.count,
-        })
-    }
-
     /// A tree over the values, as [`TotalsTree::build`] makes it, which keeps them without a copy.
     pub fn of(alloc: Global, values: Vec<M>) -> Result<TotalsTree<M>, AllocError>
         requires { sum_by M.weight values.items ≤ most_parts }
@@ -68,9 +54,11 @@ impl<M: Monoid + Drop> TotalsTree<M> {
         Ok(TotalsTree { rows, count: 0 })
     }
 
-    /// A tree over other values, as [`TotalsTree::rebuilt`] makes it, which keeps them without a
-    /// copy.
-    pub fn renewed(&self, alloc: Global, values: Vec<M>) -> Result<TotalsTree<M>, AllocError>
+    /// A tree over other values, be they more or fewer, which it keeps without a copy and whose
+    /// count goes on from that of this one. The sizes of the values add up to at most
+    /// [`crate::MAX_PARTS`], and the joins made here aren't counted. The one error is out of
+    /// memory.
+    pub fn with_values(&self, alloc: Global, values: Vec<M>) -> Result<TotalsTree<M>, AllocError>
         requires { sum_by M.weight values.items ≤ most_parts }
         ensures { IfOk result (λ t. (t.values ≡ values.items) × (t.joins ≡ self.now.joins)) }
     {

@@ -24,7 +24,7 @@ fn row_above<M: Monoid + Drop>(alloc: Global, row: &[M]) -> Result<Vec<M>, Alloc
 }
 
 /// The same values in a list of their own.
-pub fn copied<M: Monoid + Drop>(alloc: Global, values: &[M]) -> Result<Vec<M>, AllocError>
+pub fn copy_values<M: Monoid + Drop>(alloc: Global, values: &[M]) -> Result<Vec<M>, AllocError>
     ensures { IfOk result (λ v. v.items ≡ values.now) }
 {
     // not by `collect`, which asks again for less where its first growth is refused
@@ -54,7 +54,7 @@ pub fn rows_over<M: Monoid + Drop>(alloc: Global, values: &[M]) -> Result<Vec<Ve
     requires { sum_by M.weight values.now ≤ most_parts }
     ensures { IfOk result (λ v. AreRows M.op v.items × (first_row v.items ≡ values.now)) }
 {
-    let copy = copied(alloc, values)?;
+    let copy = copy_values(alloc, values)?;
     rows_of(alloc, copy)
 }
 

@@ -7,4 +7,4 @@ mod serving;
 mod trials;
 mod writers;
 
-pub use serving::{serve, stopped};
+pub use serving::{report_stop, serve};

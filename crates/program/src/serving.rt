@@ -234,7 +234,7 @@ fn tell<E: Write>(stop: &Stop, err: &mut E) -> bool
 
 /// Writes the one line on what stopped a run to `err`, and gives the exit status. A fault of `err`
 /// changes nothing.
-pub fn stopped<E: Write>(stop: &Stop, err: &mut E) -> u8
+pub fn report_stop<E: Write>(stop: &Stop, err: &mut E) -> u8
     ensures { result ≡ status_of stop.now }
 {
     // `std` says nothing of what a failed write leaves, so more than `tell` promises of `err` can't
@@ -297,6 +297,6 @@ pub fn serve<R: Readers, G: Gate, T: Threads + Wait + Sync, O: Write, E: Write>(
 {
     match run_words(rt, alloc, gate, files, words, out) {
         Ok(status) => status,
-        Err(stop) => stopped(&stop, err),
+        Err(stop) => report_stop(&stop, err),
     }
 }

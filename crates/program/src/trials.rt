@@ -40,7 +40,7 @@ impl fmt::Display for Answer {
 }
 
 /// The answer to an edit that can't be made; out of memory is none.
-fn refused(fault: EditFault) -> Result<Answer, Stop>
+fn answer_to_refusal(fault: EditFault) -> Result<Answer, Stop>
     ensures answer { IfOk result (λ a. (a ≡ Answer.Refused fault) × (fault ≢ EditFault.NoMemory)) }
     ensures memory { IfErr result (λ e. e ≡ Stop.NoMemory) }
 {
@@ -63,7 +63,7 @@ fn try_edit(session: &mut Session, edit: Edit) -> Result<Answer, Stop>
 {
     match session.apply(edit) {
         Ok(()) => Ok(Answer::Done),
-        Err(fault) => refused(fault),
+        Err(fault) => answer_to_refusal(fault),
     }
 }
 

@@ -2,15 +2,14 @@ ghost use Rattle.std.specs.Prelude.{◌≡◌, ◌≤◌, IfOk, length};
 ghost use Rattle.run_files.specs.Files.Known.{Nothing, Holds};
 
 use crate::checks::{holds, same, same_row};
-use claim_run::{Gate, Open};
+use claim_run::Open;
+use parallel_tests::Counts;
 use program::serve;
 use run_files::{LIMIT, Readers, Unopened};
 use std::io;
 use std::io::{ErrorKind, Read, Write};
 use std::process::Abort;
 use std::sync::Wait;
-use std::sync::atomic::AtomicU64;
-use std::sync::atomic::Ordering::SeqCst;
 use std::thread::Threads;
 
 const SHIP: &[u8] =
@@ -568,18 +567,6 @@ fn outputs_that_fail_later(rt: HostRuntime) {
     }
 }
 
-/// A gate that counts its calls.
-#[derive(Drop)]
-struct Counts {
-    passed: AtomicU64,
-}
-
-impl Gate for Counts {
-    fn pass(&self, _worker: u8, _chunk: u32) {
-        self.passed.fetch_add(1, SeqCst);
-    }
-}
-
 /// How often a run on these words, which writes this text, calls the gate.
 fn check_passes(
     rt: &(impl Abort + AllocGlobal + Threads + Wait + Sync),
@@ -588,9 +575,7 @@ fn check_passes(
     passes: u64,
 ) {
     let files = with("edits.txt", Content::Bytes(EDITS));
-    let gate = Counts {
-        passed: AtomicU64::new(0),
-    };
+    let gate = Counts::new();
     let mut out = Vec::new(rt.alloc());
     let mut err = Vec::new(rt.alloc());
     let status = serve(
@@ -604,7 +589,7 @@ fn check_passes(
     );
     same_row(rt, text, status, 0);
     same(rt, out.as_slice(), text.as_bytes());
-    same_row(rt, text, gate.passed.load(SeqCst), passes);
+    same_row(rt, text, gate.calls(), passes);
 }
 
 // Here there is one line, and so one chunk. A report has two runs, one for the sums and one for the

@@ -42,7 +42,7 @@ fn options(workers: u8, cuts: CutPlan<'_>) -> Options<'_>
 
 /// The report on an instruction, as text, and what it came to, made so. The first step that fails
 /// is asked for by itself, too, and is the same.
-fn written_by(
+fn bytes_by(
     rt: &(impl Abort + AllocGlobal + Threads + Wait + Sync),
     movins: &[u8],
     options: &Options<'_>,
@@ -72,7 +72,7 @@ fn check_refusal(
     plan: CutPlan<'_>,
     refusal: &str,
 ) -> Result<(), Fail> {
-    let (outcome, text) = written_by(rt, movins, &options(2, plan));
+    let (outcome, text) = bytes_by(rt, movins, &options(2, plan));
     holds(rt, text.is_empty());
     match outcome {
         Ok(_) => assert!(rt; false, "not refused: {refusal}"),
@@ -94,7 +94,7 @@ static EMPTY_REPORT: &[u8] =
 // always_write_fault).
 #[test]
 fn empty_plan(rt: HostRuntime) {
-    let (outcome, text) = written_by(&rt, NO_MOVES, &options(2, PLAN));
+    let (outcome, text) = bytes_by(&rt, NO_MOVES, &options(2, PLAN));
     same(&rt, text.as_slice(), EMPTY_REPORT);
     same(
         &rt,

@@ -14,7 +14,7 @@ use crate::ordinates::{Crossing, Levers};
 use hydrostat::{Outside, upright};
 use moment_sums::Totals;
 use ship_profile::Profile;
-use ship_tables::{Curves, curve_gap, displaced};
+use ship_tables::{Curves, curve_gap, curve_reading};
 use units_core::enclosing_near;
 
 /// The levers of the cross curves at a displacement in the interval `i`.
@@ -25,7 +25,7 @@ fn crossing_at(curves: &Curves, kg: i128, i: usize) -> Crossing
 {
     let mut lever = [0; 13];
     for k in 0..13usize {
-        lever[k] = displaced(curves, k, i, kg);
+        lever[k] = curve_reading(curves, k, i, kg);
     }
     Crossing {
         lever,

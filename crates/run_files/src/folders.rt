@@ -8,7 +8,7 @@ ghost use Rattle.run_files.specs.Statuses.{IsUnread, name_shown};
 use crate::files::{Readers, Unopened, whole};
 use crate::stops::Stop;
 use command_line::Line;
-use port_call::{Inputs, shown};
+use port_call::{Inputs, printable};
 use ship_profile::ProfileBytes;
 use std::alloc::{AllocError, Global};
 use std::marker::Model;
@@ -33,7 +33,7 @@ fn shown_name(alloc: Global, name: &str) -> Result<String, AllocError>
     }
     let mut text = String::new(alloc);
     for byte in name.as_bytes() {
-        text.push(char::from(shown(*byte)))?;
+        text.push(char::from(printable(*byte)))?;
     }
     Ok(text)
 }

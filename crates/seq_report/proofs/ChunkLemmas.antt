@@ -9,7 +9,8 @@ use Rattle.prefix_scan.specs.Cut.{start_of, IsRising, Divides}
 use Rattle.port_call.specs.Cases.{CaseRecord}
 use Rattle.criteria.specs.declared.criterion.Criterion.{Criterion}
 use Rattle.seq_report.specs.Cases.{line_in, outcome_in}
-use Rattle.seq_report.specs.Chunks.{Part, chunk_of, first_in, part_of, text_in}
+use Rattle.running_sums.specs.Lines.{chunk_of}
+use Rattle.seq_report.specs.Chunks.{Part, first_in, part_of, text_in}
 use Rattle.seq_report.specs.Report.{Line, failure_of, first_of, header_of, last_line, text_of}
 
 pub range_join : (a n b m c : ℕ) → a + n ≡ b → n + m ≡ c → range_with_len a n ++ range_with_len b m ≡ range_with_len a c

@@ -9,21 +9,12 @@ use Rattle.criteria.specs.declared.criterion.Criterion.{Criterion}
 use Rattle.claim_board.specs.Claims.{IsLeastFound}
 use Rattle.port_call.specs.Cases.{CaseRecord}
 use Rattle.seq_report.specs.Cases.{IsFirstStep, first_step_in, line_in, outcome_in}
-use Rattle.seq_report.specs.Chunks.{chunk_of, first_in}
+use Rattle.running_sums.specs.Lines.{chunk_of}
+use Rattle.seq_report.specs.Chunks.{first_in}
 use Rattle.seq_report.specs.Firsts.{first_within}
 use Rattle.seq_report.specs.Refusal.{Outcome}
 use Rattle.seq_report.specs.Report.{first_of}
 use Rattle.seq_report.proofs.ChunkLemmas.{part_at, parts_whole}
-
--- each chunk takes a line at least
-few_to : (ends : List ℕ) (len : ℕ) → Divides ends len → (k : ℕ) → k ≤ length ends → k ≤ start_of ends k
-few_to ends len d zero h = omega arith
-few_to ends len d (suc k) h =
-    let rises : start_of ends k < get_or ends k 0 = d.rising k (omega arith) in
-    omega (arith, rises, few_to ends len d k (omega arith))
-
-pub few_chunks : (ends : List ℕ) (len : ℕ) → Divides ends len → length ends ≤ len
-few_chunks ends len d = let all = few_to ends len d (length ends) (omega arith) in omega (arith, all, d.whole)
 
 -- chunks begin in their order
 starts_rise : (ends : List ℕ) (len : ℕ) → Divides ends len → (a n : ℕ) → a + n ≤ length ends → start_of ends a ≤ start_of ends (a + n)

@@ -1,10 +1,9 @@
 pub mod ChunkLemmas
 pub mod FirstLemmas
 pub mod LawLemmas
-pub mod OffsetLemmas
+pub mod LineLemmas
 pub mod PartLemmas
 pub mod PassedLemmas
 pub mod PlanLemmas
 pub mod RunLemmas
-pub mod SumLemmas
 pub mod Words

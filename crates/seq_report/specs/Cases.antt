@@ -1,13 +1,11 @@
--- Bookkeeping: the lines of a case, its sums, and its chunks.
+-- Bookkeeping: the lines of a case, and its chunks.
 use Rattle.std.specs.Prelude.{◌≡◌, ℕ, ◌+◌, ◌-◌, ◌<◌, ◌≤◌, List, length, map, Option, None, Some}
 use Rattle.std.specs.List.{range_with_len}
-use Rattle.prefix_scan.specs.Laws.{most_parts}
-use Rattle.moment_sums.specs.Kept.{size_of, values}
-use Rattle.moment_sums.specs.Sum.{Sum}
 use Rattle.port_call.specs.Cases.{CaseRecord, aboard_first}
 use Rattle.seq_report.specs.declared.sections.Chunk.{Chunk}
 use Rattle.claim_board.specs.Claims.{IsLeastFound}
-use Rattle.seq_report.specs.Chunks.{chunk_of, parts_behind, step_of_first, sum_to}
+use Rattle.running_sums.specs.Lines.{IsSumAt, chunk_of}
+use Rattle.seq_report.specs.Chunks.{step_of_first}
 use Rattle.seq_report.specs.Refusal.{Outcome, outcome_on}
 use Rattle.criteria.specs.declared.criterion.Criterion.{Criterion}
 use Rattle.seq_report.specs.Report.{Line, failure_of, line_at, lines_of}
@@ -35,10 +33,6 @@ abbrev pub passed_before : Option (ℕ × Criterion) → ℕ → ℕ
 passed_before None lines = lines
 passed_before (Some first) lines = first.0
 
--- the sum at line k
-abbrev pub sum_in : CaseRecord → ℕ → Sum
-sum_in case k = sum_to case.profile.ship.frames case.arrival.bodies case.sequence.steps k
-
 -- the numbers of a chunk's lines
 abbrev pub lines_in : Chunk → List ℕ
 lines_in chunk = range_with_len chunk.start (chunk.end - chunk.start)
@@ -47,5 +41,4 @@ lines_in chunk = range_with_len chunk.start (chunk.end - chunk.start)
 pub record IsChunk (case : CaseRecord) (chunk : Chunk) : Type 0 where
   pub some : chunk.start < chunk.end
   pub inside : chunk.end ≤ length case.sequence.ops + 1
-  pub sum : values chunk.first ≡ sum_in case chunk.start
-  pub size : size_of chunk.first + parts_behind case.sequence.steps chunk.start ≤ most_parts
+  pub sum : IsSumAt case chunk.start chunk.first

@@ -8,9 +8,10 @@ use Rattle.std.proofs.Common.{arith, refl}
 use Rattle.prefix_scan.specs.Cut.{start_of, Divides}
 use Rattle.prefix_scan.proofs.CutLemmas.{start_within}
 use Rattle.criteria.specs.declared.criterion.Criterion.{Criterion}
+use Rattle.lift_sequence.specs.Limits.{most_steps}
 use Rattle.port_call.specs.Cases.{CaseRecord}
 use Rattle.seq_report.specs.Cases.{first_step_in, line_in}
-use Rattle.seq_report.specs.Chunks.{chunk_of}
+use Rattle.running_sums.specs.Lines.{chunk_of}
 use Rattle.seq_report.specs.Report.{first_failed, first_of}
 
 -- the first failing line of those from a on is one of them
@@ -39,7 +40,7 @@ step_within case n a step (Some p) is e =
     let same : p.0 ≡ step =
     cc in let h = first_within case n a p is in (omega (arith, h.0), omega (arith, h.1))
 
-pub steps_within : (case : CaseRecord) (ends : List ℕ) → length case.sequence.ops ≤ 120000
+pub steps_within : (case : CaseRecord) (ends : List ℕ) → length case.sequence.ops ≤ most_steps
     → Divides ends (length case.sequence.ops + 1)
     → (k step : ℕ) → k < length ends → first_step_in case ends k ≡ Some step
     → (start_of ends k ≤ step) × (step < 2 ^ 32)

@@ -15,7 +15,7 @@ use Rattle.moment_sums.specs.Bounded.{IsBounded}
 use Rattle.moment_sums.specs.Kept.{Kept, bodies_of, both_kept, kept_of, none_kept, values}
 use Rattle.moment_sums.specs.Sum.{Sum, changed_by, of_body}
 use Rattle.port_call.specs.Sums.{sum_at}
-use Rattle.seq_report.specs.Chunks.{changes_behind, chunk_of}
+use Rattle.running_sums.specs.Lines.{changes_behind, chunk_of}
 
 -- a body, and what a step changes, each as a sum that is kept
 abbrev pub body_kept : List Frame → Mass → Kept

@@ -1,24 +1,21 @@
 ghost use Rattle.std.specs.Prelude.{◌≡◌, ◌+◌, ◌≤◌, length, false, true, IfOk, IfErr, Ok, Err};
 ghost use Rattle.prefix_scan.specs.declared.divisions.CutFault.{CutFault as CutFaultValue};
-ghost use Rattle.prefix_scan.specs.Laws.{most_parts};
-ghost use Rattle.moment_sums.specs.Kept.{size_of, values};
 ghost use Rattle.port_call.specs.Views.{case_in_view};
 ghost use Rattle.port_call.specs.Grounds.{IsArrivalTotal};
 ghost use Rattle.port_call.specs.Refusals.{TellsMemory, is_refusal, is_write};
-ghost use Rattle.seq_report.specs.Cases.{ArePassed, IsFirstStep, outcome_in, sum_in};
-ghost use Rattle.seq_report.specs.Chunks.{parts_behind};
+ghost use Rattle.running_sums.specs.Lines.{IsSumAt};
+ghost use Rattle.seq_report.specs.Cases.{ArePassed, IsFirstStep, outcome_in};
 ghost use Rattle.seq_report.specs.Plans.{Fits, IsPlanFault, IsUncut};
 ghost use Rattle.seq_report.specs.Refusal.{Outcome, outcome_of};
 
-use crate::chunked::chunked;
-use crate::chunks::pass_line;
 use crate::jobs::Lines;
-use crate::plans::Options;
+use crate::plans::{Options, cuts_and_sums};
 use crate::sections::{Chunk, first_failing};
 use claim_run::{Gate, Workers, run_least};
 use criteria::Criterion;
 use moment_sums::Totals;
 use port_call::{Case, Inputs, PortCall, RunFault};
+use running_sums::walk_on;
 use std::alloc::{AllocError, Global};
 use std::sync::Wait;
 use std::thread::Threads;
@@ -69,7 +66,7 @@ fn first_of_call<G: Gate, R: Threads + Wait + Sync>(
         × Fits options.now.cuts (outcome_in call.now).summary.lines) }
     ensures uncut { IfErr result (IsUncut options.now.cuts (outcome_in call.now).summary.lines) }
 {
-    let (cuts, sums) = match chunked(rt, alloc, gate, call, options) {
+    let (cuts, sums) = match cuts_and_sums(rt, alloc, gate, call, options) {
         Ok(made) => made,
         Err(fault) => return Err(fault),
     };
@@ -122,12 +119,11 @@ pub fn first_fail<G: Gate, R: Threads + Wait + Sync>(
 fn sum_at(case: Case<'_>, k: u32, total: &Totals) -> Totals
     requires there { k ≤ length case.sequence.now.ops }
     requires total { IsArrivalTotal case.profile.now case.arrival.now total.now }
-    ensures sum { values result ≡ sum_in (case_in_view case.entry) k }
-    ensures room { size_of result + parts_behind case.entry.sequence.now.steps k ≤ most_parts }
+    ensures { IsSumAt (case_in_view case.entry) k result }
 {
     let mut sum = *total;
     for line in 0..k {
-        pass_line(case, line, &mut sum);
+        walk_on(case, line, &mut sum);
     }
     sum
 }

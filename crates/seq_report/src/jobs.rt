@@ -1,14 +1,12 @@
-ghost use Rattle.std.specs.Prelude.{◌≡◌, ◌+◌, ◌-◌, ◌<◌, ◌≤◌, length, map};
+ghost use Rattle.std.specs.Prelude.{◌≡◌, ◌+◌, ◌<◌, length, map};
 ghost use Rattle.std.proofs.Props.{props};
-ghost use Rattle.std.specs.List.{range_with_len};
-ghost use Rattle.prefix_scan.specs.Cut.{Divides, start_of};
+ghost use Rattle.prefix_scan.specs.Cut.{Divides};
 ghost use Rattle.strength.specs.Hull.{IsHullOf};
 ghost use Rattle.port_call.specs.Views.{case_in_view};
 ghost use Rattle.seq_report.specs.Cases.{IsChunk, line_in, lines_in};
-ghost use Rattle.seq_report.specs.Chunks.{AreFirstSums, chunk_of};
+ghost use Rattle.running_sums.specs.Lines.{AreFirstSums, chunk_of};
 ghost use Rattle.seq_report.specs.Report.{first_of};
 
-use crate::chunks::chunk_total;
 use crate::sections::{Chunk, Section, first_failing, make_section};
 use claim_run::{Job, Scout};
 use criteria::Criterion;
@@ -16,34 +14,9 @@ use decimal_text::FourDigits;
 use moment_sums::Totals;
 use port_call::Case;
 use prefix_scan::Cuts;
+use running_sums::{chunk_count, lines_of};
 use std::alloc::{AllocError, Global};
-use std::ops::Range;
 use strength::Hull;
-
-/// What the steps behind the lines of each chunk change, as a job for workers.
-#[derive(Drop)]
-pub struct Changes<'a> {
-    pub case: Case<'a>,
-    pub cuts: &'a Cuts,
-    pub ghost cut: { Divides cuts.now (length case.sequence.now.ops + 1) },
-}
-
-impl<'a> Job for Changes<'a> {
-    ghost use Rattle.std.specs.Prelude.{length};
-    ghost use Rattle.seq_report.specs.Chunks.{changes_behind, chunk_of};
-
-    type Out = Totals;
-
-    ghost value = { λ s k. changes_behind s.case.profile.now.ship.frames
-        s.case.sequence.now.steps (chunk_of s.cuts.now k) };
-
-    ghost pieces = { λ s. length s.cuts.now };
-
-    fn piece(&self, _alloc: Global, k: u32) -> Result<Totals, AllocError> {
-        let lines = lines_of(self.case, self.cuts, k);
-        Ok(chunk_total(self.case, lines.start, lines.end))
-    }
-}
 
 /// The lines of each chunk, for scouts that look for the first of them that fails.
 #[derive(Drop)]
@@ -71,7 +44,8 @@ impl<'a> Job for Texts<'a> {
     ghost use Rattle.std.specs.Prelude.{length, map};
     ghost use Rattle.port_call.specs.Views.{case_in_view};
     ghost use Rattle.seq_report.specs.Cases.{line_in};
-    ghost use Rattle.seq_report.specs.Chunks.{chunk_of, part_of};
+    ghost use Rattle.running_sums.specs.Lines.{chunk_of};
+    ghost use Rattle.seq_report.specs.Chunks.{part_of};
 
     type Out = Section;
 
@@ -148,33 +122,4 @@ impl<'a> Lines<'a> {
     {
         chunk_count(self.case, self.cuts)
     }
-}
-
-impl<'a> Changes<'a> {
-    /// How many chunks there are.
-    pub fn chunks(&self) -> u32
-        ensures { result ≡ length self.now.cuts.now }
-    {
-        chunk_count(self.case, self.cuts)
-    }
-}
-
-/// How many chunks the cuts make of a case's lines.
-fn chunk_count(case: Case<'_>, cuts: &Cuts) -> u32
-    requires { Divides cuts.now (length case.sequence.now.ops + 1) }
-    ensures { result ≡ length cuts.now }
-{
-    cuts.chunks() as u32
-}
-
-/// The lines of chunk `k`.
-fn lines_of(case: Case<'_>, cuts: &Cuts, k: u32) -> Range<u32>
-    requires cut { Divides cuts.now (length case.sequence.now.ops + 1) }
-    requires there { k < length cuts.now }
-    ensures start { result.start ≡ start_of cuts.now k }
-    ensures lines { range_with_len result.start (result.end - result.start) ≡ chunk_of cuts.now k }
-    ensures some { result.start < result.end }
-    ensures inside { result.end ≤ length case.entry.sequence.now.ops + 1 }
-{
-    cuts.range(k as usize)
 }

@@ -4,8 +4,6 @@
 #![tactic(auto)]
 
 mod causes;
-mod chunked;
-mod chunks;
 mod columns;
 mod complete;
 mod deciding;
@@ -20,7 +18,6 @@ mod sections;
 mod sink;
 mod step_lines;
 
-pub use chunks::joined_to_arrival;
 pub use complete::Summary;
 pub use criteria::Criterion;
 pub use failures::{first_fail, first_fail_behind};

@@ -4,7 +4,7 @@ ghost use Rattle.seq_report.specs.Lifts.{lift_text, op_text};
 
 use decimal_text::BackwardText;
 use lift_sequence::Op;
-use port_call::shown;
+use port_call::printable;
 use stow_messages::Lift;
 use units_core::Cell;
 
@@ -27,7 +27,7 @@ fn put_name(line: &mut BackwardText<'_>, name: &[u8])
     let mut left = name.len();
     while left > 0 {
         left -= 1;
-        line.put_byte(shown(name[left]));
+        line.put_byte(printable(name[left]));
     }
 }
 

@@ -1,10 +1,17 @@
-ghost use Rattle.std.specs.Prelude.{◌≢◌, ◌<◌, IfOk, IfErr};
+ghost use Rattle.std.specs.Prelude.{◌≢◌, ◌+◌, ◌<◌, length, IfOk, IfErr};
 ghost use Rattle.prefix_scan.specs.Cut.{Divides};
-ghost use Rattle.seq_report.specs.Plans.{Fits, IsPlanFault};
+ghost use Rattle.running_sums.specs.Lines.{AreFirstSums};
+ghost use Rattle.seq_report.specs.Cases.{outcome_in};
+ghost use Rattle.seq_report.specs.Plans.{Fits, IsPlanFault, IsUncut};
 
-use claim_run::Workers;
+use claim_run::{Gate, Workers};
+use moment_sums::Totals;
+use port_call::{PortCall, RunFault, cuts_refusal};
 use prefix_scan::{CutFault, Cuts};
-use std::alloc::Global;
+use running_sums::sums_of;
+use std::alloc::{AllocError, Global};
+use std::sync::Wait;
+use std::thread::Threads;
 
 /// Where the lines of a report are cut into chunks. The report is the same for every plan.
 #[derive(Clone, Copy, Debug)]
@@ -36,5 +43,31 @@ pub fn cuts_of(alloc: Global, plan: CutPlan<'_>, lines: u32) -> Result<Cuts, Cut
     match plan {
         CutPlan::Every(n) => Cuts::every(alloc, n, lines),
         CutPlan::At(ends) => Cuts::at(alloc, ends, lines),
+    }
+}
+
+/// The cuts that a plan makes of a port call's lines, and the sum at the first line of each chunk;
+/// or the fault of the plan.
+pub fn cuts_and_sums<G: Gate, R: Threads + Wait + Sync>(
+    rt: &R,
+    alloc: Global,
+    gate: &G,
+    call: &PortCall,
+    options: &Options<'_>,
+) -> Result<(Cuts, Vec<Totals>), RunFault>
+    ensures cut { IfOk result (λ made. Divides made.0 (length call.now.sequence.ops + 1)) }
+    ensures sums { IfOk result (λ made. AreFirstSums call.now.profile.ship.frames
+        call.now.arrival.bodies call.now.sequence.steps made.0 made.1.items) }
+    ensures fits { IfOk result
+        (λ _. Fits options.now.cuts (outcome_in call.now).summary.lines) }
+    ensures uncut { IfErr result (IsUncut options.now.cuts (outcome_in call.now).summary.lines) }
+{
+    let cuts = match cuts_of(alloc, options.cuts, call.case().lines()) {
+        Ok(cuts) => cuts,
+        Err(fault) => return Err(cuts_refusal(fault)),
+    };
+    match sums_of(rt, alloc, gate, options.workers, call, &cuts) {
+        Ok(sums) => Ok((cuts, sums)),
+        Err(AllocError) => Err(RunFault::NoMemory),
     }
 }

@@ -5,14 +5,13 @@ ghost use Rattle.port_call.specs.Cases.{IsMade, case_on};
 ghost use Rattle.port_call.specs.Grounds.{HasArrived};
 ghost use Rattle.port_call.specs.Refusals.{IsOfRun, TellsMemory, is_refusal};
 ghost use Rattle.seq_report.specs.Cases.{outcome_in};
-ghost use Rattle.seq_report.specs.Chunks.{AreFirstSums};
+ghost use Rattle.running_sums.specs.Lines.{AreFirstSums};
 ghost use Rattle.seq_report.specs.Delivery.{Delivers, IsByPlan};
 ghost use Rattle.seq_report.specs.Refusal.{outcome_of};
 
-use crate::chunked::chunked;
 use crate::complete::{CompleteReport, Summary};
 use crate::jobs::{Lines, Texts};
-use crate::plans::Options;
+use crate::plans::{Options, cuts_and_sums};
 use crate::sink::Sink;
 use claim_run::{Gate, Workers, run};
 use decimal_text::FourDigits;
@@ -132,7 +131,7 @@ fn report_call<G: Gate, R: Threads + Wait + Sync, S: Sink>(
     ensures accepted { IfErr result (λ e. is_refusal e ≡ false) }
     ensures memory { IfErr result TellsMemory }
 {
-    let (cuts, sums) = match chunked(rt, alloc, gate, call, options) {
+    let (cuts, sums) = match cuts_and_sums(rt, alloc, gate, call, options) {
         Ok(made) => made,
         Err(fault) => return Err(fault),
     };

@@ -7,7 +7,6 @@ ghost use Rattle.seq_report.specs.Cases.{IsChunk, line_in, lines_in};
 ghost use Rattle.seq_report.specs.Chunks.{part_of};
 ghost use Rattle.seq_report.specs.Report.{failure_of, first_of, lift_to, line_of, statement_of};
 
-use crate::chunks::pass_line;
 use crate::deciding::failure_at;
 use crate::lines::write_line;
 use crate::step_lines::StepLine;
@@ -16,6 +15,7 @@ use decimal_text::{BackwardText, FourDigits};
 use lift_sequence::Op;
 use moment_sums::Totals;
 use port_call::Case;
+use running_sums::walk_on;
 use ship_profile::Profile;
 use std::alloc::{AllocError, Global};
 use std::marker::Model;
@@ -131,7 +131,7 @@ pub fn make_section(
     for k in chunk.start..chunk.end {
         line.judge(case.profile, hull, k, &sum, &mut near);
         section.add(&mut end, lift_to(case, k), &line)?;
-        pass_line(case, k, &mut sum);
+        walk_on(case, k, &mut sum);
     }
     Ok(section)
 }
@@ -150,7 +150,7 @@ pub fn first_failing(case: Case<'_>, hull: &Hull, chunk: &Chunk) -> Option<(u32,
         if failure.is_some() {
             return failure;
         }
-        pass_line(case, k, &mut sum);
+        walk_on(case, k, &mut sum);
     }
     None
 }

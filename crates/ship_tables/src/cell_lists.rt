@@ -58,7 +58,7 @@ fn block_of(blocks: &[u16], pair: usize) -> usize
 
 /// The index of a cell by the tables; any index where they have none.
 #[inline(always)]
-fn told_at(blocks: &[u16], entries: &[u16], cell: Cell) -> usize
+fn index_at(blocks: &[u16], entries: &[u16], cell: Cell) -> usize
     ensures { result ≡ index_in blocks.now entries.now cell }
 {
     let at = block_of(blocks, pair_of(cell)) * TIERS + usize::from(cell.tier);
@@ -135,7 +135,7 @@ fn all_told(blocks: &[u16], entries: &[u16], cells: &[Cell]) -> bool
     ensures { OnTrue result (AllTold blocks.now entries.now cells.now) }
 {
     for (place, cell) in cells.iter().enumerate() {
-        if told_at(blocks, entries, *cell) != place {
+        if index_at(blocks, entries, *cell) != place {
             return false;
         }
     }
@@ -238,7 +238,7 @@ impl CellList {
         if !self.sure {
             return search(&self.cells, cell);
         }
-        let at = told_at(&self.blocks, &self.entries, cell);
+        let at = index_at(&self.blocks, &self.entries, cell);
         if at < self.cells.len() && self.cells[at] == cell {
             Some(at)
         } else {

@@ -27,6 +27,6 @@ pub use extents::Extent;
 pub use faults::{File, TableFault};
 pub use hydrostatics::Hydro;
 pub use laws::{one_file, one_record, one_set, sound_hydro_is_read};
-pub use readings::{curve_gap, displaced};
+pub use readings::{curve_gap, curve_reading};
 pub use table_set::Tables;
 pub use texts::TableTexts;

@@ -172,12 +172,7 @@ fn rows_of(ended: &[Table], number: usize) -> Option<usize>
 }
 
 /// The number of rows of the table of a name, if it has ended.
-fn ended_rows(
-    ended: &[Table],
-    rows: &[Row],
-    names: &IndexSet<Vec<u8>>,
-    name: &[u8],
-) -> Option<usize>
+fn row_count(ended: &[Table], rows: &[Row], names: &IndexSet<Vec<u8>>, name: &[u8]) -> Option<usize>
     requires { map (λ v. v.items) names.now.keys
         ≡ map table_name (tables_after ended.now rows.now) }
     ensures { result ≡ ended_rows name.now ended.now }
@@ -237,7 +232,7 @@ fn table_fault(layout: &Layout<'_>, gathered: &Gathered, row: &Row) -> Option<Ta
     }
     let ended = gathered.ended.as_slice();
     let begun = ended.len() + usize::from(!rows.is_empty());
-    let other = ended_rows(ended, rows, &gathered.names, row.name());
+    let other = row_count(ended, rows, &gathered.names, row.name());
     begin_fault(layout.file, gathered.line, most, tables, begun, other)
 }
 

@@ -9,7 +9,7 @@ use units_core::{gap, read};
 
 /// The value of a curve at a displacement, which lies in the interval `i`, as the number whose
 /// quotient by [`curve_gap`] it is.
-pub fn displaced(curves: &Curves, number: usize, i: usize, kg: i128) -> i128
+pub fn curve_reading(curves: &Curves, number: usize, i: usize, kg: i128) -> i128
     requires curves { All (IsCurve (length curves.now.arguments) (10 ^ 6)) curves.now.columns }
     requires displacements { AreDisplacements curves.now.arguments }
     requires there { number < length curves.now.columns }

@@ -209,7 +209,7 @@ fn tank_text(alloc: Global, tables: &Tables, name: &str) -> Result<String, Fail>
     debug_text(alloc, (tables.tank(name.as_bytes()), tables.tanks()))
 }
 
-fn shown(alloc: Global, tables: &Tables, asked: Asked) -> Result<String, Fail> {
+fn values_shown(alloc: Global, tables: &Tables, asked: Asked) -> Result<String, Fail> {
     match asked {
         Asked::Hydro => hydro_text(alloc, tables.hydro()),
         Asked::Levers => curves_text(alloc, tables.levers()),
@@ -223,7 +223,7 @@ fn shown(alloc: Global, tables: &Tables, asked: Asked) -> Result<String, Fail> {
 
 /// What a look at what was read gives. What was read is of any type here, so that no proof has to
 /// take tables apart.
-fn seen<T: Drop, R, F: FnOnce(&T) -> R>(read: Result<T, TableFault>, look: F) -> Result<R, Fail>
+fn lend<T: Drop, R, F: FnOnce(&T) -> R>(read: Result<T, TableFault>, look: F) -> Result<R, Fail>
     requires { F.IsAlwaysCallable look }
 {
     match read {
@@ -235,7 +235,7 @@ fn seen<T: Drop, R, F: FnOnce(&T) -> R>(read: Result<T, TableFault>, look: F) ->
 /// What is asked of the tables that these texts write.
 fn answer(alloc: Global, texts: &TableTexts<'_>, asked: Asked) -> Result<String, Fail> {
     let read = Tables::read(alloc, extent(), 5, texts);
-    seen(read, |tables: &Tables| shown(alloc, tables, asked))?
+    lend(read, |tables: &Tables| values_shown(alloc, tables, asked))?
 }
 
 /// Compares each answer of these texts with the one beside it.
@@ -383,13 +383,13 @@ fn tank_fill(rt: HostRuntime) -> Result<(), Fail> {
 /// Whether tables are those that these texts write.
 fn are_of(alloc: Global, tables: &Tables, texts: &TableTexts<'_>) -> Result<bool, Fail> {
     let read = Tables::read(alloc, widest(), 5, texts);
-    seen(read, |other: &Tables| tables.same(other))
+    lend(read, |other: &Tables| tables.same(other))
 }
 
 /// Whether the tables of two ships' texts are equal.
 fn are_same(alloc: Global, first: &TableTexts<'_>, second: &TableTexts<'_>) -> Result<bool, Fail> {
     let read = Tables::read(alloc, widest(), 5, first);
-    seen(read, |tables: &Tables| are_of(alloc, tables, second))?
+    lend(read, |tables: &Tables| are_of(alloc, tables, second))?
 }
 
 /// The files of tables.

@@ -137,7 +137,7 @@ impl<R: Abort + AllocGlobal> Check<R> for Decided {
         let at = length(25_000)?;
         let draught = Some(self.draught);
         let in_parts = if self.in_parts { draught } else { None };
-        same(rt, line.decided(at), draught);
+        same(rt, line.quick_draught(at), draught);
         same(rt, line.read_in_parts(at), in_parts);
         same(rt, line.read(at), draught);
         Ok(())

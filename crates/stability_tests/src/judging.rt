@@ -44,7 +44,7 @@ fn two(figures: &Figures) -> Result<[i128; 2], Fail> {
 }
 
 /// What a verdict says.
-fn told(verdict: &Verdict) -> Result<Said, Fail> {
+fn summary(verdict: &Verdict) -> Result<Said, Fail> {
     match verdict {
         Verdict::Outside(outside) => Ok(Said::Lies(*outside)),
         Verdict::Fails(criterion, figures) => Ok(Said::Figures(two(figures)?, Some(*criterion))),
@@ -169,7 +169,7 @@ fn check_row(
 {
     let sum = sum_of(profile, row.masses)?;
     let verdict = judge(profile, &sum);
-    same(rt, told(&verdict)?, row.said);
+    same(rt, summary(&verdict)?, row.said);
     let mut figures = RoundedFigures::default();
     let found = judge_into(profile, hull, &sum, near, &mut figures);
     same_verdict(rt, &verdict, found, &figures)?;

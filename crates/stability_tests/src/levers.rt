@@ -20,7 +20,7 @@ static TIED: &str = "kg,0,5,10,15,20,25,30,35,40,45,50,55,60
 
 /// The levers with one body amidships of mass `kg`, `y` mm from the centre line and `z` mm above
 /// the keel; none where its mass lies outside of the cross curves.
-fn told(profile: &Profile, kg: u32, y: i32, z: i32) -> Result<Option<Levers>, Fail> {
+fn levers_under(profile: &Profile, kg: u32, y: i32, z: i32) -> Result<Option<Levers>, Fail> {
     let totals = sum_of(profile, &[(kg, [50_000, y, z, 50_000])])?;
     match levers_of(profile, &totals) {
         Ok(levers) => Ok(Some(levers)),
@@ -31,7 +31,7 @@ fn told(profile: &Profile, kg: u32, y: i32, z: i32) -> Result<Option<Levers>, Fa
 
 /// The levers with 8,200,000 kg aboard.
 fn levers_with(profile: &Profile, y: i32, z: i32) -> Result<Levers, Fail> {
-    Ok(told(profile, 8_200_000, y, z)?.ok_or("outside")?)
+    Ok(levers_under(profile, 8_200_000, y, z)?.ok_or("outside")?)
 }
 
 /// The levers at all angles, in mm, rounded down.
@@ -107,7 +107,7 @@ struct Displacements;
 impl<R: Abort + AllocGlobal> Check<R> for Displacements {
     fn check(&self, rt: &R, profile: &Profile) -> Result<(), Fail> {
         for (kg, inside) in &DISPLACEMENTS {
-            let levers = told(profile, *kg, 0, 6_000)?;
+            let levers = levers_under(profile, *kg, 0, 6_000)?;
             same_row(rt, kg, levers.is_some(), *inside);
         }
         Ok(())

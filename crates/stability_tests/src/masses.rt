@@ -34,7 +34,7 @@ fn body(mass: Mass) -> Result<Body, Fail> {
 }
 
 /// The sum, where the bodies of a ship can add up to it.
-fn bounded(sum: Totals) -> Result<Totals, Fail>
+fn check_bounds(sum: Totals) -> Result<Totals, Fail>
     ensures bounded { IfOk result (λ t. IsBounded (values t)) }
     ensures kg { IfOk result (λ t. unsigned_abs (values t Weight) ≤ 10 ^ 9) }
 {
@@ -60,5 +60,5 @@ pub fn sum_of(profile: &Profile, masses: &[Mass]) -> Result<Totals, Fail>
         }
         sum = sum.join(&more);
     }
-    bounded(sum)
+    check_bounds(sum)
 }

@@ -1,4 +1,4 @@
-ghost use Rattle.std.specs.Prelude.{◌≡◌, ◌≤◌, ◌<◌, ◌+◌, length, slice_get, option_copied, IfOk};
+ghost use Rattle.std.specs.Prelude.{◌≡◌, ◌≤◌, ◌<◌, ◌+◌, [], length, slice_get, option_copied, IfOk};
 ghost use Rattle.std.specs.Prelude.{IfSome, None};
 ghost use Rattle.std.specs.Vec.{vec_capacity};
 ghost use Rattle.step_edits.specs.Edits.{CanBeDone, TellsMemory, edited, edit_fault, inverse};
@@ -104,17 +104,27 @@ pub fn inverse(ops: &[Op], edit: &Edit) -> Edit
     }
 }
 
+/// Puts equal steps into an empty list that has room for them.
+pub fn copy_into(list: &mut Vec<Op>, ops: &[Op])
+    requires empty { list.old.items ≡ [] }
+    requires room { length ops.now ≤ vec_capacity list.old }
+    ensures list { list.new.items ≡ ops.now }
+    ensures room { vec_capacity list.old ≤ vec_capacity list.new }
+{
+    for op in ops {
+        let Ok(()) = list.push(op.copy()) else {
+            unreachable!()
+        };
+    }
+}
+
 /// An equal list, allocated once, with room for one step more; out of memory is the only error.
 pub fn copies(alloc: Global, ops: &[Op]) -> Result<Vec<Op>, AllocError>
     ensures list { IfOk result (λ v. v.items ≡ ops.now) }
     ensures room { IfOk result (λ v. length v.items < vec_capacity v) }
 {
     let mut copy = Vec::with_capacity(alloc, ops.len() + 1)?;
-    for op in ops {
-        let Ok(()) = copy.push(op.copy()) else {
-            unreachable!()
-        };
-    }
+    copy_into(&mut copy, ops);
     Ok(copy)
 }
 
@@ -158,14 +168,14 @@ fn perform(ops: &mut Vec<Op>, edit: &Edit)
         }
         Edit::Reweigh { at, kg } => {
             let place = place_of(*at);
-            ops[place] = ops[place].reweighed(*kg);
+            ops[place] = ops[place].with_weight(*kg);
         }
     }
 }
 
 /// The list after an edit that can be done ([`fault_of`] answers `None`). It is allocated once; out
 /// of memory is the only error.
-pub fn edited(alloc: Global, ops: &[Op], edit: &Edit) -> Result<Vec<Op>, AllocError>
+pub fn edit_list(alloc: Global, ops: &[Op], edit: &Edit) -> Result<Vec<Op>, AllocError>
     requires { edit_fault ops.now edit.now ≡ None }
     ensures { IfOk result (λ v. v.items ≡ edited ops.now edit.now) }
 {

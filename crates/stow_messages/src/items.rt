@@ -12,7 +12,7 @@ pub struct Item {
 }
 
 /// An equal text: an identification, or the name of a tank.
-pub fn copied<const MOST: usize>(text: &ArrayVec<u8, MOST>) -> ArrayVec<u8, MOST>
+pub fn copy_text<const MOST: usize>(text: &ArrayVec<u8, MOST>) -> ArrayVec<u8, MOST>
     ensures { result ≡ text.now }
 {
     let mut copy = ArrayVec::new();
@@ -27,7 +27,7 @@ impl Item {
     {
         Item {
             cell: self.cell,
-            id: copied(&self.id),
+            id: copy_text(&self.id),
             kg: self.kg,
         }
     }

@@ -20,7 +20,7 @@ mod weights;
 
 pub use faults::{StowCode, StowFault};
 pub use instructions::movins;
-pub use items::{Item, copied};
+pub use items::{Item, copy_text};
 pub use laws::{one_bay_plan, one_movement_instruction, one_steps_file};
 pub use lifts::Lift;
 pub use plans::baplie;

@@ -1,6 +1,6 @@
 ghost use Rattle.std.specs.Prelude.{◌≡◌};
 
-use crate::items::{Item, copied};
+use crate::items::{Item, copy_text};
 use arrayvec::ArrayVec;
 use units_core::Cell;
 
@@ -22,7 +22,7 @@ impl Lift {
             Lift::Load(item) => Lift::Load(item.copy()),
             Lift::Discharge { cell, id } => Lift::Discharge {
                 cell: *cell,
-                id: copied(id),
+                id: copy_text(id),
             },
         }
     }

@@ -5,7 +5,7 @@ ghost use Rattle.stow_messages.specs.Steps.{within, text_of, lift_number, lift_r
 ghost use Rattle.stow_messages.specs.Steps.{restow_row, row_by, row_of};
 ghost use Rattle.stow_messages.specs.StepsSoFar.{IsWithin};
 
-use crate::items::copied;
+use crate::items::copy_text;
 use crate::step_faults::StepsCode;
 use arrayvec::ArrayVec;
 use csv::ByteRecord;
@@ -45,13 +45,13 @@ impl StepRow {
         match self {
             StepRow::Lift(number) => StepRow::Lift(*number),
             StepRow::Tank { name, kg } => StepRow::Tank {
-                name: copied(name),
+                name: copy_text(name),
                 kg: *kg,
             },
             StepRow::Restow { from, to, id } => StepRow::Restow {
                 from: *from,
                 to: *to,
-                id: copied(id),
+                id: copy_text(id),
             },
         }
     }

@@ -163,7 +163,7 @@ fn kilograms_spelt(value: Raw<'_>, mark: u8) -> Option<Kg>
 pub fn kilograms(value: Raw<'_>, mark: u8) -> Option<Kg>
     ensures { result ≡ kg_in mark (meaning_of value.entry) }
 {
-    match value.unreleased() {
+    match value.without_release() {
         Some(text) => kilograms_in(text, mark),
         None => kilograms_spelt(value, mark),
     }

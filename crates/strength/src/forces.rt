@@ -60,7 +60,7 @@ fn rest_of(top: i128, quotient: i64) -> i128
 
 /// A number over 2,400,000, rounded down. It is guessed and then tested, since a division of 128
 /// bits takes many times as long.
-fn divided(top: i128) -> i128
+fn quotient_down(top: i128) -> i128
     requires { unsigned_abs top ≤ 10 ^ 26 }
     ensures { result ≡ int_div_euclid top (pos 2400000) }
 {
@@ -104,7 +104,7 @@ fn long_moment(top: i128) -> i128
     requires { unsigned_abs top ≤ 10 ^ 24 }
     ensures { result ≡ int_div_euclid (top *ℤ pos 41) (pos 2400000) }
 {
-    divided(times_41(top))
+    quotient_down(times_41(top))
 }
 
 /// A 2,400,000th of 41 times a number, rounded down.

@@ -423,7 +423,7 @@ static CODES: [(EdiCode, &str); 14] = [
 ];
 
 /// How many segments the message has, or the fault.
-fn judged(text: &[u8], kind: Kind) -> Result<u64, EdiFault> {
+fn verdict_on(text: &[u8], kind: Kind) -> Result<u64, EdiFault> {
     let mut count: u64 = 0;
     for segment in open(text, kind)?.segments() {
         count = segment.number().saturating_sub(1);
@@ -440,11 +440,11 @@ fn cut_interchange(rt: HostRuntime) {
     for len in 0..EMPTY_PLAN.len() {
         same(
             &rt,
-            judged(&EMPTY_PLAN[..len], Kind::Baplie),
+            verdict_on(&EMPTY_PLAN[..len], Kind::Baplie),
             fault(EdiCode::Truncated, len),
         );
     }
-    same(&rt, judged(EMPTY_PLAN, Kind::Baplie), Ok(0));
+    same(&rt, verdict_on(EMPTY_PLAN, Kind::Baplie), Ok(0));
 }
 
 #[test]
@@ -452,21 +452,21 @@ fn every_prefix(rt: HostRuntime) {
     for len in 0..LOAD_ONE.len() {
         same(
             &rt,
-            judged(&LOAD_ONE[..len], Kind::Movins),
+            verdict_on(&LOAD_ONE[..len], Kind::Movins),
             fault(EdiCode::Truncated, len),
         );
     }
-    same(&rt, judged(LOAD_ONE, Kind::Movins), Ok(4));
+    same(&rt, verdict_on(LOAD_ONE, Kind::Movins), Ok(4));
     let end = ONE_CONTAINER.len() - 2;
     for len in 0..end {
         same(
             &rt,
-            judged(&ONE_CONTAINER[..len], Kind::Baplie),
+            verdict_on(&ONE_CONTAINER[..len], Kind::Baplie),
             fault(EdiCode::Truncated, len),
         );
     }
     for len in end..ONE_CONTAINER.len() {
-        same(&rt, judged(&ONE_CONTAINER[..len], Kind::Baplie), Ok(4));
+        same(&rt, verdict_on(&ONE_CONTAINER[..len], Kind::Baplie), Ok(4));
     }
 }
 
@@ -479,7 +479,7 @@ fn one_byte_changed(rt: HostRuntime) {
     for at in 0..ONE_CONTAINER.len() {
         for byte in [0, 39, 43, 58, 63, 32, 90, 255] {
             text[at] = byte;
-            match judged(&text, Kind::Baplie) {
+            match verdict_on(&text, Kind::Baplie) {
                 Ok(_) => still = still.wrapping_add(1),
                 Err(fault) => {
                     holds(&rt, fault.place <= ONE_CONTAINER.len());
@@ -491,20 +491,25 @@ fn one_byte_changed(rt: HostRuntime) {
     }
     holds_row(&rt, still, still > 100);
     holds_row(&rt, faults, faults > 100);
-    same(&rt, judged(&text, Kind::Baplie), Ok(4));
+    same(&rt, verdict_on(&text, Kind::Baplie), Ok(4));
 }
 
 #[test]
 fn interchange_faults(rt: HostRuntime) {
     for (name, text, code, place) in &FAULTS {
-        same_row(&rt, name, judged(text, Kind::Baplie), fault(*code, *place));
+        same_row(
+            &rt,
+            name,
+            verdict_on(text, Kind::Baplie),
+            fault(*code, *place),
+        );
     }
 }
 
 #[test]
 fn interchanges(rt: HostRuntime) {
     for (name, text, count) in &PLANS {
-        same_row(&rt, name, judged(text, Kind::Baplie), Ok(*count));
+        same_row(&rt, name, verdict_on(text, Kind::Baplie), Ok(*count));
     }
     holds(&rt, open(EMPTY_PLAN, Kind::Movins).is_err());
     one_reading();
@@ -578,7 +583,7 @@ fn qualifiers_and_pairs(rt: HostRuntime) -> Result<(), EdiFault> {
         let is_released = segment.number() == 3;
         holds(&rt, unit.is(b"KGM"));
         holds(&rt, value.is(if is_released { b"2+5" } else { b"20500" }));
-        match unit.unreleased() {
+        match unit.without_release() {
             Some(text) => holds(&rt, text == b"KGM".as_slice() && !is_released),
             None => holds(&rt, is_released),
         }
@@ -671,7 +676,12 @@ fn service_characters(rt: HostRuntime) {
             } else {
                 fault(EdiCode::BadUna, 0)
             };
-            same_row(&rt, (byte, place), judged(&text, Kind::Baplie), expected);
+            same_row(
+                &rt,
+                (byte, place),
+                verdict_on(&text, Kind::Baplie),
+                expected,
+            );
         }
     }
 }

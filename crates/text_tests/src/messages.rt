@@ -5,7 +5,8 @@ use std::alloc::{AllocError, Global};
 use std::process::Abort;
 use std::test::Fail;
 use stow_messages::{
-    Item, Lift, StowCode, StowFault, baplie, copied, movins, one_bay_plan, one_movement_instruction,
+    Item, Lift, StowCode, StowFault, baplie, copy_text, movins, one_bay_plan,
+    one_movement_instruction,
 };
 use units_core::{Cell, Kg};
 
@@ -24,7 +25,7 @@ fn message(alloc: Global, name: &str, segments: &str) -> Result<String, AllocErr
 }
 
 /// What bytes print: nothing where they aren't text.
-pub(crate) fn printed(bytes: &[u8]) -> &str {
+pub(crate) fn as_text(bytes: &[u8]) -> &str {
     match str::from_utf8(bytes) {
         Ok(text) => text,
         Err(_) => "",
@@ -41,7 +42,7 @@ fn answer(alloc: Global, text: &[u8]) -> Result<String, AllocError> {
     for item in &items {
         let Cell { bay, row, tier } = item.cell;
         let kg = item.kg.get();
-        let id = printed(item.id.as_slice());
+        let id = as_text(item.id.as_slice());
         let one = format!(in alloc; "{id}@{bay:03}{row:02}{tier:02}={kg} ")?;
         shown.push_str(one.as_str())?;
     }
@@ -230,7 +231,7 @@ fn groups_of_segments(rt: HostRuntime) -> Result<(), Fail> {
 fn texts_are_copied(rt: HostRuntime) -> Result<(), Fail> {
     let mut name: ArrayVec<u8, 16> = ArrayVec::new();
     let _ = name.try_extend_from_slice(b"DB1");
-    same(&rt, &copied(&name), &name);
+    same(&rt, &copy_text(&name), &name);
     Ok(())
 }
 
@@ -387,12 +388,12 @@ fn order(alloc: Global, lift: &Lift) -> Result<String, AllocError> {
         Lift::Load(item) => {
             let Cell { bay, row, tier } = item.cell;
             let kg = item.kg.get();
-            let id = printed(item.id.as_slice());
+            let id = as_text(item.id.as_slice());
             format!(in alloc; "L{bay:03}{row:02}{tier:02}{id}={kg} ")
         }
         Lift::Discharge { cell, id } => {
             let Cell { bay, row, tier } = *cell;
-            let id = printed(id.as_slice());
+            let id = as_text(id.as_slice());
             format!(in alloc; "D{bay:03}{row:02}{tier:02}{id} ")
         }
     }

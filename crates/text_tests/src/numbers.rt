@@ -6,7 +6,7 @@ use std::alloc::{AllocError, Global};
 use std::process::Abort;
 
 /// What a text appends to an empty one.
-fn appended(alloc: Global, line: &BackwardText<'_>) -> Result<String, AllocError> {
+fn append(alloc: Global, line: &BackwardText<'_>) -> Result<String, AllocError> {
     let mut text = String::new(alloc);
     line.append_to(&mut text)?;
     Ok(text)
@@ -16,7 +16,7 @@ fn appended(alloc: Global, line: &BackwardText<'_>) -> Result<String, AllocError
 fn number(alloc: Global, digits: &FourDigits, n: i128) -> Result<String, AllocError> {
     let mut line = BackwardText::new(digits);
     line.put_parted(b' ', n);
-    appended(alloc, &line)
+    append(alloc, &line)
 }
 
 /// Compares numbers with their texts.
@@ -94,7 +94,7 @@ fn numbers_in_digits(rt: HostRuntime) {
     line.put_in_digits(82, 2);
     line.put_byte(b' ');
     line.put_in_digits(123, 2);
-    let Ok(text) = appended(rt.alloc(), &line) else {
+    let Ok(text) = append(rt.alloc(), &line) else {
         panic!(&rt; "no memory")
     };
     same(&rt, text.as_str(), "123 82 007 00");
@@ -109,7 +109,7 @@ fn a_number_in_nine_digits(rt: HostRuntime) {
     };
     let mut line = BackwardText::new(&digits);
     line.put_in_digits(6_050, 9);
-    let Ok(text) = appended(rt.alloc(), &line) else {
+    let Ok(text) = append(rt.alloc(), &line) else {
         panic!(&rt; "no memory")
     };
     same(&rt, text.as_str(), "000006050");
@@ -125,7 +125,7 @@ fn numbers_in_a_row(rt: HostRuntime) {
     line.put_byte(b'!');
     line.put_pairs(b' ', b';', b'/', &[-7, 82_000, 5], &[600, -1, 3], 1);
     line.put_each(b',', &[41, -30_000_000_000, 0, i128::MIN]);
-    let Ok(text) = appended(rt.alloc(), &line) else {
+    let Ok(text) = append(rt.alloc(), &line) else {
         panic!(&rt; "no memory")
     };
     same(

@@ -1,12 +1,12 @@
 use crate::checks::{same, same_row};
 use csv::ByteRecord;
-use csv_text::{next_record, number, open_records, text_at};
+use csv_text::{natural, next_record, number, open_records, text_at};
 use std::alloc::{AllocError, Global};
 use std::process::Abort;
 use std::test::Fail;
 
 /// The records of a text, read into one row: a bar behind each field, a slash behind each record.
-fn shown(alloc: Global, text: &[u8]) -> Result<String, AllocError> {
+fn records_of(alloc: Global, text: &[u8]) -> Result<String, AllocError> {
     let mut reader = open_records(alloc, text);
     let mut fields = ByteRecord::new(alloc);
     let mut shown = String::new(alloc);
@@ -27,7 +27,7 @@ fn shown(alloc: Global, text: &[u8]) -> Result<String, AllocError> {
 
 fn check(rt: &(impl Abort + AllocGlobal), rows: &[(&[u8], &str)]) -> Result<(), Fail> {
     for (text, want) in rows {
-        let shown = shown(rt.alloc(), text)?;
+        let shown = records_of(rt.alloc(), text)?;
         same(rt, shown.as_str(), *want);
     }
     Ok(())
@@ -94,5 +94,24 @@ static NUMBERS: [(&[u8], Option<i64>); 23] = [
 fn numbers_of_fields(rt: HostRuntime) {
     for (text, want) in &NUMBERS {
         same_row(&rt, text, number(text), *want);
+    }
+}
+
+/// Digits alone, of which three may be there at most; bytes 47 and 58 stand beside the digits.
+static NATURALS: [(&[u8], Option<u64>); 8] = [
+    (b"0", Some(0)),
+    (b"207", Some(207)),
+    (b"031", Some(31)),
+    (b"0031", None),
+    (b"", None),
+    (b" 31", None),
+    (b"-3", None),
+    (b"3/:", None),
+];
+
+#[test]
+fn digits_alone(rt: HostRuntime) {
+    for (text, want) in &NATURALS {
+        same_row(&rt, text, natural(text, 3), *want);
     }
 }

@@ -1,5 +1,5 @@
 use crate::checks::{same, same_row};
-use crate::messages::printed;
+use crate::messages::as_text;
 use arrayvec::ArrayVec;
 use std::alloc::{AllocError, Global};
 use std::process::Abort;
@@ -8,18 +8,18 @@ use stow_messages::{StepRow, StepsCode, StepsFault, one_steps_file, steps};
 use units_core::Cell;
 
 /// What a row prints: its word and fields, the cells in seven digits.
-fn shown(alloc: Global, row: &StepRow) -> Result<String, AllocError> {
+fn row_text(alloc: Global, row: &StepRow) -> Result<String, AllocError> {
     match row {
         StepRow::Lift(number) => format!(in alloc; "lift {number};"),
         StepRow::Tank { name, kg } => {
-            let name = printed(name.as_slice());
+            let name = as_text(name.as_slice());
             format!(in alloc; "tank {name} {kg};")
         }
         StepRow::Restow { from, to, id } => {
             let Cell { bay, row, tier } = *from;
             let first = format!(in alloc; "{bay:03}{row:02}{tier:02}")?;
             let Cell { bay, row, tier } = *to;
-            let id = printed(id.as_slice());
+            let id = as_text(id.as_slice());
             format!(in alloc; "restow {first} {bay:03}{row:02}{tier:02} {id};")
         }
     }
@@ -34,7 +34,7 @@ fn answer(alloc: Global, text: &[u8], lifts: u32) -> Result<String, AllocError> 
     };
     let mut answer = String::new(alloc);
     for row in &rows {
-        let one = shown(alloc, row)?;
+        let one = row_text(alloc, row)?;
         answer.push_str(one.as_str())?;
     }
     Ok(answer)

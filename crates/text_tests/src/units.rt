@@ -476,7 +476,7 @@ fn steps_of_another_weight(rt: HostRuntime) {
             out,
             put: body(22, 4, 35),
         };
-        let weighed = step.weighed(kg);
+        let weighed = step.with_weight(kg);
         same(&rt, weighed.out, heavier);
         same(&rt, weighed.put, body(55, 4, 35));
     }

@@ -4,7 +4,7 @@ ghost use Rattle.std.specs.Int.{w128};
 ghost use Rattle.units_core.specs.Ratio.{◌over◌, floor_of, IsFloor, IsAtLeast, IsAtMost};
 ghost use Rattle.units_core.specs.Interpolation.{IsOnLine};
 
-use crate::quotients::{guess, tested};
+use crate::quotients::{confirm_guess, guess};
 
 /// A fraction of two whole numbers, its divisor at least 1.
 #[derive(Clone, Copy, Debug)]
@@ -21,7 +21,7 @@ pub fn floor(fraction: Frac) -> i128
     ensures value { result ≡ floor_of (fraction.num over fraction.den) }
     ensures greatest { IsFloor result (fraction.num over fraction.den) }
 {
-    match tested(fraction, guess(fraction.num, fraction.den)) {
+    match confirm_guess(fraction, guess(fraction.num, fraction.den)) {
         Some(quotient) => quotient,
         None => fraction.num.div_euclid(fraction.den),
     }

@@ -45,7 +45,7 @@ pub fn is_rest(rest: i128, divisor: i128) -> bool
 /// number, that number. A greater quotient gives some number. It is read from the bits of a sum,
 /// which needs no test of the range.
 #[inline(always)]
-fn rounded_down(quotient: f64) -> i64 {
+fn round_down(quotient: f64) -> i64 {
     let bits = f64_to_bits_with_nan(quotient - NEARLY_HALF + ROUNDER);
     (bits & ((1 << 52) - 1)) as i64 - (1 << 51)
 }
@@ -61,7 +61,7 @@ fn guess_leading(num: i128, den: i128) -> i64 {
     let Ok(bottom) = i64::try_from(den >> shift) else {
         return 0;
     };
-    rounded_down(nearest_i64_to_f64(top) / nearest_i64_to_f64(bottom))
+    round_down(nearest_i64_to_f64(top) / nearest_i64_to_f64(bottom))
 }
 
 /// A guess of the quotient of two numbers, rounded down, from their leading bits in floating point:
@@ -75,14 +75,14 @@ pub fn guess(num: i128, den: i128) -> i64 {
         return guess_leading(num, den);
     };
     if let Ok(number) = i64::try_from(num) {
-        return rounded_down(nearest_i64_to_f64(number) / nearest_i64_to_f64(divisor));
+        return round_down(nearest_i64_to_f64(number) / nearest_i64_to_f64(divisor));
     }
     let Ok(leading) = i64::try_from(num >> 24) else {
         return guess_leading(num, den);
     };
     // 2^24
     let number = (nearest_i64_to_f64(leading) + 1.0) * 16_777_216.0;
-    rounded_down(number / nearest_i64_to_f64(divisor))
+    round_down(number / nearest_i64_to_f64(divisor))
 }
 
 /// About 2^64 over a divisor, right to some 50 bits. Quotients are guessed by it (see
@@ -110,7 +110,7 @@ fn rest_over(fraction: Frac, guess: i64) -> Option<i128>
 
 /// The guess, where it is the fraction rounded down.
 #[inline(always)]
-pub fn tested(fraction: Frac, guess: i64) -> Option<i128>
+pub fn confirm_guess(fraction: Frac, guess: i64) -> Option<i128>
     ensures { IfSome result (λ q. q ≡ floor_of (fraction.num over fraction.den)) }
 {
     let Some(rest) = rest_over(fraction, guess) else {
@@ -128,7 +128,7 @@ pub fn tested(fraction: Frac, guess: i64) -> Option<i128>
 pub fn floor_near(fraction: Frac, guess: i64) -> i128
     ensures { result ≡ floor_of (fraction.num over fraction.den) }
 {
-    match tested(fraction, guess) {
+    match confirm_guess(fraction, guess) {
         Some(quotient) => quotient,
         None => floor(fraction),
     }

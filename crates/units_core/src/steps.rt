@@ -15,7 +15,7 @@ pub struct Step {
 }
 
 /// The body of another weight, if there is one.
-fn weighed(body: Option<Body>, kg: Kg) -> Option<Body>
+fn body_with_weight(body: Option<Body>, kg: Kg) -> Option<Body>
     ensures { result ≡ option_map (body_weighed kg) body }
 {
     let body = body?;
@@ -24,12 +24,12 @@ fn weighed(body: Option<Body>, kg: Kg) -> Option<Body>
 
 impl Step {
     /// The step with bodies of another weight.
-    pub fn weighed(&self, kg: Kg) -> Step
+    pub fn with_weight(&self, kg: Kg) -> Step
         ensures { result ≡ step_weighed kg self.now }
     {
         Step {
-            out: weighed(self.out, kg),
-            put: weighed(self.put, kg),
+            out: body_with_weight(self.out, kg),
+            put: body_with_weight(self.put, kg),
         }
     }
 }

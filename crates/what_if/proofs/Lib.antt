@@ -1,7 +1,5 @@
 mod ChangeLemmas
-mod FourLemmas
 mod MoveLemmas
 mod PassingLemmas
 mod PastLemmas
-mod RenewLemmas
-mod SwapLemmas
+mod WeighLemmas

@@ -16,9 +16,8 @@ use Rattle.step_edits.specs.Edits.{edit_fault, edited, moved_to}
 use Rattle.step_edits.specs.declared.edits.Edit.TheVariants.{Move}
 use Rattle.units_core.specs.declared.frames.Frame.{Frame}
 use Rattle.units_core.specs.declared.steps.Step.{Step}
-use Rattle.what_if.specs.Bases.{change_of}
-use Rattle.what_if.specs.Changes.{AreOfFour, fours}
-use Rattle.what_if.proofs.FourLemmas.{fours_same, length-fours}
+use Rattle.running_sums.specs.Fours.{AreOfFour, change_of, fours}
+use Rattle.running_sums.proofs.FourLemmas.{fours_same, length-fours}
 
 module _ {X : Type 0} where
   take_insert : (xs : List X) (j n : ℕ) (x : X) → n ≤ j → j ≤ length xs → take n (insert xs j x) ≡ take n xs
@@ -106,25 +105,6 @@ fours_renewed xs ys after four len first end long wrote before behind from to =
     (λ not_past. let inside = lt_of_not-le not_past in
     let is : k ≡ four + (k - four) = omega (arith, high) in
     ap (λ n. get_or after n none_kept) is ∙ wrote.inside (k - four) (omega (arith, high, inside)) ∙ get_or-drop four (fours ys) (k - four) none_kept ∙ ap (λ n. get_or (fours ys) n none_kept) (sym is))))
-
--- sizes of lists that are put together
-pub of_four_from : (xs : List Kept) → ((k : ℕ) → k < length xs → size_of (get_or xs k none_kept) ≤ 8) → AreOfFour xs
-of_four_from [] h = tt
-of_four_from (x ∷ xs) h = (h 0 (omega arith), of_four_from xs (λ k low. h (suc k) (omega (arith, low))))
-
-pub of_four_append : (xs ys : List Kept) → AreOfFour xs → AreOfFour ys → AreOfFour (xs ++ ys)
-of_four_append [] ys h k = k
-of_four_append (x ∷ xs) ys h k = (h.0, of_four_append xs ys h.1 k)
-
-pub of_four_take : (n : ℕ) (xs : List Kept) → AreOfFour xs → AreOfFour (take n xs)
-of_four_take zero xs h = tt
-of_four_take (suc n) [] h = tt
-of_four_take (suc n) (x ∷ xs) h = (h.0, of_four_take n xs h.1)
-
-pub of_four_drop : (n : ℕ) (xs : List Kept) → AreOfFour xs → AreOfFour (drop n xs)
-of_four_drop zero xs h = h
-of_four_drop (suc n) [] h = tt
-of_four_drop (suc n) (x ∷ xs) h = of_four_drop n xs h.1
 
 -- a step that is taken out and put in again, and the edit that orders it
 by_step : (ops : List Op) (i j : ℕ) (d : Op) (o : Option Op) → slice_get ops i ≡ o → i < length ops → put_in (remove ops i) j o ≡ moved_to ops o i j

@@ -1,4 +1,3 @@
 pub mod Bases
-pub mod Changes
 pub mod Desks
 pub mod Sessions

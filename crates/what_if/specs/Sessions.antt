@@ -17,8 +17,7 @@ use Rattle.step_edits.specs.declared.faults.EditFault.{EditFault}
 use Rattle.step_edits.specs.declared.faults.EditFault.TheVariants.{Sequence}
 use Rattle.step_edits.specs.Edits.{edited, edit_fault, place_of}
 use Rattle.port_call.specs.Grounds.{GroundRecord, list_fault, steps_on}
-use Rattle.what_if.specs.Bases.{changes_on}
-use Rattle.what_if.specs.Changes.{CostsUpTo, fours}
+use Rattle.running_sums.specs.Fours.{CostsUpTo, changes_on, fours}
 
 -- Inputs define a base, and a list of steps that can be done from there.
 pub record AreTold (inputs : Inputs) (base : GroundRecord) (ops : List Op) : Type 0 where

@@ -74,7 +74,7 @@ impl Desk {
           joins = 0;
         }) }
     {
-        let list = copies(self.alloc, self.lists.value(ticket.pushed()))?;
+        let list = copies(self.alloc, self.lists.value(ticket.entry()))?;
         let base = Arc::try_clone(&self.base)?;
         match Session::new(self.alloc, base, list) {
             Ok(session) => Ok(session),
@@ -100,6 +100,6 @@ impl Desk {
         requires place { one.now.place ≡ other.now.place }
         ensures { list_of one.now ≡ list_of other.now }
     {
-        self.lists.agrees(one.pushed(), other.pushed());
+        self.lists.agrees(one.entry(), other.entry());
     }
 }

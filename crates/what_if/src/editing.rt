@@ -2,22 +2,25 @@ ghost use Rattle.std.specs.Prelude.{◌≡◌, ◌≢◌, ℕ, ◌+◌, ◌*◌,
 ghost use Rattle.std.specs.Prelude.{IfOk, IfErr, Some, None, ◌/◌, ◌<◌, ◌⊎◌};
 ghost use Rattle.std.specs.List.{swap};
 ghost use Rattle.std.specs.Bool.{OnTrue, OnFalse};
-ghost use Rattle.lift_sequence.specs.Follow.{IsLoad, weighed_at};
+ghost use Rattle.ship_profile.specs.Record.{ProfileRecord};
+ghost use Rattle.lift_sequence.specs.Aboard.{Aboard};
+ghost use Rattle.lift_sequence.specs.Bodies.{steps_of};
+ghost use Rattle.lift_sequence.specs.Follow.{AreReweighed, IsLoad, weighed_at};
 ghost use Rattle.lift_sequence.specs.Independent.{moved};
+ghost use Rattle.lift_sequence.specs.Sequence.{sequence_fault};
 ghost use Rattle.step_edits.specs.Edits.{TellsMemory, edited, edit_fault};
 ghost use Rattle.port_call.specs.Grounds.{list_fault};
-ghost use Rattle.what_if.specs.Changes.{CostsUpTo};
+ghost use Rattle.running_sums.specs.Fours.{CostsUpTo};
 ghost use Rattle.what_if.specs.Sessions.{CostsLittle, IsSummed, refusal, restows_behind};
 
-use crate::fours::Fours;
 use crate::passing::{Room, move_into, other_room};
-use crate::renewing::{renew, renew_both, weigh};
 use crate::summed_lists::SummedList;
 use lift_sequence::{SeqCode, SeqFault, Sequence};
 use moment_sums::Totals;
 use prefix_scan::Monoid;
+use running_sums::{Fours, renew, renew_both};
 use std::alloc::AllocError;
-use step_edits::{Edit, EditFault, edited, fault_of};
+use step_edits::{Edit, EditFault, edit_list, fault_of};
 use units_core::Kg;
 
 /// A refusal of the edited list as one of the edit; out of memory stays out of memory.
@@ -30,6 +33,26 @@ fn list_refusal(fault: SeqFault) -> EditFault
         SeqCode::NoMemory => EditFault::NoMemory,
         _ => EditFault::Sequence(fault),
     }
+}
+
+/// As [`Sequence::reweigh`]. Out of line: how fast its loop over the steps runs would else hang on
+/// where the rest of an edit happens to put it.
+#[inline(never)]
+fn weigh(sequence: &mut Sequence, k: usize, kg: Kg)
+    requires first { 1 ≤ k }
+    requires load { IsLoad sequence.old.ops (k - 1) }
+    ensures ops { sequence.new.ops ≡ weighed_at kg (k - 1) sequence.old.ops }
+    ensures steps { AreReweighed kg (k - 1) sequence.old.ops sequence.old.steps
+        sequence.new.steps }
+    ensures legal { (ship : ProfileRecord) (at : Aboard) →
+        sequence_fault ship at sequence.old.ops ≡ None →
+        sequence_fault ship at sequence.new.ops ≡ None }
+    ensures done { (ship : ProfileRecord) (at : Aboard) →
+        sequence_fault ship at sequence.old.ops ≡ None →
+        sequence.old.steps ≡ steps_of ship at sequence.old.ops →
+        sequence.new.steps ≡ steps_of ship at sequence.new.ops }
+{
+    sequence.reweigh(k, kg);
 }
 
 impl SummedList {
@@ -166,7 +189,7 @@ impl SummedList {
     }
 
     /// The sequence that another edit makes, with its sums.
-    fn rearranged(&self, edit: &Edit) -> Result<(Sequence, Fours), EditFault>
+    fn sequence_after(&self, edit: &Edit) -> Result<(Sequence, Fours), EditFault>
         requires { edit_fault self.now.ops edit.now ≡ None }
         ensures ops { IfOk result (λ made. made.0.ops ≡ edited self.now.ops edit.now) }
         ensures made { IfOk result (λ made. IsSummed self.now.base made.0 made.1) }
@@ -176,14 +199,14 @@ impl SummedList {
             → refusal self.now.base self.now.ops edit.now ≡ Some e) }
         ensures memory { IfErr result TellsMemory }
     {
-        let Ok(ops) = edited(self.alloc, self.sequence.ops(), edit) else {
+        let Ok(ops) = edit_list(self.alloc, self.sequence.ops(), edit) else {
             return Err(EditFault::NoMemory);
         };
         let sequence = match self.base.sequence(self.alloc, ops) {
             Ok(sequence) => sequence,
             Err(fault) => return Err(list_refusal(fault)),
         };
-        match self.sums.renewed(self.alloc, &self.base, &sequence) {
+        match self.sums.with_sequence(self.alloc, &self.base, &sequence) {
             Ok(sums) => Ok((sequence, sums)),
             Err(AllocError) => Err(EditFault::NoMemory),
         }
@@ -201,7 +224,7 @@ impl SummedList {
         ensures memory { IfErr result TellsMemory }
         ensures joins { self.new.joins ≡ self.old.joins }
     {
-        let (sequence, sums) = self.rearranged(edit)?;
+        let (sequence, sums) = self.sequence_after(edit)?;
         let Ok(other) = other_room(self.passed.get_mut(), self.alloc, room, sequence.len()) else {
             return Err(EditFault::NoMemory);
         };

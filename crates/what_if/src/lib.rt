@@ -10,9 +10,7 @@
 
 mod desks;
 mod editing;
-mod fours;
 mod passing;
-mod renewing;
 mod sessions;
 mod summed_lists;
 mod tickets;

@@ -3,7 +3,7 @@
 //! A condition follows from the base and the steps before it. So those that passed pass in every
 //! list that begins with the same steps, and the next search goes on behind them. What is kept has
 //! a copy of these steps, in room that is asked for where the list is made: a search asks for none.
-ghost use Rattle.std.specs.Prelude.{◌≡◌, ◌+◌, ◌≤◌, [], length, take, true, vec_capacity};
+ghost use Rattle.std.specs.Prelude.{◌≡◌, ◌+◌, ◌≤◌, length, take, true};
 ghost use Rattle.std.specs.Arc.{arc_value};
 ghost use Rattle.seq_report.specs.Cases.{passed_before};
 ghost use Rattle.what_if.specs.Bases.{Pass};
@@ -13,6 +13,7 @@ use port_call::Ground;
 use seq_report::Criterion;
 use std::alloc::{AllocError, Global};
 use std::sync::Arc;
+use step_edits::copy_into;
 
 /// The least number of conditions that is worth keeping. By an estimate, to judge so many of a ship
 /// with the fewest stations and frames takes about as long as to compare two bases of a ship with
@@ -57,19 +58,6 @@ fn room_for(steps: usize) -> usize {
     if steps < LEAST { 0 } else { steps }
 }
 
-/// Puts equal steps into an empty list that has room for them.
-fn fill(list: &mut Vec<Op>, ops: &[Op])
-    requires empty { list.old.items ≡ [] }
-    requires room { length ops.now ≤ vec_capacity list.old }
-    ensures { list.new.items ≡ ops.now }
-{
-    for op in ops {
-        let Ok(()) = list.push(op.copy()) else {
-            unreachable!()
-        };
-    }
-}
-
 impl Passed {
     /// That nothing is known of a list of so many steps, with the room that is kept for it.
     pub fn nothing(
@@ -107,7 +95,7 @@ impl Passed {
     /// What is to be kept now: that so many conditions of another list pass, with the steps that
     /// they follow from, as far as there is room for these. It is what was kept before where they
     /// are too few, or where the base has too many owners for one more.
-    fn renewed(self, base: &Arc<Ground, Global>, ops: &[Op], count: usize) -> Passed
+    fn update(self, base: &Arc<Ground, Global>, ops: &[Op], count: usize) -> Passed
         requires { Pass (arc_value base.now) ops.now count }
     {
         if count < LEAST {
@@ -124,7 +112,7 @@ impl Passed {
         list.clear();
         // The condition on arrival follows from no step.
         let steps = (count - 1).min(ops.len()).min(list.capacity());
-        fill(&mut list, &ops[..steps]);
+        copy_into(&mut list, &ops[..steps]);
         Passed {
             base,
             ops: list,
@@ -150,11 +138,11 @@ impl Passed {
     }
 
     /// The same in other room, as far as that goes.
-    fn moved_into(self, mut room: Vec<Op>) -> Passed {
+    fn in_other_room(self, mut room: Vec<Op>) -> Passed {
         let Passed { base, ops, count } = self;
         room.clear();
         let most = ops.len().min(room.capacity());
-        fill(&mut room, &ops[..most]);
+        copy_into(&mut room, &ops[..most]);
         Passed {
             base,
             ops: room,
@@ -164,7 +152,7 @@ impl Passed {
 }
 
 /// How many conditions of a list are known to pass by what is kept.
-pub fn passing_on(kept: &Option<Passed>, base: &Ground, ops: &[Op]) -> usize
+pub fn count_passing(kept: &Option<Passed>, base: &Ground, ops: &[Op]) -> usize
     ensures pass { Pass base.now ops.now result }
     ensures inside { result ≤ length ops.now + 1 }
 {
@@ -175,7 +163,7 @@ pub fn passing_on(kept: &Option<Passed>, base: &Ground, ops: &[Op]) -> usize
 }
 
 /// How many of so many conditions pass before the first that fails.
-pub fn passing_before(first: Option<(u32, Criterion)>, conditions: usize) -> usize
+pub fn count_before(first: Option<(u32, Criterion)>, conditions: usize) -> usize
     ensures { result ≡ passed_before first conditions }
 {
     match first {
@@ -189,7 +177,7 @@ pub fn keep(kept: &mut Option<Passed>, base: &Arc<Ground, Global>, ops: &[Op], c
     requires { Pass (arc_value base.now) ops.now count }
 {
     if let Some(passed) = kept.take() {
-        *kept = Some(passed.renewed(base, ops, count));
+        *kept = Some(passed.update(base, ops, count));
     }
 }
 
@@ -223,6 +211,6 @@ pub fn move_into(kept: &mut Option<Passed>, room: Option<Vec<Op>>) {
         return;
     };
     if let Some(passed) = kept.take() {
-        *kept = Some(passed.moved_into(room));
+        *kept = Some(passed.in_other_room(room));
     }
 }

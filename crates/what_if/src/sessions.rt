@@ -8,7 +8,7 @@ ghost use Rattle.seq_report.specs.Delivery.{Delivers, IsByPlan};
 ghost use Rattle.seq_report.specs.Refusal.{outcome_of};
 ghost use Rattle.step_edits.specs.Edits.{TellsMemory as TellsEditMemory, edited};
 ghost use Rattle.what_if.specs.Bases.{IsJudgedAt, report_on};
-ghost use Rattle.what_if.specs.Changes.{CostsUpTo};
+ghost use Rattle.running_sums.specs.Fours.{CostsUpTo};
 ghost use Rattle.what_if.specs.Sessions.{AreTold, CostsLittle, refusal};
 
 use crate::passing::Room;

@@ -4,23 +4,22 @@ ghost use Rattle.prefix_scan.specs.Cut.{Divides};
 ghost use Rattle.lift_sequence.specs.Arrival.{TellsAt};
 ghost use Rattle.port_call.specs.Grounds.{list_fault, steps_on};
 ghost use Rattle.port_call.specs.Refusals.{TellsMemory, is_refusal};
-ghost use Rattle.seq_report.specs.Chunks.{AreFirstSums};
+ghost use Rattle.running_sums.specs.Lines.{AreFirstSums};
 ghost use Rattle.seq_report.specs.Delivery.{Delivers, IsByPlan};
 ghost use Rattle.seq_report.specs.Plans.{Fits, IsUncut};
 ghost use Rattle.what_if.specs.Bases.{IsJudgedAt, Pass, report_on};
-ghost use Rattle.what_if.specs.Changes.{CostsUpTo};
+ghost use Rattle.running_sums.specs.Fours.{CostsUpTo};
 
-use crate::fours::Fours;
-use crate::passing::{Passed, keep, passing_before, passing_on};
+use crate::passing::{Passed, count_before, count_passing, keep};
 use claim_run::Gate;
 use criteria::{Verdict, judge};
 use lift_sequence::{Op, SeqCode, SeqFault, Sequence};
 use moment_sums::Totals;
 use port_call::{Ground, cuts_refusal};
 use prefix_scan::{Cuts, Monoid};
+use running_sums::{Fours, join_to_arrival};
 use seq_report::{
-    Criterion, CutPlan, Options, RunFault, Sink, Summary, cuts_of, first_fail_behind,
-    joined_to_arrival, report_from,
+    Criterion, CutPlan, Options, RunFault, Sink, Summary, cuts_of, first_fail_behind, report_from,
 };
 use std::alloc::{AllocError, Global};
 use std::marker::Model;
@@ -156,9 +155,9 @@ impl SummedList {
     fn first_fail_kept(&self, kept: &mut Option<Passed>) -> Option<(u32, Criterion)>
         ensures { result ≡ (report_on self.now.base self.now.ops).summary.first }
     {
-        let start = passing_on(kept, &self.base, self.sequence.ops());
+        let start = count_passing(kept, &self.base, self.sequence.ops());
         let first = self.first_fail_behind(start);
-        let passing = passing_before(first, self.sequence.len() + 1);
+        let passing = count_before(first, self.sequence.len() + 1);
         if passing > start {
             keep(kept, &self.base, self.sequence.ops(), passing);
         }
@@ -187,12 +186,12 @@ impl SummedList {
         self.sequence.facts();
         let frames = self.base.profile().frames();
         let changes = self.sums.offsets(self.alloc, &self.sequence, frames, cuts)?;
-        joined_to_arrival(self.alloc, self.base.total(), &changes)
+        join_to_arrival(self.alloc, self.base.total(), &changes)
     }
 
     /// The cuts that a plan makes of the report's lines, and the sum at the first line of each
     /// chunk; or the fault of the plan.
-    fn chunked(&self, plan: CutPlan<'_>) -> Result<(Cuts, Vec<Totals>), RunFault>
+    fn cut_by_plan(&self, plan: CutPlan<'_>) -> Result<(Cuts, Vec<Totals>), RunFault>
         ensures cut { IfOk result (λ made. Divides made.0 (length self.now.ops + 1)) }
         ensures sums { IfOk result (λ made. AreFirstSums self.now.base.ship.ship.frames
             self.now.base.arrival.bodies (steps_on self.now.base self.now.ops) made.0
@@ -228,7 +227,7 @@ impl SummedList {
         ensures accepted { IfErr result (λ e. is_refusal e ≡ false) }
         ensures memory { IfErr result TellsMemory }
     {
-        let (cuts, sums) = match self.chunked(options.cuts) {
+        let (cuts, sums) = match self.cut_by_plan(options.cuts) {
             Ok(made) => made,
             Err(fault) => return Err(fault),
         };

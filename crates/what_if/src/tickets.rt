@@ -40,7 +40,7 @@ impl Ticket {
     }
 
     /// What shows the list at its desk.
-    pub(crate) fn pushed(&self) -> &Pushed<Vec<Op>>
+    pub(crate) fn entry(&self) -> &Pushed<Vec<Op>>
         ensures list { result.now ≡ self.now.list }
         ensures place { result.now.index ≡ self.now.place }
     {

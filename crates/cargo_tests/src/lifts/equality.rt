@@ -103,7 +103,7 @@ fn items(alloc: Global, condition: &Condition) -> Result<Vec<Item>, AllocError> 
 
 /// What a look at what was made gives. What was made is of any type here, so that no proof has to
 /// take an arrival apart.
-fn seen<T: Drop, E: Debug + Drop, R, F: FnOnce(&T) -> R>(
+fn lend<T: Drop, E: Debug + Drop, R, F: FnOnce(&T) -> R>(
     made: Result<T, E>,
     look: F,
 ) -> Result<R, Fail>
@@ -134,7 +134,7 @@ fn is_of(
     profile: &Profile,
     condition: &Condition,
 ) -> Result<bool, Fail> {
-    seen(arrival(alloc, profile, condition), |other: &Arrival| {
+    lend(arrival(alloc, profile, condition), |other: &Arrival| {
         made.same(other)
     })
 }
@@ -147,7 +147,7 @@ fn are_same(
     other: &Profile,
     condition: &Condition,
 ) -> Result<bool, Fail> {
-    seen(arrival(alloc, profile, &PLAIN), |made: &Arrival| {
+    lend(arrival(alloc, profile, &PLAIN), |made: &Arrival| {
         is_of(alloc, made, other, condition)
     })?
 }
@@ -188,7 +188,7 @@ fn is_same_with_block(alloc: Global, profile: &Profile, kg: u32) -> Result<bool,
         "{LIMITS}[[blocks]]\nkg = {kg}\nx_mm = 50000\ny_mm = 0\nz_mm = 6000\nhalf_mm = 50000\n"
     )?;
     let bytes = with_ship(files(), ship.as_bytes());
-    seen(Profile::read(alloc, &bytes), |other: &Profile| {
+    lend(Profile::read(alloc, &bytes), |other: &Profile| {
         are_same(alloc, profile, other, &PLAIN)
     })?
 }

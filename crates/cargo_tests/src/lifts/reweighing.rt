@@ -178,11 +178,11 @@ fn weight_of_a_step(rt: HostRuntime) {
     let load = op(&Order::Weighing(AFT, 20_500));
     same(
         &rt,
-        load.reweighed(mass(24_100)),
+        load.with_weight(mass(24_100)),
         op(&Order::Weighing(AFT, 24_100)),
     );
     same(&rt, load.loaded_cell(), Some(AFT));
     let restow = op(&Order::Restow(AFT, MIDDLE));
-    same(&rt, &restow.reweighed(mass(24_100)), &restow);
+    same(&rt, &restow.with_weight(mass(24_100)), &restow);
     same(&rt, restow.loaded_cell(), None);
 }

@@ -31,7 +31,7 @@ pub fn values(sum: &Totals) -> Values {
 }
 
 /// Two sums of few bodies as one.
-pub fn joined(one: &Totals, other: &Totals) -> Result<Totals, Fail> {
+pub fn join(one: &Totals, other: &Totals) -> Result<Totals, Fail> {
     if one.size() > 1_000 || other.size() > 1_000 {
         return Err("too many bodies")?;
     }
@@ -142,14 +142,14 @@ impl<R: Abort + AllocGlobal> Check<R> for Both {
         let frames = profile.frames();
         let container = Totals::of(&CONTAINER.body()?, frames);
         let other = Totals::of(&BOX.body()?, frames);
-        let both = joined(&container, &other)?;
+        let both = join(&container, &other)?;
         same(rt, values(&both).as_slice(), OF_BOTH.as_slice());
         same(rt, both.parts(), 2);
         same(rt, both.size(), 2);
         let minus = other.minus();
         same(rt, values(&minus).as_slice(), MINUS_BOX.as_slice());
         same(rt, minus.size(), 1);
-        let left = joined(&both, &minus)?;
+        let left = join(&both, &minus)?;
         same(rt, values(&left).as_slice(), OF_CONTAINER.as_slice());
         same(rt, left.parts(), 3);
         Ok(())

@@ -1,5 +1,5 @@
 //! The limits of what the bodies of a ship can add up to. Bodies are 2 mm long here.
-use super::bodies::joined;
+use super::bodies::join;
 use super::ships::on_two_frames;
 use super::tables::Row;
 use crate::checks::same;
@@ -35,7 +35,7 @@ fn body(kg: u32, place: [i32; 3], fsm: i64) -> Result<Body, Fail> {
 }
 
 /// What a part adds.
-fn added(part: &Part, frames: &Frames) -> Result<Totals, Fail> {
+fn add_part(part: &Part, frames: &Frames) -> Result<Totals, Fail> {
     match *part {
         Put(kg, place, fsm) => Ok(Totals::of(&body(kg, place, fsm)?, frames)),
         Take(kg, place, fsm) => Ok(Totals::of(&body(kg, place, fsm)?, frames).minus()),
@@ -46,7 +46,7 @@ fn added(part: &Part, frames: &Frames) -> Result<Totals, Fail> {
 fn sum_of(parts: &[Part], frames: &Frames) -> Result<Totals, Fail> {
     let mut sum = Totals::unit();
     for part in parts {
-        sum = joined(&sum, &added(part, frames)?)?;
+        sum = join(&sum, &add_part(part, frames)?)?;
     }
     Ok(sum)
 }
@@ -271,10 +271,10 @@ impl<R: Abort + AllocGlobal> Check<R> for Surfaces {
         // 200 * 10^12 = 2 * 10^14
         let mut sum = Totals::unit();
         for _ in 0..200 {
-            sum = joined(&sum, &added(&Put(1, FORE, 1_000_000_000_000), frames)?)?;
+            sum = join(&sum, &add_part(&Put(1, FORE, 1_000_000_000_000), frames)?)?;
         }
         same(rt, sum.is_bounded(), true);
-        let more = joined(&sum, &added(&Put(1, FORE, 1), frames)?)?;
+        let more = join(&sum, &add_part(&Put(1, FORE, 1), frames)?)?;
         same(rt, more.is_bounded(), false);
         Ok(())
     }

@@ -1,5 +1,5 @@
 //! What steps change of a sum.
-use super::bodies::{OF_BOTH, OF_CONTAINER, Values, joined, values};
+use super::bodies::{OF_BOTH, OF_CONTAINER, Values, join, values};
 use super::ships::on_two_frames;
 use super::tables::{BOX, CONTAINER};
 use crate::checks::same;
@@ -68,7 +68,7 @@ impl<R: Abort + AllocGlobal> Check<R> for Steps {
         );
         same(rt, values(&discharge).as_slice(), TAKEN_OUT.as_slice());
         same(rt, discharge.size(), 1);
-        let nothing = joined(&load, &discharge)?;
+        let nothing = join(&load, &discharge)?;
         same(rt, values(&nothing).as_slice(), [0; 11].as_slice());
         same(rt, nothing.size(), 2);
         let exchange = Totals::of_step(
@@ -132,7 +132,7 @@ static TWO_CONTAINERS: Values = [
 ];
 
 /// A sum of few bodies after a step.
-fn stepped(sum: &Totals, step: &Step, frames: &Frames) -> Result<Totals, Fail> {
+fn after_step(sum: &Totals, step: &Step, frames: &Frames) -> Result<Totals, Fail> {
     if sum.size() > 1_000 {
         return Err("too many bodies")?;
     }
@@ -156,14 +156,14 @@ impl<R: Abort + AllocGlobal> Check<R> for Running {
             out: None,
             put: container,
         };
-        let loaded = stepped(&sum, &load, frames)?;
+        let loaded = after_step(&sum, &load, frames)?;
         same(rt, values(&loaded).as_slice(), OF_BOTH.as_slice());
         same(rt, loaded.size(), 2);
         let exchange = Step {
             out: Some(first),
             put: container,
         };
-        let exchanged = stepped(&loaded, &exchange, frames)?;
+        let exchanged = after_step(&loaded, &exchange, frames)?;
         same(rt, values(&exchanged).as_slice(), TWO_CONTAINERS.as_slice());
         same(rt, exchanged.size(), 4);
         Ok(())

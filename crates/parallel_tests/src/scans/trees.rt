@@ -170,23 +170,9 @@ fn a_tree_as_the_plain_form(rt: HostRuntime) -> Result<(), Fail> {
     Ok(())
 }
 
-// Three values made four by 5 before them: the prefixes are those of the new list, the first three
-// being 5, 1 and none, and the count goes on from the one join that the set made.
-#[test]
-fn a_tree_rebuilt(rt: HostRuntime) -> Result<(), Fail> {
-    let mut tree = TotalsTree::build(rt.alloc(), &VALUES)?;
-    tree.set(0, FIVE);
-    same(&rt, tree.joins(), 1);
-    let longer = [FIVE, VALUES[0], VALUES[1], VALUES[2]];
-    let tree = tree.rebuilt(rt.alloc(), &longer)?;
-    same(&rt, tree.len(), 4);
-    same(&rt, tree.joins(), 1);
-    same(&rt, tree.peek(3), joined(Some(1), 3));
-    same(&rt, tree.peek(4), joined(Some(3), 4));
-    Ok(())
-}
-
-// The same values, handed over: the prefixes are those of a tree that copies them.
+// Three values, handed over and then made four by 5 before them: the prefixes are those of the new
+// list, the first three being 5, 1 and none, and the count goes on from the one join that the set
+// made.
 #[test]
 fn a_tree_of_its_values(rt: HostRuntime) -> Result<(), Fail> {
     let values = VALUES.to_vec(rt.alloc())?;
@@ -194,7 +180,7 @@ fn a_tree_of_its_values(rt: HostRuntime) -> Result<(), Fail> {
     tree.set(0, FIVE);
     same(&rt, tree.joins(), 1);
     let longer = [FIVE, VALUES[0], VALUES[1], VALUES[2]].to_vec(rt.alloc())?;
-    let tree = tree.renewed(rt.alloc(), longer)?;
+    let tree = tree.with_values(rt.alloc(), longer)?;
     same(&rt, tree.len(), 4);
     same(&rt, tree.joins(), 1);
     same(&rt, tree.peek(3), joined(Some(1), 3));

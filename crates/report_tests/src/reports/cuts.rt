@@ -1,4 +1,4 @@
-use super::{check_refusal, inputs, options, written_by};
+use super::{bytes_by, check_refusal, inputs, options};
 use crate::checks::{holds, same};
 use claim_run::Gate;
 use parallel_tests::notes_of;
@@ -30,7 +30,7 @@ static PLANS: [CutPlan<'static>; 5] = [
 fn two_loads(rt: HostRuntime) {
     for plan in &PLANS {
         for workers in [1, 2, 16] {
-            let (outcome, text) = written_by(&rt, TWO_LOADS, &options(workers, *plan));
+            let (outcome, text) = bytes_by(&rt, TWO_LOADS, &options(workers, *plan));
             same(&rt, text.as_slice(), LINES);
             same(
                 &rt,

@@ -38,7 +38,7 @@ impl<'a> Write for Failing<'a> {
 }
 
 /// The result of the report on an instruction that this number of workers write to this writer.
-fn written_to(
+fn bytes_to(
     rt: &(impl AllocGlobal + Threads + Wait + Sync),
     movins: &[u8],
     workers: u8,
@@ -65,7 +65,7 @@ fn writer_fails_after_seven(rt: HostRuntime) {
             left: 7,
             most: 100,
         };
-        written_to(&rt, NO_MOVES, 2, writer)
+        bytes_to(&rt, NO_MOVES, 2, writer)
     };
     same(&rt, outcome, Err(RunFault::Write(7)));
     same(&rt, taken.as_slice(), b"STEP LI".as_slice());
@@ -85,7 +85,7 @@ fn failing_writers(rt: HostRuntime) {
                     left,
                     most,
                 };
-                written_to(&rt, NO_MOVES, workers, writer)
+                bytes_to(&rt, NO_MOVES, workers, writer)
             };
             let expected = if left < 181 {
                 Err(RunFault::Write(left))
@@ -105,7 +105,7 @@ fn failing_writers(rt: HostRuntime) {
         left: 1000,
         most: 0,
     };
-    let outcome = written_to(&rt, NO_MOVES, 1, writer);
+    let outcome = bytes_to(&rt, NO_MOVES, 1, writer);
     same(&rt, outcome, Err(RunFault::Write(0)));
 }
 
@@ -190,7 +190,7 @@ fn long_report(rt: HostRuntime) -> Result<(), Fail> {
                     left,
                     most: 100_000,
                 };
-                written_to(&rt, movins.as_bytes(), workers, writer)
+                bytes_to(&rt, movins.as_bytes(), workers, writer)
             };
             let expected = if left < whole.len() {
                 Err(RunFault::Write(left))

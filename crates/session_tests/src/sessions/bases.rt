@@ -12,7 +12,7 @@ const ONE_ABOARD: &[u8] =
     b"UNB+UNOA:2+SHIP+PLAN+250101:1200+7'UNH+1+BAPLIE:D:95B:UN'LOC+147+0030082'MEA+WT++KGM:20500'UNT+4+1'UNZ+1+7'";
 
 /// A session on the box ship with this container.
-fn loaded(alloc: Global) -> Result<Session, RunFault> {
+fn load_session(alloc: Global) -> Result<Session, RunFault> {
     Session::read(alloc, &inputs(ONE_ABOARD, NO_MOVES))
 }
 
@@ -23,10 +23,10 @@ fn same_bases(rt: HostRuntime) -> Result<(), Fail> {
     let alloc = rt.alloc();
     let one = session(alloc, TWO_LOADS)?;
     let other = session(alloc, LOAD_TO_STARBOARD)?;
-    let third = loaded(alloc)?;
+    let third = load_session(alloc)?;
     holds(&rt, one.base().same(other.base()));
     holds(&rt, !one.base().same(third.base()));
-    holds(&rt, third.base().same(loaded(alloc)?.base()));
+    holds(&rt, third.base().same(load_session(alloc)?.base()));
     holds(&rt, third.base().profile().same(one.base().profile()));
     same(&rt, one.base().arrival().items().len(), 0);
     same(&rt, third.base().arrival().items().len(), 1);

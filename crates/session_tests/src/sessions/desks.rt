@@ -31,7 +31,7 @@ fn first_step_of(alloc: Global, session: &Session) -> Result<Session, Fail>
 }
 
 /// Each of two threads publishes a list.
-fn published(
+fn publish_on(
     rt: &(impl Threads + Wait + Sync),
     desk: &Desk,
     one: &Session,
@@ -73,7 +73,7 @@ fn is_shared(
     requires one { one.now.base ≡ desk.now.base }
     requires other { other.now.base ≡ desk.now.base }
 {
-    let (first, second) = published(rt, desk, one, other)?;
+    let (first, second) = publish_on(rt, desk, one, other)?;
     let (of_second, of_first) = thread::join(
         rt,
         || opens_to(desk, &second, other),

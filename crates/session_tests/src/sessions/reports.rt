@@ -1,23 +1,10 @@
 //! How the report of a session is made: by the gate, the workers and the cuts of its caller.
 use super::{TWO_LOADS, report_of, session};
 use crate::checks::{holds, same};
-use claim_run::{Gate, Workers};
+use claim_run::Workers;
+use parallel_tests::Counts;
 use seq_report::{CutPlan, Options, Through};
-use std::sync::atomic::AtomicU64;
-use std::sync::atomic::Ordering::SeqCst;
 use std::test::Fail;
-
-/// A gate that counts its calls.
-#[derive(Drop)]
-struct Counts {
-    passed: AtomicU64,
-}
-
-impl Gate for Counts {
-    fn pass(&self, _worker: u8, _chunk: u32) {
-        self.passed.fetch_add(1, SeqCst);
-    }
-}
 
 /// Workers, cuts of three lines, and how many chunks these make.
 static CUTS: [(u8, CutPlan<'static>, u64); 4] = [
@@ -34,9 +21,7 @@ fn gates_and_cuts(rt: HostRuntime) -> Result<(), Fail> {
     let session = session(rt.alloc(), TWO_LOADS)?;
     let expected = report_of(&rt, &session);
     for (count, cuts, chunks) in &CUTS {
-        let gate = Counts {
-            passed: AtomicU64::new(0),
-        };
+        let gate = Counts::new();
         let mut taken = Vec::new(rt.alloc());
         let options = Options {
             workers: Workers::new(*count).ok_or("workers")?,
@@ -45,7 +30,7 @@ fn gates_and_cuts(rt: HostRuntime) -> Result<(), Fail> {
         let outcome = session.report(&rt, &gate, &options, &mut Through::new(&mut taken));
         holds(&rt, outcome.is_ok());
         same(&rt, taken.as_slice(), expected.as_slice());
-        same(&rt, gate.passed.load(SeqCst), *chunks);
+        same(&rt, gate.calls(), *chunks);
     }
     Ok(())
 }

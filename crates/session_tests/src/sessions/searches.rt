@@ -125,7 +125,7 @@ fn check_lengthened(
 }
 
 /// Edits of a list of 3,000 steps, near its end and near its head.
-fn edited(rt: &(impl Abort + AllocGlobal), session: &mut Session) -> Result<(), Fail> {
+fn edit_list(rt: &(impl Abort + AllocGlobal), session: &mut Session) -> Result<(), Fail> {
     check_first(rt, session, None)?;
     check_reweighed(rt, session, 2_801, HEAVY, Some(2_801))?;
     check_reweighed(rt, session, 2_301, HEAVY, Some(2_301))?;
@@ -140,7 +140,7 @@ fn edited(rt: &(impl Abort + AllocGlobal), session: &mut Session) -> Result<(), 
 
 /// The last of 2,000 steps is left out, and that is taken back: of a shorter list nothing is kept,
 /// and room for it is asked for only when the list has become longer.
-fn shortened(rt: &(impl Abort + AllocGlobal), session: &mut Session) -> Result<(), Fail> {
+fn shorten(rt: &(impl Abort + AllocGlobal), session: &mut Session) -> Result<(), Fail> {
     check_first(rt, session, None)?;
     same(rt, session.apply(Edit::Remove { at: 2_000 }), Ok(()));
     check_first(rt, session, None)?;
@@ -173,12 +173,12 @@ fn searched_by_two(rt: HostRuntime) -> Result<(), Fail> {
 fn searched_again(rt: HostRuntime) -> Result<(), Fail> {
     let read = session(rt.alloc(), NO_MOVES)?;
     let mut long = session_on(rt.alloc(), &read, turns(rt.alloc(), 1_500)?)?;
-    edited(&rt, &mut long)
+    edit_list(&rt, &mut long)
 }
 
 #[test]
 fn searched_after_a_removal(rt: HostRuntime) -> Result<(), Fail> {
     let read = session(rt.alloc(), NO_MOVES)?;
     let mut long = session_on(rt.alloc(), &read, turns(rt.alloc(), 1_000)?)?;
-    shortened(&rt, &mut long)
+    shorten(&rt, &mut long)
 }

@@ -1,6 +1,6 @@
 //! Which profiles are equal: those of the same files, and none of which one value differs. The ship
 //! is that of unlike numbers.
-use super::files::seen;
+use super::files::lend;
 use super::profiles::with_text;
 use super::values::unlike_ship;
 use crate::checks::{holds, holds_row};
@@ -12,7 +12,7 @@ use std::test::Fail;
 /// Whether a profile is the one that these files are.
 fn is_of(alloc: Global, profile: &Profile, files: &ProfileBytes<'_>) -> Result<bool, Fail> {
     let read = Profile::read(alloc, files);
-    seen(read, |other: &Profile| profile.same(other))
+    lend(read, |other: &Profile| profile.same(other))
 }
 
 /// Whether the profiles of two ships' files are equal.
@@ -22,7 +22,7 @@ fn are_same(
     second: &ProfileBytes<'_>,
 ) -> Result<bool, Fail> {
     let read = Profile::read(alloc, first);
-    seen(read, |profile: &Profile| is_of(alloc, profile, second))?
+    lend(read, |profile: &Profile| is_of(alloc, profile, second))?
 }
 
 /// The text of a file; none of one that isn't there.

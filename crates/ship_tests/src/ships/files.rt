@@ -151,7 +151,7 @@ pub fn box_files<'a>(
 
 /// What a look at what was read gives. What was read is of any type here, so that no proof has to
 /// take a profile apart.
-pub fn seen<T: Drop, R, F: FnOnce(&T) -> R>(
+pub fn lend<T: Drop, R, F: FnOnce(&T) -> R>(
     read: Result<T, ProfileFault>,
     look: F,
 ) -> Result<R, Fail>

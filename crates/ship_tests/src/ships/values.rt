@@ -1,6 +1,6 @@
 //! What a profile gives, compared with the numbers that stand in its files. The ship is one of
 //! which no two numbers are equal, so that one in the place of another shows.
-use super::files::{check_words, seen};
+use super::files::{check_words, lend};
 use super::profiles::with_text;
 use ship_profile::{Curves, File, Hydro, Profile, ProfileBytes, one_array, one_profile};
 use std::alloc::Global;
@@ -159,7 +159,7 @@ fn limits_text(alloc: Global, profile: &Profile) -> Result<String, Fail> {
     debug_text(alloc, (profile.downflooding(), lengths, others))
 }
 
-fn shown(alloc: Global, profile: &Profile, asked: Asked) -> Result<String, Fail> {
+fn values_shown(alloc: Global, profile: &Profile, asked: Asked) -> Result<String, Fail> {
     match asked {
         Asked::Limits => limits_text(alloc, profile),
         Asked::Stations => debug_text(alloc, profile.stations()),
@@ -183,7 +183,10 @@ fn shown(alloc: Global, profile: &Profile, asked: Asked) -> Result<String, Fail>
 /// What is asked of the profile that these files are.
 fn answer(alloc: Global, files: &ProfileBytes<'_>, asked: Asked) -> Result<String, Fail> {
     let read = Profile::read(alloc, files);
-    seen(read, |profile: &Profile| shown(alloc, profile, asked))?
+    lend(
+        read,
+        |profile: &Profile| values_shown(alloc, profile, asked),
+    )?
 }
 
 /// Compares an answer of these files with the expected one.

@@ -19,7 +19,7 @@ pub struct Container {
 }
 
 /// The box ship with a container.
-pub fn loaded(profile: &Profile, container: Container) -> Result<Totals, Fail>
+pub fn totals_with(profile: &Profile, container: Container) -> Result<Totals, Fail>
     ensures bounded { IfOk result (λ t. IsBounded (values t)) }
     ensures kg { IfOk result (λ t. unsigned_abs (values t Weight) ≤ 10 ^ 9) }
 {

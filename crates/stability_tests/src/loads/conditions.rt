@@ -1,6 +1,6 @@
 //! The loads of the box ship, empty and with a container of 20,500 kg. One millimetre of draught is
 //! 200 cm2 of each section, and 512.5 kg of an interval of 25 m.
-use super::cargo::{Container, floating, loaded};
+use super::cargo::{Container, floating, totals_with};
 use crate::checks::same;
 use box_ship::{Check, on_box_ship};
 use hydrostat::DraughtLine;
@@ -74,7 +74,7 @@ impl Condition {
 
 impl<R: Abort + AllocGlobal> Check<R> for Condition {
     fn check(&self, rt: &R, profile: &Profile) -> Result<(), Fail> {
-        let sum = loaded(profile, self.container)?;
+        let sum = totals_with(profile, self.container)?;
         let afloat = floating(profile, &sum)?;
         let hull = Hull::new(profile);
         let line = DraughtLine::new(&afloat.afloat);

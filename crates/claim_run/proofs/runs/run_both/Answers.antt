@@ -14,8 +14,8 @@ gather-requires-clause-slots g c κs within =
     let count : length slots.items ≡ c.in_ok-board.board.pieces = omega (arith, made.count, slots.ok, pieces) in
     (count, right_none (g.J.Job.value c.args.job.now) slots.items 0 (λ k d h. made.none k d (omega (arith, h, count, pieces))))
 
-pub unwrapped-requires-clause-full : goal.unwrapped-requires-clause-full
-unwrapped-requires-clause-full g c κs within k low =
+pub values_in_slots-requires-clause-full : goal.values_in_slots-requires-clause-full
+values_in_slots-requires-clause-full g c κs within k low =
     let pieces = c.in_ok-board.board.pieces in
     let hand = c.in_ok-hand.hand in
     let there : k < pieces = omega (arith, low, c.gather.ensures.slots.0) in

@@ -7,7 +7,7 @@ use Rattle.command_line.proofs.lines.line_for.Goals as goal
 
 pub returns-in-Err-clause-usage : goal.returns-in-Err-clause-usage
 returns-in-Err-clause-usage c usage =
-    not_true (takes (command_of c.args.task) (map (λ w. w.now) c.args.words.now)) (λ t. c.refused.ensures usage (c.in-Err.ensures.refused t))
+    not_true (takes (command_of c.args.task) (map (λ w. w.now) c.args.words.now)) (λ t. c.usage_fault.ensures usage (c.in-Err.ensures.refused t))
 
 pub returns-clause-ok : goal.returns-clause-ok
 returns-clause-ok c =

@@ -5,6 +5,6 @@ use Rattle.csv_text.proofs.numbers.number.Goals as goal
 
 pub returns-in-Some : goal.returns-in-Some
 returns-in-Some c =
-    let is : natural_in c.args.text.now ≡ Some c.in-Some.size = sym c.natural.ensures.value ∙ c.in-Some.is in
+    let is : natural_in 18 c.args.text.now ≡ Some c.in-Some.size = sym c.natural.ensures.value ∙ c.in-Some.is in
     let same : to_z w64 c.in-Some.size ≡ pos c.in-Some.size = search rules in
     ap (λ z. Some z) same ∙ sym (natural-number c.args.text.now c.in-Some.size is)

@@ -8,7 +8,7 @@ is_sure q top divisor rest within e above below = record { within = within; abov
 
 pub returns-then-is_sure : goal.returns-then-is_sure
 returns-then-is_sure c =
-    let q = c.signed-draught.result in
+    let q = c.to_signed-draught.result in
     let d = c.args.divisor in
     let s : FitsSigned w64 q = search rules in
     let r : FitsSigned w64 c.rest_of.result = search rules in
@@ -17,5 +17,5 @@ returns-then-is_sure c =
     let rest = simp (to_z-of_z t, to_z-of_z s, to_z-of_z c.ranges.divisor) at c.rest_of.ensures in
     let above = simp (to_z-of_z r) at c.if-is_sure.ensures.low refl in
     let below = simp (to_z-of_z r, to_z-of_z c.ranges.divisor) at c.if-is_sure.ensures.high refl in
-    simp (to_z-of_z s) (is_sure q (c.args.base -ℤ (c.args.step *ℤ c.args.x)) d c.rest_of.result c.signed-draught.ensures
+    simp (to_z-of_z s) (is_sure q (c.args.base -ℤ (c.args.step *ℤ c.args.x)) d c.rest_of.result c.to_signed-draught.ensures
     (rest ∙ (λ i. top i -ℤ (q *ℤ d))) above below)

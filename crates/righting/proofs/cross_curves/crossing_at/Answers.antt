@@ -9,13 +9,13 @@ loop-k-preserved c =
     let inv = c.loop-k.invariant in
     let k = c.loop-k.k in
     let w = c.ranges.kg in
-    let out : FitsSigned w128 c.displaced.result = search rules in
+    let out : FitsSigned w128 c.curve_reading.result = search rules in
     let n = inv.size in
     let less : k < length c.loop-k.lever = omega arith in
     let done = simp (to_z-of_z w) at inv.done in
-    let value = simp (to_z-of_z w) at c.displaced.ensures.value in
+    let value = simp (to_z-of_z w) at c.curve_reading.ensures.value in
     record {
       size = simp length-set n;
-      done = simp (to_z-of_z out, to_z-of_z w) (set_done c.loop-k.lever (λ j. (curve_at c.args.curves.now c.args.kg j c.args.i).top) k c.displaced.result less done value);
-      within = simp (to_z-of_z out) (set_within c.loop-k.lever k c.displaced.result (10 ^ 14) less inv.within c.displaced.ensures.within);
+      done = simp (to_z-of_z out, to_z-of_z w) (set_done c.loop-k.lever (λ j. (curve_at c.args.curves.now c.args.kg j c.args.i).top) k c.curve_reading.result less done value);
+      within = simp (to_z-of_z out) (set_within c.loop-k.lever k c.curve_reading.result (10 ^ 14) less inv.within c.curve_reading.ensures.within);
     }

@@ -11,8 +11,7 @@ first_failing-requires-clause-chunk c =
     record {
       some = omega (arith, c.lines.ensures, c.requires.inside);
       inside = omega (arith, c.lines.ensures);
-      sum = c.sum_at.ensures.sum;
-      size = c.sum_at.ensures.room;
+      sum = c.sum_at.ensures;
     }
 
 pub returns : goal.returns

@@ -1,28 +1,15 @@
-use Rattle.std.proofs.Common.{◌≡◌, ◌∙◌, ◌++◌, ◌+◌, ◌-◌, [], ◌∷◌, map, ap, refl, sym, subst, arith}
+use Rattle.std.proofs.Common.{◌≡◌, ◌∙◌, ◌++◌, ◌+◌, ◌-◌, [], ◌∷◌, map, ap, sym, arith}
 use Rattle.std.specs.List.{range_with_len}
 use Rattle.std.specs.Option.{option_or}
 use Rattle.std.proofs.lemmas.List.FromFn.{map-range_with_len_more}
-use Rattle.moment_sums.specs.Bounded.{IsBounded}
 use Rattle.moment_sums.specs.Kept.{values}
 use Rattle.port_call.specs.Views.{case_in_view}
 use Rattle.seq_report.specs.Cases.{line_in}
-use Rattle.seq_report.specs.Chunks.{Part, change_behind, part_of}
+use Rattle.seq_report.specs.Chunks.{Part, part_of}
 use Rattle.seq_report.specs.Report.{Line, Statement, failure_of, lift_to, line_of, step_line, text_of}
 use Rattle.seq_report.proofs.ChunkLemmas.{part_more}
-use Rattle.seq_report.proofs.SumLemmas.{line_here, next_size, next_sum, parts_split, sum_here}
+use Rattle.seq_report.proofs.LineLemmas.{line_here}
 use Rattle.seq_report.proofs.sections.make_section.Goals as goal
-
-pub judge-requires-clause-bounded : goal.judge-requires-clause-bounded
-judge-requires-clause-bounded c =
-    let case = case_in_view c.args.case in
-    let ready = c.args.case.ready in
-    let k = c.loop-k.k in
-    subst IsBounded (sym (c.loop-k.invariant.sum ∙ sum_here case ready k)) (ready.bounded k)
-
-pub pass_line-requires-clause-room : goal.pass_line-requires-clause-room
-pass_line-requires-clause-room c =
-    let split = parts_split (case_in_view c.args.case).sequence.steps c.loop-k.k in
-    omega (arith, split, c.loop-k.invariant.size)
 
 pub loop-k-preserved : goal.loop-k-preserved
 loop-k-preserved c =
@@ -43,9 +30,8 @@ loop-k-preserved c =
           ∙ (λ j. record { text = c.loop-k.section.text ++ line_of (c.lift_to.ensures j) (c.judge.ensures j); first = option_or c.loop-k.section.first (failure_of (c.judge.ensures j)) })
           ∙ ap (λ (p : Part). record { text = p.text ++ text_of line; first = option_or p.first (failure_of s) }) inv.lines
           ∙ part_more lines line
-          ∙ ap (λ (l : Line). part_of (lines ++ l ∷ [])) (line_here case ready k (values c.loop-k.sum) inv.sum)
+          ∙ ap (λ (l : Line). part_of (lines ++ l ∷ [])) (line_here case ready k (values c.loop-k.sum) inv.sum.value)
           ∙ ap part_of (sym (map-range_with_len_more (line_in case) start n k here))
           ∙ ap (λ m. part_of (map (line_in case) (range_with_len start m))) more;
-      sum = next_sum case ready k c.loop-k.sum (change_behind case.profile.ship.frames case.sequence.steps k) c.pass_line.new.sum inv.sum refl c.pass_line.ensures;
-      size = next_size case ready k c.loop-k.sum (change_behind case.profile.ship.frames case.sequence.steps k) c.pass_line.new.sum inv.size refl c.pass_line.ensures;
+      sum = c.walk_on.ensures;
     }

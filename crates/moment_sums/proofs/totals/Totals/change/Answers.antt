@@ -17,11 +17,11 @@ invariant_of-self c =
     let b = c.args.body.now in
     let taken = c.args.taken in
     let place = c.place-place.ensures in
-    let f1 : FitsSigned w128 a.kg = search rules in let g1 : FitsSigned w64 c.kg.result = search rules in let h1 : FitsSigned w128 c.changed-self-inside.result = search rules in
-    let f2 : FitsSigned w128 a.x = search rules in let g2 : FitsSigned w64 c.moment_of.result = search rules in let h2 : FitsSigned w128 c.changed-self-inside-2.result = search rules in
-    let f3 : FitsSigned w128 a.y = search rules in let g3 : FitsSigned w64 c.moment_of-2.result = search rules in let h3 : FitsSigned w128 c.changed-self-inside-3.result = search rules in
-    let f4 : FitsSigned w128 a.z = search rules in let g4 : FitsSigned w64 c.moment_of-3.result = search rules in let h4 : FitsSigned w128 c.changed-self-inside-4.result = search rules in
-    let f5 : FitsSigned w128 a.fsm = search rules in let g5 : FitsSigned w64 c.surface_of.result = search rules in let h5 : FitsSigned w128 c.changed-self-inside-5.result = search rules in
+    let f1 : FitsSigned w128 a.kg = search rules in let g1 : FitsSigned w64 c.kg.result = search rules in let h1 : FitsSigned w128 c.add_or_take-self-inside.result = search rules in
+    let f2 : FitsSigned w128 a.x = search rules in let g2 : FitsSigned w64 c.moment_of.result = search rules in let h2 : FitsSigned w128 c.add_or_take-self-inside-2.result = search rules in
+    let f3 : FitsSigned w128 a.y = search rules in let g3 : FitsSigned w64 c.moment_of-2.result = search rules in let h3 : FitsSigned w128 c.add_or_take-self-inside-3.result = search rules in
+    let f4 : FitsSigned w128 a.z = search rules in let g4 : FitsSigned w64 c.moment_of-3.result = search rules in let h4 : FitsSigned w128 c.add_or_take-self-inside-4.result = search rules in
+    let f5 : FitsSigned w128 a.fsm = search rules in let g5 : FitsSigned w64 c.surface_of.result = search rules in let h5 : FitsSigned w128 c.add_or_take-self-inside-5.result = search rules in
     let kg = c.kg.ensures.value in
     let x = c.moment_of.ensures.value ∙ ap (λ (p : Place). pos b.kg *ℤ p.x) place in
     let y = c.moment_of-2.ensures.value ∙ ap (λ (p : Place). pos b.kg *ℤ p.y) place in
@@ -36,13 +36,13 @@ invariant_of-self c =
     let part = change_kept taken c.args.frames.now b c.change_shares.ensures.few (subst (λ (n : ℤ). unsigned_abs n ≤ 10 ^ 9) kg c.kg.ensures.within) (subst (λ (n : ℤ). unsigned_abs n ≤ 10 ^ 15) x c.moment_of.ensures.within) (subst (λ (n : ℤ). unsigned_abs n ≤ 10 ^ 15) y c.moment_of-2.ensures.within) (subst (λ (n : ℤ). unsigned_abs n ≤ 10 ^ 15) z c.moment_of-3.ensures.within) (subst (λ (n : ℤ). unsigned_abs n ≤ 10 ^ 12) fsm c.surface_of.ensures.within)
     c.change_shares.ensures.weights.small c.change_shares.ensures.moments.small in
     kept_sum left (kept_of (change_of taken c.args.frames.now b) 1) c.self.invariant part few
-    (record { kg = to_z w128 (of_z w128 c.changed-self-inside.result); x = to_z w128 (of_z w128 c.changed-self-inside-2.result); y = to_z w128 (of_z w128 c.changed-self-inside-3.result); z = to_z w128 (of_z w128 c.changed-self-inside-4.result); fsm = to_z w128 (of_z w128 c.changed-self-inside-5.result); weights_aft = c.change_shares.new.weights; moments_aft = c.change_shares.new.moments; parts = a.parts + 1 })
+    (record { kg = to_z w128 (of_z w128 c.add_or_take-self-inside.result); x = to_z w128 (of_z w128 c.add_or_take-self-inside-2.result); y = to_z w128 (of_z w128 c.add_or_take-self-inside-3.result); z = to_z w128 (of_z w128 c.add_or_take-self-inside-4.result); fsm = to_z w128 (of_z w128 c.add_or_take-self-inside-5.result); weights_aft = c.change_shares.new.weights; moments_aft = c.change_shares.new.moments; parts = a.parts + 1 })
     (λ i. record {
-      kg = change_read taken _ _ _ _ _ f1 g1 h1 c.changed-self-inside.ensures refl kg i;
-      x = change_read taken _ _ _ _ _ f2 g2 h2 c.changed-self-inside-2.ensures refl x i;
-      y = change_read taken _ _ _ _ _ f3 g3 h3 c.changed-self-inside-3.ensures refl y i;
-      z = change_read taken _ _ _ _ _ f4 g4 h4 c.changed-self-inside-4.ensures refl z i;
-      fsm = change_read taken _ _ _ _ _ f5 g5 h5 c.changed-self-inside-5.ensures refl fsm i;
+      kg = change_read taken _ _ _ _ _ f1 g1 h1 c.add_or_take-self-inside.ensures refl kg i;
+      x = change_read taken _ _ _ _ _ f2 g2 h2 c.add_or_take-self-inside-2.ensures refl x i;
+      y = change_read taken _ _ _ _ _ f3 g3 h3 c.add_or_take-self-inside-3.ensures refl y i;
+      z = change_read taken _ _ _ _ _ f4 g4 h4 c.add_or_take-self-inside-4.ensures refl z i;
+      fsm = change_read taken _ _ _ _ _ f5 g5 h5 c.add_or_take-self-inside-5.ensures refl fsm i;
       weights_aft = weights i;
       moments_aft = moments i;
       parts = a.parts + 1;
@@ -54,11 +54,11 @@ returns-clause-kept c =
     let b = c.args.body.now in
     let taken = c.args.taken in
     let place = c.place-place.ensures in
-    let f1 : FitsSigned w128 a.kg = search rules in let g1 : FitsSigned w64 c.kg.result = search rules in let h1 : FitsSigned w128 c.changed-self-inside.result = search rules in
-    let f2 : FitsSigned w128 a.x = search rules in let g2 : FitsSigned w64 c.moment_of.result = search rules in let h2 : FitsSigned w128 c.changed-self-inside-2.result = search rules in
-    let f3 : FitsSigned w128 a.y = search rules in let g3 : FitsSigned w64 c.moment_of-2.result = search rules in let h3 : FitsSigned w128 c.changed-self-inside-3.result = search rules in
-    let f4 : FitsSigned w128 a.z = search rules in let g4 : FitsSigned w64 c.moment_of-3.result = search rules in let h4 : FitsSigned w128 c.changed-self-inside-4.result = search rules in
-    let f5 : FitsSigned w128 a.fsm = search rules in let g5 : FitsSigned w64 c.surface_of.result = search rules in let h5 : FitsSigned w128 c.changed-self-inside-5.result = search rules in
+    let f1 : FitsSigned w128 a.kg = search rules in let g1 : FitsSigned w64 c.kg.result = search rules in let h1 : FitsSigned w128 c.add_or_take-self-inside.result = search rules in
+    let f2 : FitsSigned w128 a.x = search rules in let g2 : FitsSigned w64 c.moment_of.result = search rules in let h2 : FitsSigned w128 c.add_or_take-self-inside-2.result = search rules in
+    let f3 : FitsSigned w128 a.y = search rules in let g3 : FitsSigned w64 c.moment_of-2.result = search rules in let h3 : FitsSigned w128 c.add_or_take-self-inside-3.result = search rules in
+    let f4 : FitsSigned w128 a.z = search rules in let g4 : FitsSigned w64 c.moment_of-3.result = search rules in let h4 : FitsSigned w128 c.add_or_take-self-inside-4.result = search rules in
+    let f5 : FitsSigned w128 a.fsm = search rules in let g5 : FitsSigned w64 c.surface_of.result = search rules in let h5 : FitsSigned w128 c.add_or_take-self-inside-5.result = search rules in
     let kg = c.kg.ensures.value in
     let x = c.moment_of.ensures.value ∙ ap (λ (p : Place). pos b.kg *ℤ p.x) place in
     let y = c.moment_of-2.ensures.value ∙ ap (λ (p : Place). pos b.kg *ℤ p.y) place in
@@ -68,11 +68,11 @@ returns-clause-kept c =
     let weights = changed_row a.weights_aft c.change_shares.new.weights (λ i. signed taken (at_frame weight_aft (slice_get c.args.frames.now i) b)) c.self.invariant.weights_places c.change_shares.ensures.weights.places c.change_shares.ensures.weights.each in
     let moments = changed_row a.moments_aft c.change_shares.new.moments (λ i. signed taken (at_frame moment_aft (slice_get c.args.frames.now i) b)) c.self.invariant.moments_places c.change_shares.ensures.moments.places c.change_shares.ensures.moments.each in
     (λ i. record {
-      kg = change_read taken _ _ _ _ _ f1 g1 h1 c.changed-self-inside.ensures refl kg i;
-      x = change_read taken _ _ _ _ _ f2 g2 h2 c.changed-self-inside-2.ensures refl x i;
-      y = change_read taken _ _ _ _ _ f3 g3 h3 c.changed-self-inside-3.ensures refl y i;
-      z = change_read taken _ _ _ _ _ f4 g4 h4 c.changed-self-inside-4.ensures refl z i;
-      fsm = change_read taken _ _ _ _ _ f5 g5 h5 c.changed-self-inside-5.ensures refl fsm i;
+      kg = change_read taken _ _ _ _ _ f1 g1 h1 c.add_or_take-self-inside.ensures refl kg i;
+      x = change_read taken _ _ _ _ _ f2 g2 h2 c.add_or_take-self-inside-2.ensures refl x i;
+      y = change_read taken _ _ _ _ _ f3 g3 h3 c.add_or_take-self-inside-3.ensures refl y i;
+      z = change_read taken _ _ _ _ _ f4 g4 h4 c.add_or_take-self-inside-4.ensures refl z i;
+      fsm = change_read taken _ _ _ _ _ f5 g5 h5 c.add_or_take-self-inside-5.ensures refl fsm i;
       weights_aft = weights i;
       moments_aft = moments i;
       parts = a.parts + 1;

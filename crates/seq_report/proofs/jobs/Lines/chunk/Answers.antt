@@ -1,7 +1,8 @@
-use Rattle.std.proofs.Common.{◌∙◌, ap, sym, arith}
+use Rattle.std.proofs.Common.{◌∙◌, ap, subst, sym, arith}
+use Rattle.moment_sums.specs.Bounded.{IsBounded}
 use Rattle.port_call.specs.Views.{case_in_view}
-use Rattle.seq_report.specs.Cases.{sum_in}
-use Rattle.seq_report.specs.Chunks.{parts_behind}
+use Rattle.running_sums.specs.Lines.{parts_behind, sum_in}
+use Rattle.running_sums.proofs.SumLemmas.{sum_here}
 use Rattle.seq_report.proofs.jobs.Lines.chunk.Goals as goal
 
 pub returns-clause-chunk : goal.returns-clause-chunk
@@ -10,9 +11,13 @@ returns-clause-chunk c =
     let sums = c.args.self.now.sum in
     let start = c.lines_of-lines.ensures.start in
     let at = c.index-self-k.result in
+    let value = sums.sum c.args.k at c.requires ∙ ap (sum_in case) (sym start) in
     record {
       some = c.lines_of-lines.ensures.some;
       inside = c.lines_of-lines.ensures.inside;
-      sum = sums.sum c.args.k at c.requires ∙ ap (sum_in case) (sym start);
-      size = let size = sums.size c.args.k at c.requires in omega (arith, size, ap (parts_behind case.sequence.steps) start);
+      sum = record {
+        value = value;
+        bounded = subst IsBounded (sym (value ∙ sum_here case c.args.self.now.case.ready c.lines_of-lines.result.start)) (c.args.self.now.case.ready.bounded c.lines_of-lines.result.start);
+        room = let size = sums.size c.args.k at c.requires in omega (arith, size, ap (parts_behind case.sequence.steps) start);
+      };
     }

@@ -9,7 +9,7 @@ returns-then-eq c =
     let blocks = c.self.inside.blocks.items in
     let entries = c.self.inside.entries.items in
     let cells = c.self.inside.cells.items in
-    let at : c.told_at-at.result ≡ index_in blocks entries c.args.cell = search rules in
+    let at : c.index_at-at.result ≡ index_in blocks entries c.args.cell = search rules in
     let inside : index_in blocks entries c.args.cell < length cells = search rules in
     let is : get_or cells (index_in blocks entries c.args.cell) c.args.cell ≡ c.args.cell = search rules in
     rw (← c.self.view_is)
@@ -21,7 +21,7 @@ returns-else-at-len c =
     let blocks = c.self.inside.blocks.items in
     let entries = c.self.inside.entries.items in
     let cells = c.self.inside.cells.items in
-    let at : c.told_at-at.result ≡ index_in blocks entries c.args.cell = search rules in
+    let at : c.index_at-at.result ≡ index_in blocks entries c.args.cell = search rules in
     rw (← c.self.view_is)
     (sym (told_none (index_in blocks entries) cells (c.self.invariant (search rules)) c.args.cell (λ d inside is.
     elim c.else-at-len.branch [

@@ -8,8 +8,7 @@ use Rattle.lift_sequence.proofs.States.{as_many}
 use Rattle.prefix_scan.specs.Rows.{IsWritten}
 use Rattle.moment_sums.specs.Kept.{Kept, none_kept}
 use Rattle.port_call.specs.Grounds.{GroundRecord, aboard_first}
-use Rattle.what_if.specs.Bases.{change_of}
-use Rattle.what_if.specs.Changes.{fours}
+use Rattle.running_sums.specs.Fours.{change_of, fours}
 use Rattle.what_if.specs.Sessions.{IsSummed, Summed}
 use Rattle.what_if.proofs.ChangeLemmas.{are_kept, are_of_four, as_many_fours, as_many_steps}
 use Rattle.what_if.proofs.MoveLemmas.{changes_before, changes_behind, fours_renewed, length_moved}

@@ -7,10 +7,10 @@ use Rattle.lift_sequence.specs.Independent.{moved}
 use Rattle.step_edits.specs.declared.faults.EditFault.TheVariants.{Sequence}
 use Rattle.step_edits.specs.Edits.{edit_fault, edited}
 use Rattle.port_call.specs.Grounds.{list_fault}
-use Rattle.what_if.specs.Changes.{CostsUpTo}
+use Rattle.running_sums.specs.Fours.{CostsUpTo}
 use Rattle.what_if.specs.Sessions.{CostsLittle, Summed, restows_behind}
 use Rattle.what_if.proofs.MoveLemmas.{is_moved}
-use Rattle.what_if.proofs.RenewLemmas.{place_less}
+use Rattle.what_if.proofs.WeighLemmas.{place_less}
 use Rattle.what_if.proofs.summed_lists.SummedList.edit.Goals as goal
 
 pub returns-in-Reweigh-clause-made : goal.returns-in-Reweigh-clause-made

@@ -5,11 +5,11 @@ use Rattle.std.proofs.lemmas.List.Edits.{length-swap}
 use Rattle.ship_profile.specs.Record.{ProfileRecord}
 use Rattle.lift_sequence.specs.declared.operations.Op.{Op}
 use Rattle.port_call.specs.Grounds.{GroundRecord, aboard_first}
-use Rattle.what_if.specs.Bases.{change_of}
+use Rattle.running_sums.specs.Fours.{CostsUpTo, WereExchanged, change_of, fours}
 use Rattle.what_if.specs.Sessions.{IsSummed, Summed}
-use Rattle.what_if.specs.Changes.{CostsUpTo, WereExchanged, fours}
-use Rattle.what_if.proofs.ChangeLemmas.{are_kept, as_many_steps, small}
-use Rattle.what_if.proofs.SwapLemmas.{map_swap}
+use Rattle.running_sums.proofs.ChangeLemmas.{small}
+use Rattle.what_if.proofs.ChangeLemmas.{are_kept, as_many_steps}
+use Rattle.running_sums.proofs.SwapLemmas.{map_swap}
 use Rattle.what_if.proofs.summed_lists.SummedList.exchange.Goals as goal
 
 pub invariant_of-self : goal.invariant_of-self

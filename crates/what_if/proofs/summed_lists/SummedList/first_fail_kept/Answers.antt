@@ -18,6 +18,6 @@ keep-requires c =
     let told = sym (reports base s) ∙ ap (λ (v : Summed). report_on v.base v.ops) c.self.view_is in
     let first : c.first_fail_behind-first.result ≡ (outcome_in case).summary.first = c.first_fail_behind-first.ensures ∙ ap (λ (o : Outcome). o.summary.first) (sym told) in
     let lines : c.len.result + 1 ≡ suc (length s.ops) = omega (arith, c.len.ensures) in
-    let count : c.passing_before-passing.result ≡ passed_before (outcome_in case).summary.first (suc (length s.ops)) = c.passing_before-passing.ensures ∙ (λ j. passed_before (first j) (lines j)) in
-    let pass : Pass base s.ops c.passing_before-passing.result = subst (λ n. Pass base s.ops n) (sym count) (all_passed case) in
-    subst (λ (l : List Op). Pass base l c.passing_before-passing.result) (sym c.ops-then-passing-start.ensures) pass
+    let count : c.count_before-passing.result ≡ passed_before (outcome_in case).summary.first (suc (length s.ops)) = c.count_before-passing.ensures ∙ (λ j. passed_before (first j) (lines j)) in
+    let pass : Pass base s.ops c.count_before-passing.result = subst (λ n. Pass base s.ops n) (sym count) (all_passed case) in
+    subst (λ (l : List Op). Pass base l c.count_before-passing.result) (sym c.ops-then-passing-start.ensures) pass

@@ -6,10 +6,9 @@ use Rattle.prefix_scan.specs.Cut.{start_of}
 use Rattle.prefix_scan.specs.Folds.{prefix}
 use Rattle.moment_sums.specs.Kept.{Kept, both_kept, none_kept, size_of}
 use Rattle.ship_profile.specs.Record.{ProfileRecord}
-use Rattle.seq_report.specs.Chunks.{AreFirstSums}
+use Rattle.running_sums.specs.Lines.{AreFirstSums}
 use Rattle.port_call.specs.Grounds.{GroundRecord, IsGround, steps_on}
-use Rattle.what_if.specs.Bases.{change_of}
-use Rattle.what_if.specs.Changes.{fours}
+use Rattle.running_sums.specs.Fours.{change_of, fours}
 use Rattle.what_if.specs.Sessions.{Summed}
 use Rattle.what_if.proofs.ChangeLemmas.{are_kept, changes_fit, first_sums, starts_within}
 use Rattle.what_if.proofs.summed_lists.SummedList.first_sums.Goals as goal
@@ -27,8 +26,8 @@ offsets-requires-clause-sums c =
     let same : c.frames-frames.result.now ≡ frames = c.frames-frames.ensures.value ∙ ap (λ (p : ProfileRecord). p.ship.frames) (c.profile.ensures ∙ ap (λ (b : GroundRecord). b.ship) c.deref.ensures) in
     are_kept base c.self.inside.sequence c.self.inside.sums c.self.invariant ∙ (λ j. fours (map (change_of (sym same j)) c.self.inside.sequence.steps))
 
-pub joined_to_arrival-requires-clause-sizes : goal.joined_to_arrival-requires-clause-sizes
-joined_to_arrival-requires-clause-sizes c =
+pub join_to_arrival-requires-clause-sizes : goal.join_to_arrival-requires-clause-sizes
+join_to_arrival-requires-clause-sizes c =
     let frames = (arc_value c.self.inside.base).ship.ship.frames in
     let equal : c.frames-frames.result.now ≡ frames = c.frames-frames.ensures.value ∙ ap (λ (p : ProfileRecord). p.ship.frames) (c.profile.ensures ∙ ap (λ (b : GroundRecord). b.ship) c.deref.ensures) in
     let each = λ (k : ℕ) (e : Kept) (h : k < length c.args.cuts.now). c.in_ok-changes.ensures.each k e h ∙ (λ j. prefix none_kept both_kept (map (change_of (equal j)) c.self.inside.sequence.steps) (start_of c.args.cuts.now k)) in
@@ -49,10 +48,10 @@ returns c =
     let is_base = subst (λ (b : GroundRecord). IsGround b.ship b.arrival total) c.deref-2.ensures c.total.ensures in
     let same = ap (λ (v : Summed). length v.ops) c.self.view_is in
     let cut = subst (λ n. Divides c.args.cuts.now (n + 1)) (sym same) c.requires in
-    IfOk-weaker c.joined_to_arrival.result _ _
+    IfOk-weaker c.join_to_arrival.result _ _
     (λ sums made.
     let first = first_sums base c.self.inside.sequence c.self.inside.sums c.self.invariant total is_base c.facts.ensures c.args.cuts.now cut
     c.in_ok-changes.changes.items c.in_ok-changes.ensures.count each sums.items (made ∙ ap (map (both_kept total)) c.deref-3.ensures.value) in
     subst (λ (v : Summed). AreFirstSums v.base.ship.ship.frames v.base.arrival.bodies (steps_on v.base v.ops) c.args.cuts.now sums.items) c.self.view_is
     (subst (λ steps. AreFirstSums base.ship.ship.frames base.arrival.bodies steps c.args.cuts.now sums.items) c.self.invariant.steps first))
-    c.joined_to_arrival.ensures
+    c.join_to_arrival.ensures

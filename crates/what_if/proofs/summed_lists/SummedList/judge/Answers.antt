@@ -7,10 +7,10 @@ use Rattle.criteria.specs.Figures.{IsVerdict}
 use Rattle.prefix_scan.specs.Folds.{prefix}
 use Rattle.moment_sums.specs.Kept.{both_kept, none_kept}
 use Rattle.port_call.specs.Grounds.{GroundRecord, IsGround, aboard_first}
-use Rattle.what_if.specs.Bases.{IsJudgedAt, change_of}
+use Rattle.running_sums.specs.Fours.{CostsUpTo, change_of, fours}
+use Rattle.what_if.specs.Bases.{IsJudgedAt}
 use Rattle.port_call.specs.Sums.{sum_at}
 use Rattle.what_if.specs.Sessions.{Summed}
-use Rattle.what_if.specs.Changes.{CostsUpTo, fours}
 use Rattle.what_if.proofs.ChangeLemmas.{are_kept, bounded_after, joined_fits, sum_after}
 use Rattle.what_if.proofs.summed_lists.SummedList.judge.Goals as goal
 

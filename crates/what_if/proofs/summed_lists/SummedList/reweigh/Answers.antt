@@ -4,11 +4,11 @@ use Rattle.ship_profile.specs.Record.{ProfileRecord}
 use Rattle.lift_sequence.proofs.FollowLemmas.{as_long}
 use Rattle.lift_sequence.proofs.States.{as_many}
 use Rattle.port_call.specs.Grounds.{GroundRecord, aboard_first}
-use Rattle.what_if.specs.Bases.{change_of}
-use Rattle.what_if.specs.Changes.{CostsUpTo, WereNear, fours}
+use Rattle.running_sums.specs.Fours.{CostsUpTo, WereNear, change_of, fours}
 use Rattle.what_if.specs.Sessions.{Summed, restows_behind}
 use Rattle.what_if.proofs.ChangeLemmas.{are_kept, as_many_steps}
-use Rattle.what_if.proofs.RenewLemmas.{cost_after, were_near}
+use Rattle.what_if.proofs.WeighLemmas.{cost_after}
+use Rattle.running_sums.proofs.RenewLemmas.{were_near}
 use Rattle.what_if.proofs.summed_lists.SummedList.reweigh.Goals as goal
 
 pub renew-requires-clause-near : goal.renew-requires-clause-near

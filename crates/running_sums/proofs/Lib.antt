@@ -1,0 +1,6 @@
+pub mod ChangeLemmas
+pub mod FourLemmas
+pub mod OffsetLemmas
+pub mod RenewLemmas
+pub mod SumLemmas
+pub mod SwapLemmas

@@ -1,0 +1,22 @@
+//! What is aboard at the lines of a port call's report, added up without adding up each of them
+//! from the beginning.
+//!
+//! [`walk_on`] changes the sum at a line into that at the next one. [`sums_of`] gives the sum at
+//! the first line of each chunk of a report: workers add up what changes in each chunk, and the
+//! offsets of these totals are joined to what is aboard on arrival. [`Fours`] keeps what each four
+//! steps of a list change together, in a tree, so that the sum at any line takes few joins;
+//! [`renew`] and [`renew_both`] set just the fours that another weight or an exchange of two steps
+//! changes.
+//!
+//! The definitions are `Lines` and `Fours` of `specs/`.
+#![tactic(auto)]
+
+mod chunk_sums;
+mod chunks;
+mod fours;
+mod renewing;
+
+pub use chunk_sums::{chunk_count, lines_of, sums_of};
+pub use chunks::{join_to_arrival, walk_on};
+pub use fours::Fours;
+pub use renewing::{renew, renew_both};

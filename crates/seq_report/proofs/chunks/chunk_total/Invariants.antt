@@ -1,8 +1,0 @@
-use Rattle.std.proofs.Common.{◌≡◌, ◌-◌}
-use Rattle.std.specs.List.{range_with_len}
-use Rattle.seq_report.specs.Chunks.{changes_behind}
-use Rattle.seq_report.proofs.chunks.chunk_total.Given as goal
-
-abbrev pub invariant-loop-k : goal.invariant-loop-k
-invariant-loop-k l =
-    l.sum ≡ changes_behind l.case.profile.now.ship.frames l.case.sequence.now.steps (range_with_len l.start (l.k - l.start))

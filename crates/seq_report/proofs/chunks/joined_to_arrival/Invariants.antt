@@ -1,6 +1,0 @@
-use Rattle.std.proofs.Common.{◌≡◌, map, take}
-use Rattle.moment_sums.specs.Kept.{both_kept}
-use Rattle.seq_report.proofs.chunks.joined_to_arrival.Given as goal
-
-abbrev pub invariant-loop-change : goal.invariant-loop-change
-invariant-loop-change l = l.sums.items ≡ map (both_kept l.arrival) (take l.change-index l.changes)

@@ -1,8 +1,0 @@
-use Rattle.std.proofs.Common.{◌+◌, length, arith}
-use Rattle.seq_report.proofs.FirstLemmas.{few_chunks}
-use Rattle.seq_report.proofs.jobs.chunk_count.Goals as goal
-
-pub overflow_cast-result : goal.overflow_cast-result
-overflow_cast-result c =
-    let few = few_chunks c.args.cuts.now (length c.args.case.sequence.now.ops + 1) c.requires in
-    omega (arith, c.chunks.ensures.count, few, c.args.case.ready.few)

@@ -1,8 +1,0 @@
-use Rattle.std.proofs.Common.{◌+◌, suc, length, arith}
-use Rattle.prefix_scan.proofs.CutLemmas.{start_within}
-use Rattle.seq_report.proofs.jobs.lines_of.Goals as goal
-
-pub returns-clause-inside : goal.returns-clause-inside
-returns-clause-inside c =
-    let within = start_within c.args.cuts.now (length c.args.case.sequence.now.ops + 1) (suc c.args.k) c.requires.cut (omega (arith, c.requires.there)) in
-    omega (arith, within, c.range.ensures.bounds.1)
