@@ -92,7 +92,7 @@ fn stow_items(
         number += 1;
         let body = match stow_item(stowage, profile, item) {
             Ok(body) => body,
-            Err(code) => return Err(fault_at(number, code)),
+            Err(code) => return Err(fault_at(code, number)),
         };
         if bodies.push(body).is_err() {
             return Err(NO_MEMORY);
@@ -131,7 +131,7 @@ fn fill_bodies(alloc: Global, profile: &Profile, fills: &[TankFill]) -> Result<V
     for fill in fills {
         number += 1;
         let Some(body) = profile.tank_item(fill.tank, fill.kg) else {
-            return Err(fault_at(number, SeqCode::TankOver));
+            return Err(fault_at(SeqCode::TankOver, number));
         };
         if bodies.push(body).is_err() {
             return Err(NO_MEMORY);

@@ -66,8 +66,8 @@ pub const NO_MEMORY: SeqFault = SeqFault {
     at: 0,
 };
 
-/// The fault of a cause at a number. Out of memory has none.
-pub fn fault_at(at: u32, code: SeqCode) -> SeqFault
+/// The fault of a cause at the number of an item, a fill or a step. Out of memory has no number.
+pub fn fault_at(code: SeqCode, at: u32) -> SeqFault
     ensures code { result.code ≡ code }
     ensures told { code ≢ SeqCode.NoMemory → result ≡ fault_at at code }
     ensures memory { code ≡ SeqCode.NoMemory → result.at ≡ 0 }

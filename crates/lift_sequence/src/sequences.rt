@@ -71,7 +71,7 @@ fn make_all(
         // moved whole, it isn't covered
         let Step { out, put } = match stowage.make(profile, op) {
             Ok(step) => step,
-            Err(code) => return Err(fault_at(number, code)),
+            Err(code) => return Err(fault_at(code, number)),
         };
         if steps.push(Step { out, put }).is_err() {
             return Err(NO_MEMORY);
@@ -166,7 +166,7 @@ impl Sequence {
         ensures memory { IfErr result (λ e. e.code ≡ SeqCode.NoMemory → e.at ≡ 0) }
     {
         if ops.len() > MAX_STEPS {
-            return Err(fault_at(MAX_STEPS as u32 + 1, SeqCode::TooManySteps));
+            return Err(fault_at(SeqCode::TooManySteps, MAX_STEPS as u32 + 1));
         }
         let Ok(mut stowage) = arrival.stowage(alloc) else {
             return Err(NO_MEMORY);
