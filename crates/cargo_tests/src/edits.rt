@@ -4,7 +4,9 @@ use lift_sequence::{Op, SeqCode, SeqFault};
 use std::alloc::{AllocError, Global};
 use std::process::Abort;
 use std::test::Fail;
-use step_edits::{Edit, EditFault, copies, edit_list, fault_of, inverse, inverse_takes_back};
+use step_edits::{
+    Edit, EditFault, copies, copy_into, edit_list, fault_of, inverse, inverse_takes_back,
+};
 use stow_messages::{Item, Lift};
 use units_core::Cell;
 
@@ -222,6 +224,16 @@ fn steps_are_copied(rt: HostRuntime) -> Result<(), Fail> {
     let ops = steps(rt.alloc(), &LIST)?;
     let copy = copies(rt.alloc(), &ops)?;
     let copied_codes = codes(rt.alloc(), &copy)?;
+    same(&rt, copied_codes.as_slice(), LIST.as_slice());
+    Ok(())
+}
+
+#[test]
+fn steps_are_copied_into_room(rt: HostRuntime) -> Result<(), Fail> {
+    let ops = steps(rt.alloc(), &LIST)?;
+    let mut list = Vec::with_capacity(rt.alloc(), ops.len())?;
+    copy_into(&mut list, &ops);
+    let copied_codes = codes(rt.alloc(), &list)?;
     same(&rt, copied_codes.as_slice(), LIST.as_slice());
     Ok(())
 }

@@ -16,6 +16,7 @@ mod faults;
 mod readings;
 mod searches;
 mod sinks;
+mod sums;
 
 /// The inputs of a run of the box ship with nothing aboard.
 fn inputs(movins: &[u8]) -> Inputs<'_> {

@@ -1,5 +1,5 @@
--- Bookkeeping: the sum at each line of a case, what changes behind a line, and the lines of a
--- chunk.
+-- What changes behind a line of a case, and which lines are in a chunk. Beside that bookkeeping:
+-- the sum at each line.
 use Rattle.std.specs.Prelude.{◌≡◌, ℕ, zero, suc, ◌+◌, ◌-◌, ◌*◌, ◌<◌, ◌≤◌, List, length, map, drop}
 use Rattle.std.specs.Prelude.{sum_by, slice_index, slice_index_or, slice_get, Option, None, Some}
 use Rattle.std.specs.List.{fold, range_with_len}
