@@ -1,5 +1,6 @@
 pub mod Assessment
 pub mod Criteria
+pub mod Exact
 pub mod Failing
 pub mod Figures
 pub mod Judgement

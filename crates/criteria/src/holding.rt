@@ -1,10 +1,14 @@
-ghost use Rattle.std.specs.Prelude.{◌≡◌, ◌<◌, slice_get, Some};
-ghost use Rattle.criteria.specs.Criteria.{criteria};
+ghost use Rattle.std.specs.Prelude.{◌≡◌, ◌<◌, ℕ, slice_get, Some};
+ghost use Rattle.units_core.specs.Ratio.{Ratio};
+ghost use Rattle.criteria.specs.Criteria.{criteria, holds};
+ghost use Rattle.criteria.specs.Exact.{condition_by};
 ghost use Rattle.criteria.specs.Least.{IsLeast};
+ghost use Rattle.criteria.specs.Measures.{AreMeasures};
 ghost use Rattle.criteria.specs.Met.{IsFirstNotMet, IsHeld};
 
 use crate::criterion::Criterion;
 use crate::decisions::{draughts_hold, is_stiff, least_holds, list_holds};
+use crate::exact::Exact;
 use crate::frames::{bending_holds, shear_holds};
 use crate::levers::{lever_reaches, peaks_from};
 use crate::measures::CurveMeasures;
@@ -82,6 +86,24 @@ fn holds(
         Criterion::C10 => bending_holds(profile.frames().as_slice(), &strains.bending),
         Criterion::C11 => least_holds(a, least),
     }
+}
+
+/// Whether a condition within the ship's tables meets a criterion, whatever else it meets. Its
+/// loads are beside its exact numbers.
+pub fn is_met(profile: &Profile, exact: &Exact, strains: &Strains, criterion: Criterion) -> bool
+    requires length { exact.now.afloat.lbp ≡ profile.now.ship.lbp }
+    requires least { IsLeast exact.now.least }
+    ensures { (y : ℕ → Ratio) → AreMeasures exact.now.curve y → result
+        ≡ holds profile.now.ship (condition_by exact.now y strains.now) criterion }
+{
+    holds(
+        profile,
+        &exact.afloat,
+        &exact.curve,
+        strains,
+        exact.least,
+        criterion,
+    )
 }
 
 /// The first criterion that doesn't hold of a condition within the ship's tables.

@@ -14,6 +14,7 @@ pub fn draught_by(a: &Afloat, trim: i128, x: i128) -> Frac
         ≡ ((a.now.draught *ℤ a.now.mct) *ℤ a.now.lbp) +ℤ (trim *ℤ (a.now.lcf -ℤ (x *ℤ a.now.gap))) }
     ensures den { result.den ≡ (a.now.gap *ℤ a.now.mct) *ℤ a.now.lbp }
     ensures size { unsigned_abs result.den ≤ 10 ^ 31 }
+    ensures num_size { unsigned_abs result.num ≤ 10 ^ 38 }
 {
     Frac {
         num: a.draught * a.mct * a.lbp + trim * (a.lcf - x * a.gap),
@@ -26,6 +27,7 @@ pub fn draught_by(a: &Afloat, trim: i128, x: i128) -> Frac
 pub fn draught(a: &Afloat, x: i128) -> Frac
     requires { unsigned_abs x ≤ 10 ^ 6 }
     ensures value { Is result.num result.den (draught_at (water a.now) (load a.now) a.now.lbp x) }
+    ensures num { unsigned_abs result.num ≤ 10 ^ 38 }
     ensures den { unsigned_abs result.den ≤ 10 ^ 31 }
 {
     draught_by(a, trim_top(a), x)

@@ -17,6 +17,7 @@ mod readings;
 mod searches;
 mod sinks;
 mod sums;
+mod worst;
 
 /// The inputs of a run of the box ship with nothing aboard.
 fn inputs(movins: &[u8]) -> Inputs<'_> {

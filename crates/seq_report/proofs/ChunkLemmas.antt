@@ -35,7 +35,7 @@ chunks_to ends up (suc k) low =
     ∙ ap (λ (l : List ℕ). range_with_len 0 s ++ l) (append-nil (chunk_of ends k))
     ∙ range_join 0 s s (e - s) e (omega arith) (omega arith)
 
-chunks_whole : (ends : List ℕ) (len : ℕ) → Divides ends len → flat_map (chunk_of ends) (range_with_len 0 (length ends)) ≡ range_with_len 0 len
+pub chunks_whole : (ends : List ℕ) (len : ℕ) → Divides ends len → flat_map (chunk_of ends) (range_with_len 0 (length ends)) ≡ range_with_len 0 len
 chunks_whole ends len d = chunks_to ends d.rising (length ends) (omega arith) ∙ ap (range_with_len 0) d.whole
 
 or_none : (a : Option (ℕ × Criterion)) → option_or a None ≡ a

@@ -94,7 +94,7 @@ impl<'a> Scout for Lines<'a> {
 
 impl<'a> Lines<'a> {
     /// Chunk `k`.
-    fn chunk(&self, k: u32) -> Chunk
+    pub fn chunk(&self, k: u32) -> Chunk
         requires { k < length self.now.cuts.now }
         ensures lines { lines_in result ≡ chunk_of self.now.cuts.now k }
         ensures chunk { IsChunk (case_in_view self.now.case) result }

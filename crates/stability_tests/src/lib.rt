@@ -1,9 +1,12 @@
-//! Tests of `hydrostat`, `righting`, `strength` and `criteria`, which go by their public calls
-//! alone. They stand apart since the tests of a crate are proved together with all of it once more.
+//! Tests of `hydrostat`, `righting`, `strength`, `criteria` and `fractions`, which go by their
+//! public calls alone. They stand apart since the tests of a crate are proved together with all of
+//! it once more.
 #![tactic(auto)]
 
 #[cfg(test)]
 mod checks;
+#[cfg(test)]
+mod comparing;
 #[cfg(test)]
 mod floating;
 #[cfg(test)]

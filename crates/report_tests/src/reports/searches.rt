@@ -6,7 +6,7 @@ use seq_report::{Criterion, first_fail_behind};
 
 /// A container of 20,500 kg aft, and then one of 999,999 kg to starboard, by which the ship lists
 /// beyond her limit: a tangent of 0.2516, where she may have 0.05.
-const HEAVY_SECOND: &[u8] =
+pub const HEAVY_SECOND: &[u8] =
     b"UNB+UNOA:2+PLAN+SHIP+250101:1200+8'UNH+1+MOVINS:D:95B:UN'HAN+LOA'LOC+147+0050082'MEA+WT++KGM:20500'EQD+CN'LOC+147+0030782'MEA+WT++KGM:999999'EQD+CN'UNT+9+1'UNZ+1+8'";
 
 /// The first step of a port call that fails, and what a search says that judges the lines from that

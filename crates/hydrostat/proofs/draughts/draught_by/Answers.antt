@@ -22,6 +22,7 @@ record Sizes (l : Afloat) (t x : ℤ) : Type 0 where
   pub den : FitsSigned w128 ((l.gap *ℤ l.mct) *ℤ l.lbp)
   pub positive : pos 1 ≤ℤ ((l.gap *ℤ l.mct) *ℤ l.lbp)
   pub den_size : unsigned_abs ((l.gap *ℤ l.mct) *ℤ l.lbp) ≤ 10 ^ 31
+  pub num_size : unsigned_abs (((l.draught *ℤ l.mct) *ℤ l.lbp) +ℤ (t *ℤ (l.lcf -ℤ (x *ℤ l.gap)))) ≤ 10 ^ 38
 
 sizes : (l : Afloat) (t x : ℤ) → unsigned_abs x ≤ 10 ^ 6 → unsigned_abs t ≤ 2 * 10 ^ 23 → Sizes l t x
 sizes l t x h k =
@@ -51,6 +52,7 @@ sizes l t x h k =
       den = fits_within _ _ den (omega arith);
       positive = product_positive _ _ (product_positive _ _ l.gap_positive l.mct_positive) l.lbp_positive;
       den_size = omega (arith, den);
+      num_size = omega (arith, num);
     }
 
 pub overflow_mul-result-2 : goal.overflow_mul-result-2
@@ -87,3 +89,6 @@ returns-clause-den c = let s = sizes c.args.a.now c.args.trim c.args.x c.require
 
 pub returns-clause-size : goal.returns-clause-size
 returns-clause-size c = let s = sizes c.args.a.now c.args.trim c.args.x c.requires.x c.requires.trim in simp (to_z-of_z s.gap, to_z-of_z s.mct, to_z-of_z s.lbp, to_z-of_z s.gap_mct, to_z-of_z s.den) s.den_size
+
+pub returns-clause-num_size : goal.returns-clause-num_size
+returns-clause-num_size c = let s = sizes c.args.a.now c.args.trim c.args.x c.requires.x c.requires.trim in simp (to_z-of_z s.gap, to_z-of_z s.mean, to_z-of_z s.trim, to_z-of_z s.mct, to_z-of_z s.lcf, to_z-of_z s.lbp, to_z-of_z s.place, to_z-of_z s.mean_mct, to_z-of_z s.level, to_z-of_z s.x_gap, to_z-of_z s.arm, to_z-of_z s.turn, to_z-of_z s.num) s.num_size

@@ -1,0 +1,6 @@
+pub mod GatherLemmas
+pub mod LoadLemmas
+pub mod LowestTerms
+pub mod MeasureLemmas
+pub mod RowLemmas
+pub mod WorstLemmas

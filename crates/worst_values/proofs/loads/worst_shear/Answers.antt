@@ -1,0 +1,34 @@
+use Rattle.std.proofs.Common.{rules, ◌≡◌, ◌∙◌, ℕ, ◌+◌, ◌<◌, ℤ, pos, List, [], ◌∷◌, drop, length, get_or, Option, Some, option_map, refl, sym, subst, ap, arith, FitsSigned, to_z-of_z}
+use Rattle.std.specs.Int.{w64, w128}
+use Rattle.std.proofs.lemmas.List.{drop_all}
+use Rattle.units_core.specs.Interpolation.{at}
+use Rattle.units_core.specs.declared.frames.Frame.{Frame}
+use Rattle.worst_values.specs.Worst.{Candidate, joined, candidate_of, worst_of}
+use Rattle.worst_values.proofs.WorstLemmas.{worst_none}
+use Rattle.worst_values.specs.Limits.{bending_limit, bendings, part_of, shears}
+use Rattle.worst_values.proofs.LoadLemmas.{frame_more, joined_none}
+use Rattle.worst_values.proofs.loads.worst_shear.Goals as goal
+
+pub loop-i-preserved : goal.loop-i-preserved
+loop-i-preserved c =
+    let i = c.loop-i.i in
+    let frame = c.index-frames-i.result in
+    let load = get_or c.args.shear.now i (pos 0) in
+    let f : FitsSigned w128 load = search rules in
+    let own : FitsSigned w64 frame.shear_max = search rules in
+    let g = subst (λ (fr : Frame). FitsSigned w64 fr.shear_max) c.index-frames-i.is own in
+    let part = simp (to_z-of_z f, to_z-of_z g) at c.part_of.ensures in
+    let at_frame : Frame → ℕ → Candidate = λ fr k. record { step = c.args.step; place = k; safety = part_of (at c.args.shear.now k) fr.shear_max } in
+    let all : List Frame → ℕ → List Candidate = λ fs k. shears (λ j. at c.args.shear.now j) c.args.step fs k in
+    let now = option_map candidate_of c.loop-i.worst in
+    frame_more at_frame all (λ fr more k. refl) c.args.frames.now i frame now (option_map candidate_of c.joined-worst.result) (worst_of (all c.args.frames.now 0)) c.loop-i-test.true c.index-frames-i.is
+    c.loop-i.invariant
+    (c.joined-worst.ensures ∙ ap (λ (x : Candidate). joined now (Some x)) (part ∙ (λ j. record { step = c.args.step; place = i; safety = part_of load (sym c.index-frames-i.is j).shear_max })))
+
+pub returns : goal.returns
+returns c =
+    let frames = c.args.frames.now in
+    let i = c.loop-i.i in
+    let of = λ (fs : List Frame) (k : ℕ). shears (λ j. at c.args.shear.now j) c.args.step fs k in
+    sym (c.loop-i.invariant ∙ ap (λ (fs : List Frame). joined (option_map candidate_of c.loop-i.worst) (worst_of (of fs i))) (drop_all i frames c.loop-i-test.false)
+    ∙ ap (joined (option_map candidate_of c.loop-i.worst)) worst_none ∙ joined_none (option_map candidate_of c.loop-i.worst))

@@ -1,0 +1,9 @@
+use Rattle.std.proofs.Common.{◌≡◌, drop, option_map}
+use Rattle.units_core.specs.Interpolation.{at}
+use Rattle.worst_values.specs.Limits.{shears}
+use Rattle.worst_values.specs.Worst.{candidate_of, joined, worst_of}
+use Rattle.worst_values.proofs.loads.worst_shear.Given as goal
+
+abbrev pub invariant-loop-i : goal.invariant-loop-i
+invariant-loop-i l = worst_of (shears (λ j. at l.shear j) l.step l.frames 0)
+    ≡ joined (option_map candidate_of l.worst) (worst_of (shears (λ j. at l.shear j) l.step (drop l.i l.frames) l.i))

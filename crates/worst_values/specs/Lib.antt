@@ -1,0 +1,6 @@
+pub mod Findings
+pub mod Limits
+pub mod Lowest
+pub mod Rows
+pub mod Stretches
+pub mod Worst

@@ -1,0 +1,28 @@
+//! The worst value of every limit over all conditions of a port call, exactly, with the first step
+//! at which it stands; and which criteria each condition doesn't meet.
+//!
+//! [`found_in`] answers both ([`Findings`]): workers go through chunks of lines, and what they find
+//! is joined in the order of the lines. It is the same for every number of workers, every gate and
+//! every cut.
+//!
+//! The definitions are `Worst`, `Limits` and `Findings` of `specs/`.
+#![tactic(auto)]
+
+mod candidates;
+mod findings;
+mod jobs;
+mod joining;
+mod limits;
+mod loads;
+mod rows;
+mod stretches;
+mod unmet;
+mod values;
+mod walks;
+
+pub use findings::Findings;
+pub use jobs::found_in;
+pub use limits::{Limit, limit_at};
+pub use rows::Rows;
+pub use stretches::{Stretch, Stretches};
+pub use values::Value;

@@ -1,0 +1,65 @@
+ghost use Rattle.std.specs.Prelude.{◌≡◌, ◌≢◌, ℕ, ◌<◌, length, option_map, None};
+ghost use Rattle.worst_values.specs.Rows.{row_of};
+ghost use Rattle.worst_values.specs.Worst.{candidate_of, joined};
+
+use crate::joining::joined;
+use crate::values::Value;
+use std::marker::Model;
+
+/// How many rows the table of limits has.
+const ROWS: usize = 14;
+
+/// The worst value of each row of the table of limits, where one was found.
+#[derive(Debug, Drop)]
+pub struct Rows {
+    rows: [Option<Value>; ROWS],
+}
+
+impl Model for Rows {
+    ghost use Rattle.std.specs.Prelude.{List, map, Option, option_map};
+    ghost use Rattle.worst_values.specs.Worst.{Candidate, candidate_of};
+
+    ghost Value = { List (Option Candidate) };
+
+    ghost view = { λ r. map (option_map candidate_of) r.rows };
+}
+
+impl Rows {
+    /// No value yet.
+    pub fn new() -> Rows
+        ensures length { length result ≡ 14 }
+        ensures none { (j : ℕ) → row_of result j ≡ None }
+    {
+        Rows { rows: [None; ROWS] }
+    }
+
+    /// The worst value of a row.
+    pub fn get(&self, row: usize) -> Option<Value>
+        requires { row < 14 }
+        ensures { option_map candidate_of result ≡ row_of self.now row }
+    {
+        self.rows[row]
+    }
+
+    /// Joins to a row what is found behind.
+    pub fn note(&mut self, row: usize, found: Option<Value>)
+        requires { row < 14 }
+        ensures length { length self.new ≡ length self.old }
+        ensures here { row_of self.new row
+            ≡ joined (row_of self.old row) (option_map candidate_of found) }
+        ensures others { (j : ℕ) → j ≢ row → row_of self.new j ≡ row_of self.old j }
+    {
+        self.rows[row] = joined(self.rows[row], found);
+    }
+
+    /// Joins to each row that of the lines behind.
+    pub fn join(&mut self, behind: &Rows)
+        ensures length { length self.new ≡ length self.old }
+        ensures each { (j : ℕ) → j < 14
+            → row_of self.new j ≡ joined (row_of self.old j) (row_of behind.now j) }
+    {
+        for row in 0..ROWS {
+            self.note(row, behind.get(row));
+        }
+    }
+}
