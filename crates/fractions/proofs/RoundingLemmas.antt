@@ -28,13 +28,13 @@ opposite_tests a b c d f g =
 zero_times : (d : ℤ) → pos 0 *ℤ d ≡ pos 0
 zero_times d = rw (diff_of d, diff_of (pos 0)) (simp differences (diff_same _ _ _ _ (omega arith)))
 
-neg_times : (a b : ℤ) → neg_ℤ a *ℤ b ≡ neg_ℤ (a *ℤ b)
+pub neg_times : (a b : ℤ) → neg_ℤ a *ℤ b ≡ neg_ℤ (a *ℤ b)
 neg_times a b =
     let none : neg_ℤ a +ℤ a ≡ pos 0 = omega (arith, signed_arith) in
     let all : (neg_ℤ a *ℤ b) +ℤ (a *ℤ b) ≡ pos 0 = sym (distributes (neg_ℤ a) a b) ∙ ap (λ x. x *ℤ b) none ∙ zero_times b in
     omega (arith, signed_arith, all)
 
-turn : (x y z : ℤ) → (x *ℤ y) *ℤ z ≡ (x *ℤ z) *ℤ y
+pub turn : (x y z : ℤ) → (x *ℤ y) *ℤ z ≡ (x *ℤ z) *ℤ y
 turn x y z = associates x y z ∙ ap (λ v. x *ℤ v) (commutes y z) ∙ sym (associates x z y)
 
 -- a ratio rounded down is below a whole number exactly where the ratio is

@@ -25,10 +25,6 @@ use Rattle.worst_values.specs.Rows.{row_of}
 use Rattle.worst_values.specs.Worst.{Candidate, joined, worst_of}
 use Rattle.worst_values.proofs.WorstLemmas.{joined_three, worst_append, worst_none}
 
-pub joined_none : (o : Option Candidate) → joined o None ≡ o
-joined_none None = refl
-joined_none (Some x) = refl
-
 -- a condition within the tables, whatever is said of it
 pub assessed_candidates : (ship : ShipRecord) (j k : ℕ) (o : Option Criterion) (c : Condition) → candidates_by ship j k (assessed o c) ≡ candidates_of ship c (limit_of j) k
 assessed_candidates ship j k None c = refl

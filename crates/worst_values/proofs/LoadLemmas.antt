@@ -5,10 +5,6 @@ use Rattle.units_core.specs.declared.frames.Frame.{Frame}
 use Rattle.worst_values.specs.Worst.{Candidate, joined, worst_of}
 use Rattle.worst_values.proofs.WorstLemmas.{joined_three, worst_append, worst_one}
 
-pub joined_none : (o : Option Candidate) → joined o None ≡ o
-joined_none None = refl
-joined_none (Some x) = refl
-
 -- the candidates of the frames numbered from i, whatever one frame gives
 module _ (at_frame : Frame → ℕ → Candidate) (all : List Frame → ℕ → List Candidate)
     (here : (frame : Frame) (more : List Frame) (i : ℕ) → all (frame ∷ more) i ≡ at_frame frame i ∷ all more (suc i)) where

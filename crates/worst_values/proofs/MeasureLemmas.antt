@@ -1,24 +1,11 @@
--- Fractions of a ratio with the other sign, or with a minus before their size; and fractions of an
--- ordinate, or of a difference.
+-- Fractions with a minus before their size, and fractions of an ordinate.
 use Rattle.std.proofs.Common.{◌≡◌, ◌∙◌, ℕ, ℤ, pos, negsuc, neg_ℤ, ◌*ℤ◌, ◌+ℤ◌, ◌-ℤ◌, ◌≤ℤ◌, ◌*◌, unsigned_abs, Option, None, Some, IsSomeAnd, sym, ap, arith}
 use Rattle.std.proofs.lemmas.Int.{unsigned_abs-mul}
-use Rattle.units_core.proofs.Signed.{signed_arith, distributes, product_positive}
-use Rattle.units_core.proofs.Ring.{diff_of, diff_same, differences}
-use Rattle.units_core.specs.Ratio.{Is, Ratio, ◌over◌, ◌⊖◌}
-use Rattle.worst_values.specs.Limits.{alone, by, opposite, ordinate_alone, size_below}
+use Rattle.units_core.proofs.Signed.{signed_arith}
+use Rattle.units_core.specs.Ratio.{Is, Ratio}
+use Rattle.fractions.proofs.RoundingLemmas.{neg_times}
+use Rattle.worst_values.specs.Limits.{alone, by, ordinate_alone, size_below}
 use Rattle.worst_values.specs.Worst.{Candidate, worst_of}
-
-zero_times : (d : ℤ) → pos 0 *ℤ d ≡ pos 0
-zero_times d = rw (diff_of d, diff_of (pos 0)) (simp differences (diff_same _ _ _ _ (omega arith)))
-
-neg_times : (a b : ℤ) → neg_ℤ a *ℤ b ≡ neg_ℤ (a *ℤ b)
-neg_times a b =
-    let none : neg_ℤ a +ℤ a ≡ pos 0 = omega (arith, signed_arith) in
-    let all : (neg_ℤ a *ℤ b) +ℤ (a *ℤ b) ≡ pos 0 = sym (distributes (neg_ℤ a) a b) ∙ ap (λ x. x *ℤ b) none ∙ zero_times b in
-    omega (arith, signed_arith, all)
-
-pub is_opposite : (n d : ℤ) (r : Ratio) → Is n d r → Is (neg_ℤ n) d (opposite r)
-is_opposite n d r p = (p.0, p.1, neg_times n r.bottom ∙ ap neg_ℤ p.2 ∙ sym (neg_times r.top d))
 
 -- sizes
 sizes : (n d t b : ℤ) → pos 1 ≤ℤ d → pos 1 ≤ℤ b → n *ℤ b ≡ t *ℤ d → pos (unsigned_abs n) *ℤ b ≡ pos (unsigned_abs t) *ℤ d

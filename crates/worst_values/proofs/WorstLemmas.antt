@@ -5,10 +5,11 @@ use Rattle.std.specs.Prelude.{int_lt}
 use Rattle.std.specs.List.{list_all}
 use Rattle.std.proofs.lemmas.Int.{by_lt_z}
 use borrow.Author.Differences.{true_is_lt, false_is_lt}
-use Rattle.units_core.proofs.Signed.{signed_arith, commutes, associates}
+use Rattle.units_core.proofs.Signed.{signed_arith}
 use Rattle.units_core.proofs.Order.{cancel_order, times_order}
 use Rattle.units_core.specs.Ratio.{Ratio, ◌over◌}
 use Rattle.fractions.specs.Order.{is_below}
+use Rattle.fractions.proofs.RoundingLemmas.{turn}
 use Rattle.worst_values.specs.Lowest.{lowest}
 use Rattle.worst_values.specs.Worst.{Candidate, Safety, is_worse, joined, none_worse, worse_of, worst_of}
 use Rattle.worst_values.proofs.LowestTerms.{lowest_positive}
@@ -29,9 +30,6 @@ below_not_self a = not_less (a.top *ℤ a.bottom) (a.top *ℤ a.bottom) (omega (
 
 below_not_back : (a b : Ratio) → is_below a b ≡ true → is_below b a ≡ false
 below_not_back a b h = let less = less_from (a.top *ℤ b.bottom) (b.top *ℤ a.bottom) h in not_less (b.top *ℤ a.bottom) (a.top *ℤ b.bottom) (omega (arith, signed_arith, less))
-
-turn : (x y z : ℤ) → (x *ℤ y) *ℤ z ≡ (x *ℤ z) *ℤ y
-turn x y z = associates x y z ∙ ap (λ v. x *ℤ v) (commutes y z) ∙ sym (associates x z y)
 
 -- a isn't below x, b isn't below a: so b isn't below x
 below_chain : (x a b : Ratio) → pos 1 ≤ℤ x.bottom → pos 1 ≤ℤ a.bottom → pos 1 ≤ℤ b.bottom → is_below a x ≡ false → is_below b a ≡ false → is_below b x ≡ false
@@ -99,6 +97,10 @@ worse_of_three a b c = by (is_worse b.safety a.safety) (is_worse c.safety b.safe
   by false false e f =
       let near = no_worse_on c.safety b.safety a.safety f e in
       ap (λ (k : Bool). worse_of (cond k b a) c) e ∙ ap (λ (k : Bool). cond k c a) near ∙ sym (ap (λ (k : Bool). worse_of a (cond k c b)) f ∙ ap (λ (k : Bool). cond k b a) e)
+
+pub joined_none : (o : Option Candidate) → joined o None ≡ o
+joined_none None = refl
+joined_none (Some x) = refl
 
 pub joined_three : (x y z : Option Candidate) → joined (joined x y) z ≡ joined x (joined y z)
 joined_three None y z = refl

@@ -17,7 +17,7 @@ pub struct Findings {
 
 impl Findings {
     /// Nothing yet.
-    pub fn new(alloc: Global) -> Findings
+    pub(crate) fn new(alloc: Global) -> Findings
         ensures length { length result.rows ≡ 14 }
         ensures none { (j : ℕ) → row_of result.rows j ≡ None }
         ensures unmet { result.unmet ≡ [] }
@@ -29,7 +29,7 @@ impl Findings {
     }
 
     /// Joins what is found over the lines behind.
-    pub fn join(&mut self, behind: &Findings) -> Result<(), AllocError>
+    pub(crate) fn join(&mut self, behind: &Findings) -> Result<(), AllocError>
         ensures length { length self.new.rows ≡ length self.old.rows }
         ensures rows { (j : ℕ) → j < 14 → row_of self.new.rows j
             ≡ joined (row_of self.old.rows j) (row_of behind.now.rows j) }

@@ -26,7 +26,7 @@ impl Model for Rows {
 
 impl Rows {
     /// No value yet.
-    pub fn new() -> Rows
+    pub(crate) fn new() -> Rows
         ensures length { length result ≡ 14 }
         ensures none { (j : ℕ) → row_of result j ≡ None }
     {
@@ -42,7 +42,7 @@ impl Rows {
     }
 
     /// Joins to a row what is found behind.
-    pub fn note(&mut self, row: usize, found: Option<Value>)
+    pub(crate) fn note(&mut self, row: usize, found: Option<Value>)
         requires { row < 14 }
         ensures length { length self.new ≡ length self.old }
         ensures here { row_of self.new row
@@ -53,7 +53,7 @@ impl Rows {
     }
 
     /// Joins to each row that of the lines behind.
-    pub fn join(&mut self, behind: &Rows)
+    pub(crate) fn join(&mut self, behind: &Rows)
         ensures length { length self.new ≡ length self.old }
         ensures each { (j : ℕ) → j < 14
             → row_of self.new j ≡ joined (row_of self.old j) (row_of behind.now j) }

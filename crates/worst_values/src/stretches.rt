@@ -33,7 +33,7 @@ impl Model for Stretches {
 
 impl Stretches {
     /// No line.
-    pub fn new(alloc: Global) -> Stretches
+    pub(crate) fn new(alloc: Global) -> Stretches
         ensures { result ≡ [] }
     {
         Stretches {
@@ -61,14 +61,14 @@ impl Stretches {
     }
 
     /// Adds a line behind.
-    pub fn push(&mut self, unmet: Unmet) -> Result<(), AllocError>
+    pub(crate) fn push(&mut self, unmet: Unmet) -> Result<(), AllocError>
         ensures { OnOk result (self.new ≡ self.old ++ unmet ∷ []) }
     {
         self.add(&Stretch { lines: 1, unmet })
     }
 
     /// Adds all lines of others behind.
-    pub fn append(&mut self, behind: &Stretches) -> Result<(), AllocError>
+    pub(crate) fn append(&mut self, behind: &Stretches) -> Result<(), AllocError>
         ensures { OnOk result (self.new ≡ self.old ++ behind.now) }
     {
         for k in 0..behind.closed.len() {

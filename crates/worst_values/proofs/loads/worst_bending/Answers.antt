@@ -4,9 +4,9 @@ use Rattle.std.proofs.lemmas.List.{drop_all}
 use Rattle.units_core.specs.Interpolation.{at}
 use Rattle.units_core.specs.declared.frames.Frame.{Frame}
 use Rattle.worst_values.specs.Worst.{Candidate, joined, candidate_of, worst_of}
-use Rattle.worst_values.proofs.WorstLemmas.{worst_none}
+use Rattle.worst_values.proofs.WorstLemmas.{joined_none, worst_none}
 use Rattle.worst_values.specs.Limits.{bending_limit, bendings, part_of, shears}
-use Rattle.worst_values.proofs.LoadLemmas.{frame_more, joined_none}
+use Rattle.worst_values.proofs.LoadLemmas.{frame_more}
 use Rattle.worst_values.proofs.loads.worst_bending.Goals as goal
 
 pub loop-i-preserved : goal.loop-i-preserved

@@ -6,8 +6,8 @@ use Rattle.criteria.specs.Exact.{condition_by}
 use Rattle.worst_values.specs.Findings.{candidates_by, unmet_by, unmet_with}
 use Rattle.worst_values.specs.Rows.{row_of}
 use Rattle.worst_values.specs.Worst.{Candidate, joined, worst_of}
-use Rattle.worst_values.proofs.GatherLemmas.{assessed_candidates, assessed_unmet, joined_none}
-use Rattle.worst_values.proofs.WorstLemmas.{worst_none}
+use Rattle.worst_values.proofs.GatherLemmas.{assessed_candidates, assessed_unmet}
+use Rattle.worst_values.proofs.WorstLemmas.{joined_none, worst_none}
 use Rattle.worst_values.proofs.walks.note_line.Goals as goal
 
 pub note_condition-requires-clause-length : goal.note_condition-requires-clause-length
