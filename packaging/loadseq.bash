@@ -3,11 +3,13 @@ _loadseq() {
     local word="${COMP_WORDS[COMP_CWORD]}" before="${COMP_WORDS[COMP_CWORD - 1]}"
     COMPREPLY=()
     if [ "$COMP_CWORD" = 1 ]; then
-        mapfile -t COMPREPLY < <(compgen -W "check first whatif --help --version" -- "$word")
-    elif [ "$before" = --workers ] || [ "$before" = --chunk ]; then
+        mapfile -t COMPREPLY < <(compgen -W "check first whatif summary explain table --help --version" -- "$word")
+    elif [ "$before" = --workers ] || [ "$before" = --chunk ] || [ "$before" = --step ]; then
         return
+    elif [ "$before" = --format ]; then
+        mapfile -t COMPREPLY < <(compgen -W "csv jsonl" -- "$word")
     elif [[ "$word" = -* ]]; then
-        mapfile -t COMPREPLY < <(compgen -W "--steps --workers --chunk --help" -- "$word")
+        mapfile -t COMPREPLY < <(compgen -W "--steps --workers --chunk --help$([ "${COMP_WORDS[1]}" = explain ] && echo " --step")$([ "${COMP_WORDS[1]}" = table ] && echo " --format")" -- "$word")
     else
         compopt -o filenames
         mapfile -t COMPREPLY < <(compgen -f -- "$word")

@@ -1,6 +1,6 @@
-//! Tests of `hydrostat`, `righting`, `strength`, `criteria` and `fractions`, which go by their
-//! public calls alone. They stand apart since the tests of a crate are proved together with all of
-//! it once more.
+//! Tests of `hydrostat`, `righting`, `strength`, `criteria`, `fractions` and `view_figures`, which
+//! go by their public calls alone. They stand apart since the tests of a crate are proved together
+//! with all of it once more.
 #![tactic(auto)]
 
 #[cfg(test)]
@@ -17,3 +17,5 @@ mod levers;
 mod loads;
 #[cfg(test)]
 mod masses;
+#[cfg(test)]
+mod printing;

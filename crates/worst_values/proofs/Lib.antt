@@ -1,3 +1,4 @@
+pub mod FirstLemmas
 pub mod GatherLemmas
 pub mod LoadLemmas
 pub mod LowestTerms

@@ -1,4 +1,5 @@
 pub mod Findings
+pub mod Firsts
 pub mod Limits
 pub mod Lowest
 pub mod Rows

@@ -1,9 +1,13 @@
-ghost use Rattle.std.specs.Prelude.{◌≡◌, ℕ, [], ◌++◌, ◌<◌, length, None, OnOk};
+ghost use Rattle.std.specs.Prelude.{◌≡◌, ℕ, ◌^◌, [], ◌++◌, ◌<◌, length, None, OnOk};
+ghost use Rattle.port_call.specs.Cases.{CaseRecord};
+ghost use Rattle.seq_report.specs.Cases.{outcome_in};
+ghost use Rattle.worst_values.specs.Findings.{found_in};
 ghost use Rattle.worst_values.specs.Rows.{row_of};
 ghost use Rattle.worst_values.specs.Worst.{joined};
 
 use crate::rows::Rows;
 use crate::stretches::Stretches;
+use criteria::Criterion;
 use std::alloc::{AllocError, Global};
 
 /// What is found over some lines.
@@ -26,6 +30,16 @@ impl Findings {
             rows: Rows::new(),
             unmet: Stretches::new(alloc),
         }
+    }
+
+    /// The first condition that doesn't meet some criterion, with the first that it doesn't meet:
+    /// of all conditions of a case, what the last line of its report says.
+    pub fn first_failing(&self) -> Option<(u32, Criterion)>
+        requires { length self.now.unmet < 2 ^ 32 }
+        ensures { (case : CaseRecord) → self.now ≡ found_in case
+            → result ≡ (outcome_in case).summary.first }
+    {
+        self.unmet.first_failing()
     }
 
     /// Joins what is found over the lines behind.

@@ -1,4 +1,4 @@
-ghost use Rattle.std.specs.Prelude.{◌≡◌, ◌+◌, length, IfOk};
+ghost use Rattle.std.specs.Prelude.{◌≡◌, ◌+◌, ◌^◌, ◌<◌, length, IfOk};
 ghost use Rattle.prefix_scan.specs.Cut.{Divides};
 ghost use Rattle.port_call.specs.Views.{case_in_view};
 ghost use Rattle.running_sums.specs.Lines.{AreFirstSums};
@@ -76,7 +76,8 @@ pub fn found_in<G: Gate, R: Threads + Wait + Sync>(
     requires cut { Divides cuts.now (length case.sequence.now.ops + 1) }
     requires sums { AreFirstSums case.profile.now.ship.frames case.arrival.now.bodies
         case.sequence.now.steps cuts.now sums.now }
-    ensures { IfOk result (λ f. f ≡ found_in (case_in_view case.entry)) }
+    ensures found { IfOk result (λ f. f ≡ found_in (case_in_view case.entry)) }
+    ensures few { IfOk result (λ f. length f.unmet < 2 ^ 32) }
 {
     let lines = Lines {
         case,

@@ -20,9 +20,11 @@ mod unmet;
 mod values;
 mod walks;
 
+pub use candidates::value_of;
 pub use findings::Findings;
 pub use jobs::found_in;
 pub use limits::{Limit, limit_at};
 pub use rows::Rows;
 pub use stretches::{Stretch, Stretches};
+pub use unmet::{Unmet, unmet_of};
 pub use values::Value;

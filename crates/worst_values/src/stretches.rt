@@ -1,7 +1,10 @@
-ghost use Rattle.std.specs.Prelude.{◌≡◌, [], ◌∷◌, ◌++◌, OnOk};
+ghost use Rattle.std.specs.Prelude.{◌≡◌, ◌^◌, ◌<◌, [], ◌∷◌, ◌++◌, OnOk, length};
+ghost use Rattle.criteria.specs.Criteria.{criteria};
+ghost use Rattle.worst_values.specs.Firsts.{first_marked, first_unmet};
 ghost use Rattle.worst_values.specs.Stretches.{lines_of, lines_of_all};
 
 use crate::unmet::{NOTHING_UNMET, Unmet};
+use criteria::Criterion;
 use std::alloc::{AllocError, Global};
 use std::marker::Model;
 
@@ -29,6 +32,81 @@ impl Model for Stretches {
     ghost Value = { List (List Bool) };
 
     ghost view = { λ s. lines_of_all s.closed.items ++ lines_of s.last };
+}
+
+/// The first criterion that is marked as not met.
+fn first_marked(unmet: &Unmet) -> Option<Criterion>
+    ensures { result ≡ first_marked criteria unmet.now }
+{
+    let [
+        c0,
+        c1,
+        c2,
+        c3,
+        c4,
+        c5,
+        c6,
+        c7,
+        c8,
+        c9,
+        c10,
+        c11,
+        _,
+        _,
+        _,
+        _,
+        _,
+    ] = *unmet;
+    if c0 {
+        return Some(Criterion::C0);
+    }
+    if c1 {
+        return Some(Criterion::C1);
+    }
+    if c2 {
+        return Some(Criterion::C2);
+    }
+    if c3 {
+        return Some(Criterion::C3);
+    }
+    if c4 {
+        return Some(Criterion::C4);
+    }
+    if c5 {
+        return Some(Criterion::C5);
+    }
+    if c6 {
+        return Some(Criterion::C6);
+    }
+    if c7 {
+        return Some(Criterion::C7);
+    }
+    if c8 {
+        return Some(Criterion::C8);
+    }
+    if c9 {
+        return Some(Criterion::C9);
+    }
+    if c10 {
+        return Some(Criterion::C10);
+    }
+    if c11 {
+        return Some(Criterion::C11);
+    }
+    None
+}
+
+/// The first line of a stretch that doesn't meet some criterion, where its first line is this.
+fn first_in(stretch: &Stretch, line: u32) -> Option<(u32, Criterion)>
+    ensures { result ≡ first_unmet line (lines_of stretch.now) }
+{
+    if stretch.lines == 0 {
+        return None;
+    }
+    match first_marked(&stretch.unmet) {
+        Some(criterion) => Some((line, criterion)),
+        None => None,
+    }
 }
 
 impl Stretches {
@@ -75,6 +153,22 @@ impl Stretches {
             self.add(&behind.closed[k])?;
         }
         self.add(&behind.last)
+    }
+
+    /// The first line that doesn't meet some criterion, with the first that it doesn't meet.
+    pub(crate) fn first_failing(&self) -> Option<(u32, Criterion)>
+        requires { length self.now < 2 ^ 32 }
+        ensures { result ≡ first_unmet 0 self.now }
+    {
+        let mut line = 0u32;
+        for k in 0..self.closed.len() {
+            let stretch = self.closed[k];
+            match first_in(&stretch, line) {
+                Some(first) => return Some(first),
+                None => line += stretch.lines,
+            }
+        }
+        first_in(&self.last, line)
     }
 
     /// The stretches in their order, but for the last one, and that one, which has no line where

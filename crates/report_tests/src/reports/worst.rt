@@ -5,7 +5,7 @@ use crate::checks::{holds, same};
 use claim_run::{Open, Workers};
 use port_call::PortCall;
 use running_sums::sums_of;
-use seq_report::{CutPlan, cuts_of};
+use seq_report::{Criterion, CutPlan, cuts_of};
 use std::test::Fail;
 use worst_values::{Limit, found_in, limit_at};
 
@@ -27,6 +27,7 @@ fn worst_of_two_loads(rt: HostRuntime) -> Result<(), Fail> {
     same(&rt, limit_at(7), Limit::List);
     same(&rt, found.rows.get(1).map(|gm| gm.step), Some(2));
     same(&rt, found.rows.get(7).map(|list| list.step), Some(2));
+    same(&rt, found.first_failing(), Some((2, Criterion::C7)));
     let (first, last) = found.unmet.parts();
     same(&rt, first.first().map(|stretch| stretch.lines), Some(2));
     same(&rt, last.lines, 1);

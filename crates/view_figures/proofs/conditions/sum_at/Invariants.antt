@@ -1,0 +1,6 @@
+use Rattle.port_call.specs.Views.{case_in_view}
+use Rattle.running_sums.specs.Lines.{IsSumAt}
+use Rattle.view_figures.proofs.conditions.sum_at.Given as goal
+
+abbrev pub invariant-loop-line : goal.invariant-loop-line
+invariant-loop-line l = IsSumAt (case_in_view l.case) l.line l.sum

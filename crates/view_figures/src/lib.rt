@@ -1,0 +1,32 @@
+//! What a planner is told of a condition, in the figures that she reads: tonnes, metres,
+//! metre-radians and degrees.
+//!
+//! No figure flatters. A value that has to be at least its limit is rounded down, one that may be
+//! at most its limit up, and a margin down ([`Reading`]); how much of a limit is used is rounded
+//! up ([`Used`]). [`condition_at`] gives the table of limits of a condition, how the ship floats,
+//! her levers and loads, and what is missing to her limits.
+//!
+//! The definitions are `Readings` and `Texts` of `specs/`.
+#![tactic(auto)]
+
+mod afloat;
+mod angles;
+mod areas;
+mod conditions;
+mod frames;
+mod outside;
+mod readings;
+mod rows;
+mod shares;
+mod texts;
+
+pub use afloat::{Floating, Missing};
+pub use angles::{ListReading, list_reading};
+pub use areas::area_reading;
+pub use conditions::{Condition, Inside, condition_at};
+pub use frames::{FrameRow, FrameRows};
+pub use outside::{Missed, Station};
+pub use readings::{Reading, at_least, at_most};
+pub use rows::{Figures, Row};
+pub use shares::{Used, used_of};
+pub use texts::{in_hundredths, in_ten_thousandths, in_tenths, in_thousandths};

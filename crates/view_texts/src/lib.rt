@@ -1,0 +1,28 @@
+//! The texts that a planner reads of a port call: one screen to accept it by ([`summary_front`]),
+//! the first condition that fails in words ([`add_explanation`]), and the sheet of any condition
+//! ([`add_sheet`]).
+//!
+//! The figures are those of `view_figures` and `worst_values`; what is here is text alone, and
+//! proved to be safe.
+#![tactic(auto)]
+
+mod advice;
+mod explanations;
+mod identity;
+mod places;
+mod records;
+mod rows;
+mod sheets;
+mod sources;
+mod steps;
+mod summaries;
+mod unmet;
+mod words;
+
+pub use explanations::add_explanation;
+pub use identity::{Identity, identity_line};
+pub use places::lifts_of;
+pub use records::{end_line, run_line};
+pub use sheets::add_sheet;
+pub use sources::{Message, Sources, message_of, sources_of, sources_with};
+pub use summaries::{Names, VERSION, summary_front};

@@ -1,0 +1,119 @@
+//! What the inputs of a run are: what the messages say of themselves, and the digest of each text.
+use crate::identity::{Identity, identity_in};
+use edifact_text::Kind;
+use port_call::Inputs;
+use sha2::{Digest, Sha256};
+use ship_profile::ProfileBytes;
+use std::alloc::{AllocError, Global};
+
+/// A message: what it says, and the SHA-256 of its text in hexadecimal.
+#[derive(Debug, Drop)]
+pub struct Message {
+    pub identity: Identity,
+    pub digest: String,
+}
+
+/// The inputs of a run.
+#[derive(Debug, Drop)]
+pub struct Sources {
+    /// The digest of the profile, which is that of the digests of its files.
+    pub profile: String,
+    /// The name of the ship in her profile; empty where there is none.
+    pub name: String,
+    pub plan: Message,
+    pub moves: Message,
+    /// The digest of the steps file, if one is given.
+    pub steps: Option<String>,
+}
+
+/// The SHA-256 of a text, in hexadecimal.
+pub fn digest_of(alloc: Global, text: &[u8]) -> Result<String, AllocError> {
+    let bytes: [u8; 32] = Sha256::digest(text);
+    let mut hex = String::new(alloc);
+    for byte in &bytes {
+        let byte = *byte;
+        write!(hex, "{byte:02x}")?;
+    }
+    Ok(hex)
+}
+
+/// Adds the line of a file to the list of digests, as `sha256sum` writes it.
+fn add_file(alloc: Global, list: &mut String, text: &[u8], name: &str) -> Result<(), AllocError> {
+    let digest = digest_of(alloc, text)?;
+    write!(list, "{digest}  {name}\n")
+}
+
+/// The digest of a profile: of the list of its files' digests, in the order in which they are read.
+pub fn profile_digest(alloc: Global, files: &ProfileBytes<'_>) -> Result<String, AllocError> {
+    let mut list = String::new(alloc);
+    add_file(alloc, &mut list, files.ship, "ship.toml")?;
+    add_file(alloc, &mut list, files.cells, "cells.csv")?;
+    add_file(alloc, &mut list, files.hydro, "hydro.csv")?;
+    add_file(alloc, &mut list, files.kn, "kn.csv")?;
+    add_file(alloc, &mut list, files.bonjean, "bonjean.csv")?;
+    add_file(alloc, &mut list, files.tanks, "tanks.csv")?;
+    if let Some(gm) = files.gm {
+        add_file(alloc, &mut list, gm, "gm.csv")?;
+    }
+    digest_of(alloc, list.as_bytes())
+}
+
+/// What a message of this kind is.
+pub fn message_of(alloc: Global, text: &[u8], kind: Kind) -> Result<Message, AllocError> {
+    Ok(Message {
+        identity: identity_in(alloc, text, kind)?,
+        digest: digest_of(alloc, text)?,
+    })
+}
+
+/// The name that `ship.toml` gives the ship, on one line; empty where it gives none.
+fn name_in(alloc: Global, text: &[u8]) -> Result<String, AllocError> {
+    let Ok(table) = toml::table_from_slice(alloc, text) else {
+        return Ok(String::new(alloc));
+    };
+    match table.get("name") {
+        Some(value) => match value.as_str() {
+            Some(name) => crate::words::shown_line(alloc, name.as_bytes()),
+            None => Ok(String::new(alloc)),
+        },
+        None => Ok(String::new(alloc)),
+    }
+}
+
+/// The profile's digest and the ship's name.
+pub fn profile_source(
+    alloc: Global,
+    files: &ProfileBytes<'_>,
+) -> Result<(String, String), AllocError> {
+    let digest = profile_digest(alloc, files)?;
+    let name = name_in(alloc, files.ship)?;
+    Ok((digest, name))
+}
+
+/// What the inputs of a run are.
+pub fn sources_of(alloc: Global, inputs: &Inputs<'_>) -> Result<Sources, AllocError> {
+    let plan = message_of(alloc, inputs.baplie, Kind::Baplie)?;
+    let moves = message_of(alloc, inputs.movins, Kind::Movins)?;
+    sources_with(alloc, inputs, plan, moves)
+}
+
+/// What the inputs of a run are, by what its messages are.
+pub fn sources_with(
+    alloc: Global,
+    inputs: &Inputs<'_>,
+    plan: Message,
+    moves: Message,
+) -> Result<Sources, AllocError> {
+    let (profile, name) = profile_source(alloc, &inputs.profile)?;
+    let steps = match inputs.steps {
+        Some(text) => Some(digest_of(alloc, text)?),
+        None => None,
+    };
+    Ok(Sources {
+        profile,
+        name,
+        plan,
+        moves,
+        steps,
+    })
+}

@@ -1,0 +1,200 @@
+//! What a step does, in words.
+use crate::words::shown_line;
+use arrayvec::ArrayVec;
+use lift_sequence::Op;
+use port_call::{Case, printable};
+use std::alloc::{AllocError, Global};
+use stow_messages::{Item, Lift, copy_text};
+use units_core::Cell;
+use view_figures::in_thousandths;
+
+/// A container that a step moves, as it is aboard.
+#[derive(Debug, Drop)]
+pub struct Moved {
+    /// Its identification, which may be empty.
+    pub id: ArrayVec<u8, 17>,
+    /// Its mass in kg.
+    pub kg: u32,
+}
+
+/// The container of an item.
+fn container_of(item: &Item) -> Moved {
+    Moved {
+        id: copy_text(&item.id),
+        kg: item.kg.get(),
+    }
+}
+
+/// Where the container in a cell behind a step came from: an item that the step loads, or the cell
+/// in which it stood before it.
+fn came_from(op: &Op, cell: Cell) -> Result<Moved, Cell> {
+    match op {
+        Op::Lift(Lift::Load(item)) => {
+            if item.cell == cell {
+                Ok(container_of(item))
+            } else {
+                Err(cell)
+            }
+        }
+        Op::Restow { from, to, .. } => Err(if *to == cell { *from } else { cell }),
+        _ => Err(cell),
+    }
+}
+
+/// The container in a cell behind the first `steps` steps, if there is one.
+fn container_in(case: Case<'_>, cell: Cell, steps: usize) -> Option<Moved> {
+    let mut cell = cell;
+    for op in case.sequence.ops().iter().take(steps).rev() {
+        match came_from(op, cell) {
+            Ok(moved) => return Some(moved),
+            Err(before) => cell = before,
+        }
+    }
+    for item in case.arrival.items() {
+        if item.cell == cell {
+            return Some(container_of(item));
+        }
+    }
+    None
+}
+
+/// The container that a step moves; `None` for a filling.
+pub fn moved_by(case: Case<'_>, step: usize) -> Option<Moved> {
+    let before = step.checked_sub(1)?;
+    match case.sequence.ops().get(before)? {
+        Op::Lift(Lift::Load(item)) => Some(container_of(item)),
+        Op::Lift(Lift::Discharge { cell, .. }) => container_in(case, *cell, before),
+        Op::Restow { from, .. } => container_in(case, *from, before),
+        Op::Fill { .. } => None,
+    }
+}
+
+/// Bytes of a name, a question mark for each that can't be printed, and for a blank.
+fn shown(alloc: Global, bytes: &[u8]) -> Result<String, AllocError> {
+    let mut text = String::new(alloc);
+    for byte in bytes {
+        text.push(char::from(printable(*byte)))?;
+    }
+    Ok(text)
+}
+
+/// A cell in its seven digits.
+pub fn cell_text(alloc: Global, cell: Cell) -> Result<String, AllocError> {
+    let Cell { bay, row, tier } = cell;
+    let text = format!(in alloc; "{bay:03}{row:02}{tier:02}")?;
+    Ok(text)
+}
+
+/// What leads to a condition, as the report's column LIFT has it.
+pub fn lift_text(alloc: Global, op: Option<&Op>) -> Result<String, AllocError> {
+    let Some(op) = op else {
+        return String::from_str(alloc, "-");
+    };
+    match op {
+        Op::Lift(Lift::Load(item)) => {
+            let cell = cell_text(alloc, item.cell)?;
+            Ok(format!(in alloc; "L{cell}")?)
+        }
+        Op::Lift(Lift::Discharge { cell, .. }) => {
+            let cell = cell_text(alloc, *cell)?;
+            Ok(format!(in alloc; "D{cell}")?)
+        }
+        Op::Fill { name, .. } => {
+            let name = shown(alloc, name.as_slice())?;
+            Ok(format!(in alloc; "T{name}")?)
+        }
+        Op::Restow { from, to, .. } => {
+            let from = cell_text(alloc, *from)?;
+            let to = cell_text(alloc, *to)?;
+            Ok(format!(in alloc; "R{from}>{to}")?)
+        }
+    }
+}
+
+/// What leads to the condition of a step of a case.
+pub fn lift_at(alloc: Global, case: Case<'_>, step: u32) -> Result<String, AllocError> {
+    let op = match (step as usize).checked_sub(1) {
+        Some(place) => case.sequence.ops().get(place),
+        None => None,
+    };
+    lift_text(alloc, op)
+}
+
+/// A cell in words.
+fn cell_words(alloc: Global, cell: Cell) -> Result<String, AllocError> {
+    let Cell { bay, row, tier } = cell;
+    let text = format!(in alloc; "bay {bay:03} row {row:02} tier {tier:02}")?;
+    Ok(text)
+}
+
+/// A container in words, with its mass.
+fn container_words(alloc: Global, moved: Option<Moved>) -> Result<String, AllocError> {
+    let Some(Moved { id, kg }) = moved else {
+        return String::from_str(alloc, "a container");
+    };
+    let tonnes = in_thousandths(alloc, i128::from(kg))?;
+    let name = if id.is_empty() {
+        String::from_str(alloc, "a container without identification")?
+    } else {
+        shown(alloc, id.as_slice())?
+    };
+    let text = format!(in alloc; "{name}, {tonnes} t")?;
+    Ok(text)
+}
+
+/// What a filling does: what the tank holds from now on, and what it held before.
+fn fill_words(
+    alloc: Global,
+    case: Case<'_>,
+    step: u32,
+    name: &[u8],
+    kg: u32,
+) -> Result<String, AllocError> {
+    let name = shown_line(alloc, name)?;
+    let now = in_thousandths(alloc, i128::from(kg))?;
+    let before = in_thousandths(alloc, i128::from(mass_out(case, step)))?;
+    let text = format!(in alloc; "tank {name} holds {now} t, before it {before} t")?;
+    Ok(text)
+}
+
+/// The mass in kg that a step takes out of a place: 0 where it takes none.
+pub fn mass_out(case: Case<'_>, step: u32) -> u32 {
+    let step = step as usize;
+    if step < 1 || case.sequence.len() < step {
+        return 0;
+    }
+    match case.sequence.step(step).out {
+        Some(body) => body.kg(),
+        None => 0,
+    }
+}
+
+/// What the step of a number does, 0 being the condition on arrival.
+pub fn deed(alloc: Global, case: Case<'_>, step: u32) -> Result<String, AllocError> {
+    let op = match (step as usize).checked_sub(1) {
+        Some(place) => case.sequence.ops().get(place),
+        None => None,
+    };
+    let Some(op) = op else {
+        return String::from_str(alloc, "the condition on arrival");
+    };
+    match op {
+        Op::Fill { name, kg } => fill_words(alloc, case, step, name.as_slice(), *kg),
+        Op::Lift(Lift::Load(item)) => {
+            let what = container_words(alloc, moved_by(case, step as usize))?;
+            let into = cell_words(alloc, item.cell)?;
+            Ok(format!(in alloc; "loads {what}, into {into}")?)
+        }
+        Op::Lift(Lift::Discharge { cell, .. }) => {
+            let what = container_words(alloc, moved_by(case, step as usize))?;
+            let from = cell_words(alloc, *cell)?;
+            Ok(format!(in alloc; "discharges {what}, from {from}")?)
+        }
+        Op::Restow { from, to, .. } => {
+            let what = container_words(alloc, moved_by(case, step as usize))?;
+            let from = cell_words(alloc, *from)?;
+            let to = cell_words(alloc, *to)?;
+            Ok(format!(in alloc; "restows {what}, from {from} to {to}")?)
+        }
+    }
+}

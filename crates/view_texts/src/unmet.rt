@@ -1,0 +1,127 @@
+//! Which conditions don't meet a criterion: how many, and in which runs of steps.
+use std::alloc::{AllocError, Global};
+use worst_values::{Stretch, Stretches};
+
+/// How many runs of numbers are printed.
+const RUNS: usize = 4;
+
+/// The stretch of a number, the last one behind all.
+fn stretch_at(stretches: &Stretches, number: usize) -> &Stretch {
+    let (closed, last) = stretches.parts();
+    match closed.get(number) {
+        Some(stretch) => stretch,
+        None => last,
+    }
+}
+
+/// How many stretches there are.
+fn count_of(stretches: &Stretches) -> usize {
+    let (closed, _) = stretches.parts();
+    closed.len().saturating_add(1)
+}
+
+/// Whether a line has the mark of a number: of criterion 0 to 11, or of a cause behind them.
+fn has(stretch: &Stretch, mark: usize) -> bool {
+    match stretch.unmet.get(mark) {
+        Some(is_marked) => *is_marked,
+        None => false,
+    }
+}
+
+/// How many lines have a mark.
+pub fn lines_with(stretches: &Stretches, mark: usize) -> u32 {
+    let mut lines = 0u32;
+    for number in 0..count_of(stretches) {
+        let stretch = stretch_at(stretches, number);
+        if has(stretch, mark) {
+            lines = lines.saturating_add(stretch.lines);
+        }
+    }
+    lines
+}
+
+/// The number of the first mark of a criterion that a line has.
+fn first_mark(stretch: &Stretch) -> Option<usize> {
+    for mark in 0..12usize {
+        if has(stretch, mark) {
+            return Some(mark);
+        }
+    }
+    None
+}
+
+/// How many lines don't meet some criterion.
+pub fn failing_lines(stretches: &Stretches) -> u32 {
+    let mut lines = 0u32;
+    for number in 0..count_of(stretches) {
+        let stretch = stretch_at(stretches, number);
+        if first_mark(stretch).is_some() {
+            lines = lines.saturating_add(stretch.lines);
+        }
+    }
+    lines
+}
+
+/// The first line with a mark.
+pub fn first_with(stretches: &Stretches, mark: usize) -> Option<u32> {
+    let mut line = 0u32;
+    for number in 0..count_of(stretches) {
+        let stretch = stretch_at(stretches, number);
+        if has(stretch, mark) && stretch.lines > 0 {
+            return Some(line);
+        }
+        line = line.saturating_add(stretch.lines);
+    }
+    None
+}
+
+/// Runs of numbers, as they are printed: the first four.
+#[derive(Drop)]
+struct Runs {
+    text: String,
+    count: usize,
+}
+
+/// Adds a run from one number to another.
+fn add_run(runs: &mut Runs, first: u32, last: u32) -> Result<(), AllocError> {
+    if runs.count > RUNS {
+        return Ok(());
+    }
+    let between = if runs.count == 0 { "" } else { ", " };
+    if runs.count == RUNS {
+        write!(runs.text, "{between}..")?;
+    } else if first == last {
+        write!(runs.text, "{between}{first}")?;
+    } else {
+        write!(runs.text, "{between}{first} to {last}")?;
+    }
+    runs.count = runs.count.saturating_add(1);
+    Ok(())
+}
+
+/// The lines with a mark, as runs of numbers: `1 to 3, 7`; at most four, then `..`.
+pub fn runs_with(alloc: Global, stretches: &Stretches, mark: usize) -> Result<String, AllocError> {
+    let mut runs = Runs {
+        text: String::new(alloc),
+        count: 0,
+    };
+    let mut line = 0u32;
+    let mut start: Option<u32> = None;
+    for number in 0..count_of(stretches) {
+        let stretch = stretch_at(stretches, number);
+        if stretch.lines > 0 {
+            if has(stretch, mark) {
+                start = start.or(Some(line));
+            } else if let Some(first) = start {
+                add_run(&mut runs, first, line.saturating_sub(1))?;
+                start = None;
+            }
+            line = line.saturating_add(stretch.lines);
+        }
+    }
+    if let Some(first) = start {
+        add_run(&mut runs, first, line.saturating_sub(1))?;
+    }
+    let Runs { text, count: _ } = runs;
+    Ok(text)
+}
