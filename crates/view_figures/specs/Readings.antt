@@ -1,6 +1,6 @@
 -- What is printed of a value by its limit, in whole units: the value, the limit, and the margin
 -- between them.
-use Rattle.std.specs.Prelude.{ℤ, pos, ◌*ℤ◌, ◌^◌}
+use Rattle.std.specs.Prelude.{◌≡◌, ℕ, ℤ, pos, ◌*ℤ◌, ◌^◌, ◌≤ℤ◌, Option, None, Some}
 use Rattle.units_core.specs.Ratio.{Ratio, ◌over◌, ◌⊖◌, floor_of}
 use Rattle.fractions.specs.Rounded.{down, up}
 use Rattle.view_figures.specs.declared.readings.Reading.{Reading}
@@ -25,3 +25,8 @@ area_in_print r = record {
   limit = in_radians r.limit;
   margin = in_radians r.margin;
 }
+
+-- how much of a limit is used, in percent, up to 999
+abbrev pub IsPercent : Option ℕ → Ratio → Type 0
+IsPercent None r = pos 1000 ≤ℤ up r 100
+IsPercent (Some p) r = (pos p ≡ up r 100) × (pos p ≤ℤ pos 999)

@@ -1,4 +1,4 @@
-use Rattle.std.proofs.Common.{rules, ◌≡◌, ◌∙◌, FitsSigned, to_z-of_z}
+use Rattle.std.proofs.Common.{rules, ◌∙◌, FitsSigned, to_z-of_z}
 use Rattle.std.specs.Int.{w64, w128}
 use Rattle.units_core.specs.Ratio.{Is}
 use Rattle.view_figures.specs.Readings.{in_radians}

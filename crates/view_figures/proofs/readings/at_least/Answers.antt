@@ -1,4 +1,4 @@
-use Rattle.std.proofs.Common.{rules, ◌≡◌, ◌∙◌, FitsSigned, to_z-of_z}
+use Rattle.std.proofs.Common.{rules, ◌∙◌, FitsSigned, to_z-of_z}
 use Rattle.std.specs.Int.{w128}
 use Rattle.units_core.specs.Ratio.{◌⊖◌}
 use Rattle.view_figures.proofs.readings.at_least.Goals as goal

@@ -1,4 +1,4 @@
-use Rattle.std.proofs.Common.{rules, ◌≡◌, FitsSigned, to_z-of_z}
+use Rattle.std.proofs.Common.{rules, FitsSigned, to_z-of_z}
 use Rattle.std.specs.Int.{w64}
 use Rattle.units_core.specs.Ratio.{Is, whole}
 use Rattle.units_core.proofs.Ratios.{is_whole}

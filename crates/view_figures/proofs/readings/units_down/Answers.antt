@@ -1,6 +1,6 @@
-use Rattle.std.proofs.Common.{rules, ◌≡◌, ◌∙◌, ℤ, pos, ◌*ℤ◌, FitsSigned, to_z-of_z, subst}
+use Rattle.std.proofs.Common.{rules, ◌∙◌, ℤ, pos, ◌*ℤ◌, FitsSigned, to_z-of_z, subst}
 use Rattle.std.specs.Int.{w128}
-use Rattle.units_core.specs.Ratio.{Is, ◌over◌, floor_of}
+use Rattle.units_core.specs.Ratio.{Is, ◌over◌}
 use Rattle.units_core.proofs.Decisions.{floor_same}
 use Rattle.units_core.proofs.Ring.{times_one}
 use Rattle.fractions.proofs.RoundingLemmas.{times_is}
