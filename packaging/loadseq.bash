@@ -1,6 +1,6 @@
 # Completion of loadseq for bash: commands, options, files and folders.
 _loadseq() {
-    local word="${COMP_WORDS[COMP_CWORD]}" before="${COMP_WORDS[COMP_CWORD - 1]}"
+    local word="${COMP_WORDS[COMP_CWORD]}" before="${COMP_WORDS[COMP_CWORD - 1]}" options
     COMPREPLY=()
     if [ "$COMP_CWORD" = 1 ]; then
         mapfile -t COMPREPLY < <(compgen -W "check first whatif summary explain table --help --version" -- "$word")
@@ -9,7 +9,12 @@ _loadseq() {
     elif [ "$before" = --format ]; then
         mapfile -t COMPREPLY < <(compgen -W "csv jsonl" -- "$word")
     elif [[ "$word" = -* ]]; then
-        mapfile -t COMPREPLY < <(compgen -W "--steps --workers --chunk --help$([ "${COMP_WORDS[1]}" = explain ] && echo " --step")$([ "${COMP_WORDS[1]}" = table ] && echo " --format")" -- "$word")
+        options="--steps --workers --chunk --help"
+        case "${COMP_WORDS[1]}" in
+            explain) options+=" --step" ;;
+            table) options+=" --format" ;;
+        esac
+        mapfile -t COMPREPLY < <(compgen -W "$options" -- "$word")
     else
         compopt -o filenames
         mapfile -t COMPREPLY < <(compgen -f -- "$word")
