@@ -1,4 +1,4 @@
-ghost use Rattle.std.specs.Prelude.{◌≡◌, ◌^◌, ◌≤◌, ◌*ℤ◌, unsigned_abs, IfSome};
+ghost use Rattle.std.specs.Prelude.{◌≡◌, ◌^◌, ◌≤◌, ◌*ℤ◌, true, unsigned_abs, IfSome};
 ghost use Rattle.units_core.specs.Ratio.{◌over◌};
 ghost use Rattle.fractions.specs.Order.{is_below, order_of};
 
@@ -53,9 +53,34 @@ pub fn order(one: Frac, other: Frac) -> Ordering
     left.cmp(&right)
 }
 
-/// Whether a fraction is less than another.
+/// The greatest size of numbers whose products surely fit the type.
+const SHORT: i128 = 9_223_372_036_854_775_808;
+
+/// Whether a number is at most so great either way.
+fn is_short(n: i128) -> bool
+    ensures { result ≡ true → unsigned_abs n ≤ 2 ^ 63 }
+{
+    -SHORT <= n && n <= SHORT
+}
+
+/// The product of two short numbers.
+fn short_product(a: i128, b: i128) -> i128
+    requires a { unsigned_abs a ≤ 2 ^ 63 }
+    requires b { unsigned_abs b ≤ 2 ^ 63 }
+    ensures { result ≡ a *ℤ b }
+{
+    a * b
+}
+
+/// Whether a fraction is less than another. Most values that are compared one after another are
+/// fractions of short numbers, whose products are looked at at once.
 pub fn is_less(one: Frac, other: Frac) -> bool
     ensures { result ≡ is_below (one.num over one.den) (other.num over other.den) }
 {
+    if is_short(one.num) && is_short(other.num) {
+        if is_short(one.den) && is_short(other.den) {
+            return short_product(one.num, other.den) < short_product(other.num, one.den);
+        }
+    }
     matches!(order(one, other), Ordering::Less)
 }

@@ -7,8 +7,8 @@
 
 use claim_run::Open;
 use command_line::words;
-use program::{report_stop, serve};
-use run_files::{Disk, Stop};
+use program::serve;
+use run_files::{Disk, Stop, report_stop};
 use std::alloc::{AllocError, Global};
 use std::process::ExitCode;
 use std::sync::Wait;

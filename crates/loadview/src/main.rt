@@ -5,12 +5,12 @@
 
 use claim_run::Open;
 use command_line::words;
-use run_files::{Disk, Stop};
+use run_files::{Disk, Stop, report_stop};
 use std::alloc::{AllocError, Global};
 use std::process::ExitCode;
 use std::sync::Wait;
 use std::thread::Threads;
-use view_program::{report_stop, serve_view};
+use view_program::serve_view;
 
 /// The words as they are lent to the program.
 fn lend_words(alloc: Global, words: &[String]) -> Result<Vec<&str>, AllocError> {

@@ -16,8 +16,8 @@ use Rattle.run_files.specs.declared.stops.Stop.TheVariants.{Refused, Edits, Usag
 use Rattle.run_files.specs.Files.{AreTexts, Known, RunTexts, edits_text, texts_in}
 use Rattle.command_line.specs.Lines.{IsLine}
 use Rattle.program.specs.Runs.{HasBadEdits, IsCutShort, IsLeft, IsLeftBy, IsLeftOf, IsRefusedBy, IsReported, IsRun, IsStopBy, IsStopOf, IsStopOn, IsUnwritten, OnFiles}
-use Rattle.program.specs.Written.{HasWritten}
-use Rattle.program.proofs.WrittenLemmas.{nothing}
+use Rattle.seq_report.specs.Written.{HasWritten}
+use Rattle.seq_report.proofs.WrittenLemmas.{nothing}
 use Rattle.run_files.specs.Statuses.{IsUnread, status_of, stop_of_line, stop_of_run}
 
 module _ (task : Task) (inputs : Inputs) (edits : List ℕ) where

@@ -21,7 +21,7 @@ use Rattle.what_if.specs.Sessions.{AreTold, SessionRecord}
 use Rattle.command_line.specs.declared.lines.Task.TheVariants.{WhatIf}
 use Rattle.run_files.specs.declared.stops.Stop.{Stop}
 use Rattle.program.specs.Runs.{AreAnswers, AreTried, AreTriedIn, IsCutShort, IsLeft, IsRun, IsStopOn}
-use Rattle.program.specs.Written.{HasWritten}
+use Rattle.seq_report.specs.Written.{HasWritten}
 use Rattle.program.proofs.WrittenLemmas.{in_first, in_rest}
 use Rattle.run_files.specs.Statuses.{status_on, stop_of_edits, stop_of_run}
 use Rattle.program.specs.Trials.{Lists, after_all, answer_lines, lists_of, outcome_after, untried}

@@ -1,14 +1,8 @@
--- What is written: nothing, or the front of two texts, one behind the other.
-use Rattle.std.proofs.Common.{◌≡◌, ℕ, ◌+◌, ◌<◌, List, [], ◌++◌, length, take, Option, sym, ap, ◌∙◌, subst, arith}
-use Rattle.std.proofs.KnownBytes.{Appends-nil}
+-- What is written: the front of two texts, one behind the other.
+use Rattle.std.proofs.Common.{◌≡◌, ℕ, ◌+◌, ◌<◌, List, ◌++◌, length, take, sym, ap, ◌∙◌, arith}
 use Rattle.std.proofs.Math.Seq.{take-append-add}
 use Rattle.std.proofs.lemmas.List.{length-append, take-append-le}
-use Rattle.std.specs.Io.KnownBytes.{Appends}
-use Rattle.program.specs.Written.{HasWritten, IsFrontOf}
-
--- what is held stayed as it was
-pub nothing : (old new : Option (List ℕ)) (holds : List ℕ → Type 0) → new ≡ old → holds [] → HasWritten old new holds
-nothing old new holds same h = ([], h, subst (λ (held : Option (List ℕ)). Appends old held []) (sym same) (Appends-nil old))
+use Rattle.program.specs.Written.{IsFrontOf}
 
 module _ (first rest whole : List ℕ) (is : first ++ rest ≡ whole) where
   size : length whole ≡ length first + length rest

@@ -9,6 +9,7 @@ use Rattle.port_call.specs.declared.faults.RunFault.{RunFault}
 use Rattle.port_call.specs.declared.inputs.Inputs.{Inputs}
 use Rattle.seq_report.specs.Refusal.{Outcome, outcome_of}
 use Rattle.seq_report.specs.Report.{last_line}
+use Rattle.seq_report.specs.Written.{HasWritten}
 use Rattle.port_call.specs.Grounds.{GroundRecord}
 use Rattle.what_if.specs.Sessions.{AreTold, SessionRecord}
 use Rattle.command_line.specs.declared.lines.Line.{Line}
@@ -21,7 +22,7 @@ use Rattle.run_files.specs.Files.{Known, AreTexts, edits_text, texts_in}
 use Rattle.command_line.specs.Lines.{IsLine, IsNotTaken}
 use Rattle.run_files.specs.Statuses.{status_of, status_on}
 use Rattle.program.specs.Trials.{after_all, answer_lines, lists_of, outcome_after, untried}
-use Rattle.program.specs.Written.{HasWritten, IsFrontOf}
+use Rattle.program.specs.Written.{IsFrontOf}
 
 -- the outcome of trying the edits of a text on the steps that inputs order
 pub record AreTried (inputs : Inputs) (text : List ℕ) (outcome : Outcome) : Type 0 where

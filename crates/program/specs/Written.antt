@@ -1,10 +1,5 @@
--- What is written to a writer whose bytes are known.
+-- The front of a text, and what is held behind a mark.
 use Rattle.std.specs.Prelude.{◌≡◌, ℕ, ◌<◌, List, ◌∷◌, length, take, Option, option_map}
-use Rattle.std.specs.Io.KnownBytes.{Appends}
-
--- what is held grew by a text of which this holds
-abbrev pub HasWritten : Option (List ℕ) → Option (List ℕ) → (List ℕ → Type 0) → Type 0
-HasWritten old new holds = (text : List ℕ) × holds text × Appends old new text
 
 -- the front of a text, and not the whole
 abbrev pub IsFrontOf : List ℕ → List ℕ → Type 0

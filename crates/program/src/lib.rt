@@ -7,4 +7,4 @@ mod serving;
 mod trials;
 mod writers;
 
-pub use serving::{report_stop, serve};
+pub use serving::serve;

@@ -5,13 +5,13 @@ ghost use Rattle.run_files.specs.Statuses.{status_of, stop_text};
 ghost use Rattle.program.specs.Runs.{IsLeft, IsLeftBy, IsLeftOf, IsRefusedBy, IsReported};
 ghost use Rattle.program.specs.Runs.{IsReportedBy, IsRun, IsStopBy, IsStopOf, IsStopOn};
 ghost use Rattle.program.specs.Runs.{IsStoppedBy};
-ghost use Rattle.program.specs.Written.{HasWritten};
+ghost use Rattle.seq_report.specs.Written.{HasWritten};
 
 use crate::trials::try_edits;
 use crate::writers::Lent;
 use claim_run::{Gate, Workers};
 use command_line::{Line, Task, read_line};
-use run_files::{Readers, Stop, read_texts, status_on};
+use run_files::{Readers, Stop, read_texts, report_stop, status_on};
 use seq_report::{
     CutPlan, Inputs, Options, Sink, Through, first_fail, put_all, report, write_last_line,
 };
@@ -222,25 +222,6 @@ fn run_line<R: Readers, G: Gate, T: Threads + Wait + Sync, O: Write>(
     // No effect at run time: the proof reads what `out` holds from this use of it.
     let _ = &*writer;
     status
-}
-
-/// Writes the one line on what stopped a run to `err`, and says whether `err` took all of it.
-fn tell<E: Write>(stop: &Stop, err: &mut E) -> bool
-    ensures { result ≡ true
-        → Appends (E.contents err.old) (E.contents err.new) (stop_text stop.now ++ codes "\n") }
-{
-    writeln!(err, "{stop}").is_ok()
-}
-
-/// Writes the one line on what stopped a run to `err`, and gives the exit status. A fault of `err`
-/// changes nothing.
-pub fn report_stop<E: Write>(stop: &Stop, err: &mut E) -> u8
-    ensures { result ≡ status_of stop.now }
-{
-    // `std` says nothing of what a failed write leaves, so more than `tell` promises of `err` can't
-    // be promised here, nor by `serve`.
-    let _ = tell(stop, err);
-    stop.status()
 }
 
 /// The exit status of a run on the words of a command line that writes what they ask for, or what

@@ -9,4 +9,4 @@ mod stops;
 
 pub use files::{Disk, LIMIT, Readers, Unopened};
 pub use folders::{Texts, read_texts};
-pub use stops::{Stop, status_on};
+pub use stops::{Stop, report_stop, status_on};

@@ -1,5 +1,6 @@
-ghost use Rattle.std.specs.Prelude.{◌≡◌, ◌≤◌};
-ghost use Rattle.run_files.specs.Statuses.{status_of, status_on};
+ghost use Rattle.std.specs.Prelude.{◌≡◌, ◌≤◌, ◌++◌, codes, true};
+ghost use Rattle.std.specs.Io.KnownBytes.{Appends};
+ghost use Rattle.run_files.specs.Statuses.{status_of, status_on, stop_text};
 
 use command_line::LineFault;
 use criteria::Criterion;
@@ -8,6 +9,7 @@ use port_call::RunFault;
 use std::alloc::AllocError;
 use std::error::Error;
 use std::fmt;
+use std::io::Write;
 
 /// The exit status of a report: 0, or 1 where a step fails.
 pub fn status_on(first: Option<(u32, Criterion)>) -> u8
@@ -122,4 +124,23 @@ impl From<RunFault> for Stop {
             fault => Stop::Refused(fault),
         }
     }
+}
+
+/// Writes the one line on what stopped a run to `err`, and says whether `err` took all of it.
+fn tell<E: Write>(stop: &Stop, err: &mut E) -> bool
+    ensures { result ≡ true
+        → Appends (E.contents err.old) (E.contents err.new) (stop_text stop.now ++ codes "\n") }
+{
+    writeln!(err, "{stop}").is_ok()
+}
+
+/// Writes the one line on what stopped a run to `err`, and gives the exit status. A fault of `err`
+/// changes nothing.
+pub fn report_stop<E: Write>(stop: &Stop, err: &mut E) -> u8
+    ensures { result ≡ status_of stop.now }
+{
+    // `std` says nothing of what a failed write leaves, so more than `tell` promises of `err` can't
+    // be promised here, nor by what calls it.
+    let _ = tell(stop, err);
+    stop.status()
 }

@@ -38,11 +38,11 @@ chunks_to ends up (suc k) low =
 pub chunks_whole : (ends : List ℕ) (len : ℕ) → Divides ends len → flat_map (chunk_of ends) (range_with_len 0 (length ends)) ≡ range_with_len 0 len
 chunks_whole ends len d = chunks_to ends d.rising (length ends) (omega arith) ∙ ap (range_with_len 0) d.whole
 
-or_none : (a : Option (ℕ × Criterion)) → option_or a None ≡ a
+pub or_none : (a : Option (ℕ × Criterion)) → option_or a None ≡ a
 or_none None = refl
 or_none (Some x) = refl
 
-first-append : (xs ys : List Line) → first_of (xs ++ ys) ≡ option_or (first_of xs) (first_of ys)
+pub first-append : (xs ys : List Line) → first_of (xs ++ ys) ≡ option_or (first_of xs) (first_of ys)
 first-append [] ys = refl
 first-append (x ∷ xs) ys = ap (option_or (failure_of x.step)) (first-append xs ys) ∙ or_assoc (failure_of x.step) (first_of xs) (first_of ys)
   where

@@ -7,3 +7,4 @@ pub mod PassedLemmas
 pub mod PlanLemmas
 pub mod RunLemmas
 pub mod Words
+pub mod WrittenLemmas

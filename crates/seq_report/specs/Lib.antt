@@ -8,3 +8,4 @@ pub mod Lifts
 pub mod Plans
 pub mod Refusal
 pub mod Report
+pub mod Written

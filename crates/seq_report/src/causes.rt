@@ -4,7 +4,7 @@ ghost use Rattle.seq_report.specs.Report.{cause_of};
 use hydrostat::Outside;
 
 /// The word of a line for the table outside of which a condition lies.
-pub fn cause(outside: Outside) -> &'static str
+pub fn cause_word(outside: Outside) -> &'static str
     ensures { result.now ≡ cause_of outside }
 {
     match outside {

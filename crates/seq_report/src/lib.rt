@@ -18,6 +18,7 @@ mod sections;
 mod sink;
 mod step_lines;
 
+pub use causes::cause_word;
 pub use complete::Summary;
 pub use criteria::Criterion;
 pub use failures::{first_fail, first_fail_behind};

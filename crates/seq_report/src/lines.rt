@@ -9,7 +9,7 @@ ghost use Rattle.seq_report.specs.Report.{cause_of, failure_of, first_failed, he
 ghost use Rattle.seq_report.specs.Report.{judged_headings, judged_text, last_line, line_of};
 ghost use Rattle.seq_report.specs.Report.{statement_of, step_line, verdict_text};
 
-use crate::causes::cause;
+use crate::causes::cause_word;
 use crate::columns::{put_figures, write_headings};
 use crate::lifts::put_lift;
 use crate::step_lines::StepLine;
@@ -108,7 +108,7 @@ fn put_outside(end: &mut BackwardText<'_>, outside: Outside)
     ensures text { end.new ≡ (codes " OUTSIDE " ++ cause_of outside) ++ end.old }
     ensures short { length end.new ≤ length end.old + 16 }
 {
-    end.put_words(cause(outside));
+    end.put_words(cause_word(outside));
     end.put_words(" OUTSIDE ");
 }
 

@@ -19,3 +19,5 @@ mod loads;
 mod masses;
 #[cfg(test)]
 mod printing;
+#[cfg(test)]
+mod worst;

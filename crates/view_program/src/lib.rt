@@ -7,4 +7,4 @@ mod serving;
 mod words;
 mod working;
 
-pub use serving::{report_stop, serve_view};
+pub use serving::serve_view;

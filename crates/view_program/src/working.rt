@@ -1,16 +1,20 @@
-//! What a view is made of: the port call with what is found of it, and beside that, in threads of
-//! their own, the digests of its messages.
-ghost use Rattle.std.specs.Prelude.{◌+◌, ◌^◌, ◌<◌, length};
+//! What a view is made of: the port call with what is found of it, and beside that, in a thread of
+//! its own, what its inputs are.
+ghost use Rattle.std.specs.Prelude.{◌≡◌, ◌+◌, ◌^◌, ◌<◌, IfOk, IfErr, Ok, length};
 ghost use Rattle.prefix_scan.specs.Cut.{Divides};
+ghost use Rattle.port_call.specs.Views.{case_in_view};
 ghost use Rattle.running_sums.specs.Lines.{AreFirstSums};
+ghost use Rattle.seq_report.specs.Cases.{outcome_in};
+ghost use Rattle.seq_report.specs.Refusal.{outcome_of};
+ghost use Rattle.worst_values.specs.Findings.{found_in};
+ghost use Rattle.view_program.specs.Shown.{IsStopOn, OfTexts, first_in};
 
 use claim_run::{Gate, Workers};
 use criteria::Criterion;
-use edifact_text::Kind;
 use moment_sums::Totals;
 use port_call::{Inputs, PortCall, RunFault};
 use prefix_scan::Cuts;
-use run_files::Stop;
+use run_files::{Stop, Texts};
 use running_sums::sums_of;
 use seq_report::{CutPlan, Lines, cuts_of};
 use std::alloc::{AllocError, Global};
@@ -18,7 +22,7 @@ use std::sync::Wait;
 use std::thread;
 use std::thread::{Promise, PromisedHandle, Scope, Threads};
 use strength::Hull;
-use view_texts::{Message, Sources, message_of, sources_of, sources_with};
+use view_texts::{Sources, sources_of};
 use worst_values::{Findings, found_in};
 
 /// A port call, with the sum at the first line of each chunk.
@@ -34,7 +38,9 @@ pub struct Worked {
 
 impl Worked {
     /// Its lines.
-    pub fn lines(&self) -> Lines<'_> {
+    pub fn lines(&self) -> Lines<'_>
+        ensures { case_in_view result.case ≡ self.now.call }
+    {
         let case = self.call.case();
         Lines {
             case,
@@ -45,6 +51,24 @@ impl Worked {
     }
 }
 
+/// A port call in chunks of so many lines, of which any list has some.
+fn in_chunks<G: Gate, R: Threads + Wait + Sync>(
+    rt: &R,
+    alloc: Global,
+    gate: &G,
+    workers: Workers,
+    call: PortCall,
+    chunk: u32,
+) -> Result<Worked, AllocError>
+    ensures { IfOk result (λ w. w.call ≡ call) }
+{
+    let Ok(cuts) = cuts_of(alloc, CutPlan::Every(chunk), call.case().lines()) else {
+        return Err(AllocError);
+    };
+    let sums = sums_of(rt, alloc, gate, workers, &call, &cuts)?;
+    Ok(Worked { call, cuts, sums })
+}
+
 /// The port call of the inputs, in chunks of so many lines.
 pub fn work<G: Gate, R: Threads + Wait + Sync>(
     rt: &R,
@@ -53,17 +77,71 @@ pub fn work<G: Gate, R: Threads + Wait + Sync>(
     workers: Workers,
     inputs: &Inputs<'_>,
     chunk: u32,
-) -> Result<Worked, Stop> {
-    let call = match PortCall::read_beside(rt, alloc, workers.get(), inputs) {
-        Ok(call) => call,
-        Err(fault) => return Err(Stop::from(RunFault::from(fault))),
-    };
-    // Chunks of at least one line fit any list.
-    let Ok(cuts) = cuts_of(alloc, CutPlan::Every(chunk), call.case().lines()) else {
-        return Err(Stop::NoMemory);
-    };
-    let sums = sums_of(rt, alloc, gate, workers, &call, &cuts)?;
-    Ok(Worked { call, cuts, sums })
+) -> Result<Worked, Stop>
+    ensures made { IfOk result (λ w. outcome_of inputs.now ≡ Ok (outcome_in w.call)) }
+    ensures stopped { IfErr result (IsStopOn inputs.now) }
+{
+    match PortCall::read_beside(rt, alloc, workers.get(), inputs) {
+        Ok(call) => match in_chunks(rt, alloc, gate, workers, call, chunk) {
+            Ok(worked) => Ok(worked),
+            Err(AllocError) => Err(Stop::NoMemory),
+        },
+        Err(fault) => Err(Stop::from(RunFault::from(fault))),
+    }
+}
+
+/// A port call with what is found of it.
+#[derive(Drop)]
+pub struct Seen {
+    pub worked: Worked,
+    pub findings: Findings,
+    pub ghost few: { length findings.unmet < 2 ^ 32 },
+    pub ghost found: { findings ≡ found_in worked.call },
+}
+
+impl Seen {
+    /// The first condition that fails, with its first criterion: that of the report.
+    pub fn first(&self) -> Option<(u32, Criterion)>
+        ensures { result ≡ first_in self.now.worked.call }
+    {
+        self.findings.first_failing()
+    }
+}
+
+/// What is found of a port call.
+fn seen_of<G: Gate, R: Threads + Wait + Sync>(
+    rt: &R,
+    alloc: Global,
+    gate: &G,
+    workers: Workers,
+    worked: Worked,
+) -> Result<Seen, AllocError>
+    ensures { IfOk result (λ s. s.worked.call ≡ worked.call) }
+{
+    let case = worked.call.case();
+    let findings = found_in(rt, alloc, gate, workers, case, &worked.cuts, &worked.sums)?;
+    Ok(Seen { worked, findings })
+}
+
+/// The port call of the inputs, with what is found of it.
+pub fn see<G: Gate, R: Threads + Wait + Sync>(
+    rt: &R,
+    alloc: Global,
+    gate: &G,
+    workers: Workers,
+    inputs: &Inputs<'_>,
+    chunk: u32,
+) -> Result<Seen, Stop>
+    ensures made { IfOk result (λ s. outcome_of inputs.now ≡ Ok (outcome_in s.worked.call)) }
+    ensures stopped { IfErr result (IsStopOn inputs.now) }
+{
+    match work(rt, alloc, gate, workers, inputs, chunk) {
+        Ok(worked) => match seen_of(rt, alloc, gate, workers, worked) {
+            Ok(seen) => Ok(seen),
+            Err(AllocError) => Err(Stop::NoMemory),
+        },
+        Err(stop) => Err(stop),
+    }
 }
 
 /// What a thread promises of what it gives: nothing.
@@ -76,93 +154,108 @@ impl<T> Promise<T> for Unsaid {
     ghost kept_by = { λ _ _. ⊤ };
 }
 
-/// Starts a thread that works out what a message is.
-fn start_message<'s, E>(
+/// Starts a thread that works out what the inputs are.
+fn start_sources<'s, E>(
     scope: &Scope<'s, E>,
     alloc: Global,
-    text: &'s [u8],
-    kind: Kind,
-) -> Result<PromisedHandle<Result<Message, AllocError>, Unsaid>, AllocError> {
-    let started = scope.spawn_with(Unsaid, move || -> Result<Message, AllocError> {
-        message_of(alloc, text, kind)
+    texts: &'s Texts,
+) -> Result<PromisedHandle<Result<Sources, AllocError>, Unsaid>, AllocError> {
+    let started = scope.spawn_with(Unsaid, move || -> Result<Sources, AllocError> {
+        sources_of(alloc, &texts.inputs())
     });
     Ok(started?)
 }
 
-/// A port call with what is found of it.
-#[derive(Drop)]
-pub struct Seen {
-    pub worked: Worked,
-    pub findings: Findings,
-    pub ghost few: { length findings.unmet < 2 ^ 32 },
-}
+/// What is found of the inputs of some texts, and what these are.
+type Both = (Seen, Sources);
 
-impl Seen {
-    /// The first condition that fails, with its first criterion.
-    pub fn first(&self) -> Option<(u32, Criterion)> {
-        self.findings.first_failing()
+/// What is found, with what the inputs are, if that is there.
+fn with_sources(seen: Seen, sources: Result<Sources, AllocError>) -> Result<Both, Stop>
+    ensures made { IfOk result (λ b. b.0 ≡ seen) }
+    ensures stopped { IfErr result (λ stop. stop ≡ Stop.NoMemory) }
+{
+    match sources {
+        Ok(sources) => Ok((seen, sources)),
+        Err(AllocError) => Err(Stop::NoMemory),
     }
 }
 
-/// A port call with what is found of it, and what its messages are.
-type Read = (Seen, Message, Message);
+/// What is found of the inputs, and what they are, one after the other.
+fn see_in_turn<G: Gate, R: Threads + Wait + Sync>(
+    rt: &R,
+    alloc: Global,
+    gate: &G,
+    workers: Workers,
+    texts: &Texts,
+    chunk: u32,
+) -> Result<Both, Stop>
+    ensures made { IfOk result (λ b. OfTexts texts.now
+        (λ inputs. outcome_of inputs ≡ Ok (outcome_in b.0.worked.call))) }
+    ensures stopped { IfErr result (λ stop. OfTexts texts.now
+        (λ inputs. IsStopOn inputs stop)) }
+{
+    let inputs = texts.inputs();
+    match see(rt, alloc, gate, workers, &inputs, chunk) {
+        Ok(seen) => with_sources(seen, sources_of(alloc, &inputs)),
+        Err(stop) => Err(stop),
+    }
+}
 
-/// The port call of the inputs, with what is found of it; the digests of the messages, which take
-/// longest, are worked out beside it in threads of their own.
+/// What is found of the inputs, and beside it, in a thread of its own, what they are: their digests
+/// take about as long as all else together.
 fn see_beside<G: Gate, R: Threads + Wait + Sync>(
     rt: &R,
     alloc: Global,
     gate: &G,
     workers: Workers,
-    inputs: &Inputs<'_>,
+    texts: &Texts,
     chunk: u32,
-) -> Result<Read, Stop> {
-    let plan_text = inputs.baplie;
-    let moves_text = inputs.movins;
-    thread::scope(thread::scope_env(), rt, |scope| -> Result<Read, Stop> {
-        let plan = start_message(scope, alloc, plan_text, Kind::Baplie)?;
-        let Ok(moves) = start_message(scope, alloc, moves_text, Kind::Movins) else {
-            // joined, so that what it made is let go
-            drop(plan.join(rt));
-            return Err(Stop::NoMemory);
-        };
-        let seen = see(rt, alloc, gate, workers, inputs, chunk);
-        let plan = plan.join(rt);
-        let moves = moves.join(rt);
-        Ok((seen?, plan?, moves?))
-    })
+) -> Result<Both, Stop>
+    ensures made { IfOk result (λ b. OfTexts texts.now
+        (λ inputs. outcome_of inputs ≡ Ok (outcome_in b.0.worked.call))) }
+    ensures stopped { IfErr result (λ stop. OfTexts texts.now
+        (λ inputs. IsStopOn inputs stop)) }
+{
+    thread::scope(
+        thread::scope_env(),
+        rt,
+        |scope| -> Result<Both, Stop>
+            ensures made { IfOk result (λ b. OfTexts texts.entry.now
+                (λ inputs. outcome_of inputs ≡ Ok (outcome_in b.0.worked.call))) }
+            ensures stopped { IfErr result (λ stop. OfTexts texts.entry.now
+                (λ inputs. IsStopOn inputs stop)) }
+        {
+            let inputs = texts.inputs();
+            let Ok(sources) = start_sources(scope, alloc, texts) else {
+                return Err(Stop::NoMemory);
+            };
+            let seen = see(rt, alloc, gate, workers, &inputs, chunk);
+            let sources = sources.join(rt);
+            match seen {
+                Ok(seen) => with_sources(seen, sources),
+                Err(stop) => Err(stop),
+            }
+        },
+    )
 }
 
-/// The port call of the inputs, with what is found of it.
-pub fn see<G: Gate, R: Threads + Wait + Sync>(
-    rt: &R,
-    alloc: Global,
-    gate: &G,
-    workers: Workers,
-    inputs: &Inputs<'_>,
-    chunk: u32,
-) -> Result<Seen, Stop> {
-    let worked = work(rt, alloc, gate, workers, inputs, chunk)?;
-    let case = worked.call.case();
-    let findings = found_in(rt, alloc, gate, workers, case, &worked.cuts, &worked.sums)?;
-    Ok(Seen { worked, findings })
-}
-
-/// The port call of the inputs, with what is found of it and what the inputs are.
+/// What is found of the inputs of some texts, and what these are.
 pub fn see_with_sources<G: Gate, R: Threads + Wait + Sync>(
     rt: &R,
     alloc: Global,
     gate: &G,
     workers: Workers,
-    inputs: &Inputs<'_>,
+    texts: &Texts,
     chunk: u32,
-) -> Result<(Seen, Sources), Stop> {
+) -> Result<Both, Stop>
+    ensures made { IfOk result (λ b. OfTexts texts.now
+        (λ inputs. outcome_of inputs ≡ Ok (outcome_in b.0.worked.call))) }
+    ensures stopped { IfErr result (λ stop. OfTexts texts.now
+        (λ inputs. IsStopOn inputs stop)) }
+{
     if workers.get() < 2 {
-        let seen = see(rt, alloc, gate, workers, inputs, chunk)?;
-        let sources = sources_of(alloc, inputs)?;
-        return Ok((seen, sources));
+        see_in_turn(rt, alloc, gate, workers, texts, chunk)
+    } else {
+        see_beside(rt, alloc, gate, workers, texts, chunk)
     }
-    let (seen, plan, moves) = see_beside(rt, alloc, gate, workers, inputs, chunk)?;
-    let sources = sources_with(alloc, inputs, plan, moves)?;
-    Ok((seen, sources))
 }

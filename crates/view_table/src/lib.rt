@@ -4,9 +4,13 @@
 
 mod figures;
 mod forms;
+mod judged;
+mod judging;
 mod lines;
 mod moved;
+mod steps;
 mod tables;
 
 pub use forms::{Form, add_json_text};
+pub use moved::MovedBy;
 pub use tables::{TableFault, csv_heading, write_lines};

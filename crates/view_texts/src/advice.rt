@@ -1,4 +1,5 @@
 //! What a criterion that isn't met means, and what to do.
+use criteria::Criterion;
 use hydrostat::Outside;
 
 /// What is the matter, and what to do.
@@ -59,35 +60,36 @@ pub const NO_LIST: Advice = Advice {
     remedy: "As for C1. Don't try to bring her up with weights on the high side.",
 };
 
-/// Of the criterion of a number from 1 to 11: the first six are the Code's, the others the ship's.
-pub fn advice_on(criterion: usize) -> Advice {
+/// Of a criterion that a condition within the ship's tables doesn't meet: C1 to C6 are the Code's,
+/// the others the ship's.
+pub fn advice_on(criterion: Criterion) -> Advice {
     match criterion {
-        1 => Advice {
+        Criterion::C1 => Advice {
             what: "The metacentric height, corrected for free surfaces, is below 0.150 m (2008 IS \
                 Code, part A, 2.2.4).",
             remedy: STIFFER,
         },
-        2 => Advice {
+        Criterion::C2 => Advice {
             what: "The area under the righting levers from 0 to 30 degrees is below 0.055 m rad \
                 (2008 IS Code, part A, 2.2.1).",
             remedy: LOWER,
         },
-        3 => Advice {
+        Criterion::C3 => Advice {
             what: "The area under the righting levers from 0 to 40 degrees is below 0.090 m rad \
                 (2008 IS Code, part A, 2.2.1).",
             remedy: LOWER,
         },
-        4 => Advice {
+        Criterion::C4 => Advice {
             what: "The area under the righting levers from 30 to 40 degrees is below 0.030 m rad \
                 (2008 IS Code, part A, 2.2.1).",
             remedy: LOWER,
         },
-        5 => Advice {
+        Criterion::C5 => Advice {
             what: "The righting lever is below 0.200 m at each of 30, 35, .. 60 degrees (2008 IS \
                 Code, part A, 2.2.2).",
             remedy: LOWER,
         },
-        6 => Advice {
+        Criterion::C6 => Advice {
             what: "The righting lever is greatest at an angle below 25 degrees (2008 IS Code, part \
                 A, 2.2.3).",
             remedy: "The centre of gravity is too high, or the ship too deep: levers fall early \
@@ -98,22 +100,22 @@ pub fn advice_on(criterion: usize) -> Advice {
 }
 
 /// Of a limit of the ship's own.
-fn advice_by_ship(criterion: usize) -> Advice {
+fn advice_by_ship(criterion: Criterion) -> Advice {
     match criterion {
-        7 => Advice {
+        Criterion::C7 => Advice {
             what: "The list is beyond the ship's limit.",
             remedy: "Work both sides in turn, or bring heeling water over before the lift.",
         },
-        8 => Advice {
+        Criterion::C8 => Advice {
             what: "A draught at a perpendicular, or the trim, is beyond the ship's limit.",
             remedy: "Work towards the other end, or shift ballast along the ship.",
         },
-        9 => Advice {
+        Criterion::C9 => Advice {
             what: "The shear force at a frame is beyond the ship's limit.",
             remedy: "Spread the lifts over the bays on both sides of the frame, or ballast where \
                 the difference is.",
         },
-        10 => Advice {
+        Criterion::C10 => Advice {
             what: "The bending moment at a frame is beyond the ship's limit.",
             remedy: "Hogging: load amidships or discharge at the ends first. Sagging: load at the \
                 ends or discharge amidships first.",

@@ -3,10 +3,10 @@
 use crate::advice::{Advice, NO_LIST, advice_on, advice_outside};
 use crate::places::{StepPlace, place_of};
 use crate::rows::{RowText, tightest};
-use crate::sheets::{add_sheet, condition_rows, unmet_words};
+use crate::sheets::{add_sheet, condition_rows, row_by, unmet_words};
 use crate::steps::{deed, lift_at};
-use crate::summaries::{code_at, worst_rows};
-use crate::unmet::{lines_with, runs_with};
+use crate::summaries::worst_rows;
+use crate::unmet::{lines_with, mark_of, runs_with};
 use crate::words::add_wrapped;
 use criteria::Criterion;
 use hydrostat::Outside;
@@ -51,11 +51,11 @@ fn has_no_list(inside: &Inside) -> bool {
 }
 
 /// What the first criterion that a condition doesn't meet means.
-fn advice_of(condition: &Condition, criterion: usize) -> Advice {
+fn advice_of(condition: &Condition, criterion: Criterion) -> Advice {
     match &condition.told {
         Err(missed) => advice_outside(missed.cause),
         Ok(inside) => {
-            if criterion == 7 && has_no_list(inside) {
+            if criterion == Criterion::C7 && has_no_list(inside) {
                 NO_LIST
             } else {
                 advice_on(criterion)
@@ -164,10 +164,14 @@ fn value_words(alloc: Global, row: &RowText) -> Result<String, AllocError> {
 }
 
 /// The rows of a criterion that a condition doesn't meet, each with its limit and its margin.
-fn failing_words(alloc: Global, rows: &[RowText], code: &str) -> Result<String, AllocError> {
+fn failing_words(
+    alloc: Global,
+    rows: &[RowText],
+    criterion: Criterion,
+) -> Result<String, AllocError> {
     let mut text = String::new(alloc);
     for row in rows {
-        if row.code == code && !row.is_kept {
+        if row.criterion == criterion && !row.is_kept {
             let between = if text.is_empty() { "" } else { "; " };
             let value = value_words(alloc, row)?;
             let limit = row.limit.as_str();
@@ -184,10 +188,10 @@ fn failing_words(alloc: Global, rows: &[RowText], code: &str) -> Result<String, 
 
 /// Whether two rows tell the same of two conditions: of the list whichever side it is on.
 fn are_alike(one: &RowText, other: &RowText) -> bool {
-    if one.code != other.code || one.unit.is_empty() || other.unit.is_empty() {
+    if one.criterion != other.criterion || one.unit.is_empty() || other.unit.is_empty() {
         return false;
     }
-    one.code == "C7" || one.name.as_str() == other.name.as_str()
+    one.criterion == Criterion::C7 || one.name.as_str() == other.name.as_str()
 }
 
 /// The same rows of the condition before.
@@ -195,11 +199,11 @@ fn before_words(
     alloc: Global,
     rows: &[RowText],
     before: &[RowText],
-    code: &str,
+    criterion: Criterion,
 ) -> Result<String, AllocError> {
     let mut text = String::new(alloc);
     for row in rows {
-        if row.code == code && !row.is_kept {
+        if row.criterion == criterion && !row.is_kept {
             for other in before {
                 if are_alike(row, other) {
                     let between = if text.is_empty() { "" } else { "; " };
@@ -217,10 +221,10 @@ fn inside_words(
     alloc: Global,
     lines: &Lines<'_>,
     condition: &Condition,
-    code: &str,
+    criterion: Criterion,
 ) -> Result<String, AllocError> {
     let rows = condition_rows(alloc, condition)?;
-    let mut text = failing_words(alloc, rows.as_slice(), code)?;
+    let mut text = failing_words(alloc, rows.as_slice(), criterion)?;
     let Some(step) = condition.step.checked_sub(1) else {
         return Ok(text);
     };
@@ -231,7 +235,7 @@ fn inside_words(
         return Ok(text);
     }
     let earlier = condition_rows(alloc, &before)?;
-    let words = before_words(alloc, rows.as_slice(), earlier.as_slice(), code)?;
+    let words = before_words(alloc, rows.as_slice(), earlier.as_slice(), criterion)?;
     if !words.is_empty() {
         write!(text, " Before the step: {words}.")?;
     }
@@ -243,11 +247,11 @@ fn add_worst(
     alloc: Global,
     text: &mut String,
     rows: &[RowText],
-    code: &str,
+    criterion: Criterion,
     step: u32,
 ) -> Result<(), AllocError> {
     for row in rows {
-        if row.code == code && !row.is_kept && row.step != step {
+        if row.criterion == criterion && !row.is_kept && row.step != step {
             let value = value_words(alloc, row)?;
             let at = row.step;
             return write!(text, " Worst: {value} at step {at}.");
@@ -261,12 +265,10 @@ fn add_others(
     alloc: Global,
     text: &mut String,
     inside: &Inside,
-    criterion: usize,
+    criterion: Criterion,
 ) -> Result<(), AllocError> {
     let mut unmet = inside.unmet;
-    if criterion < 17 {
-        unmet[criterion] = false;
-    }
+    unmet[mark_of(criterion)] = false;
     let others = unmet_words(alloc, &unmet)?;
     if others.is_empty() {
         return text.push_str(" At this step all other criteria hold.");
@@ -285,12 +287,13 @@ fn more_words(
     lines: &Lines<'_>,
     findings: &Findings,
     condition: &Condition,
-    criterion: usize,
+    criterion: Criterion,
 ) -> Result<String, AllocError> {
-    let count = lines_with(&findings.unmet, criterion);
+    let mark = mark_of(criterion);
+    let count = lines_with(&findings.unmet, mark);
     let conditions = lines.case.lines();
-    let runs = runs_with(alloc, &findings.unmet, criterion)?;
-    let code = code_at(criterion);
+    let runs = runs_with(alloc, &findings.unmet, mark)?;
+    let code = criterion.code();
     match &condition.told {
         Err(_) => {
             let text = format!(in alloc;
@@ -303,23 +306,11 @@ fn more_words(
                 "{code} doesn't hold at {count} of {conditions} conditions: {runs}."
             )?;
             let rows = worst_rows(alloc, lines, findings)?;
-            add_worst(alloc, &mut text, rows.as_slice(), code, condition.step)?;
+            add_worst(alloc, &mut text, rows.as_slice(), criterion, condition.step)?;
             add_others(alloc, &mut text, inside, criterion)?;
             Ok(text)
         }
     }
-}
-
-/// The row of a limit, of a condition within the tables.
-fn row_by(inside: &Inside, limit: Limit) -> Option<&view_figures::Row> {
-    for row in &inside.rows {
-        if let Some(row) = row {
-            if row.limit == limit {
-                return Some(row);
-            }
-        }
-    }
-    None
 }
 
 /// What is missing to the limit of a list.
@@ -385,16 +376,18 @@ fn trim_missing(alloc: Global, inside: &Inside) -> Result<String, AllocError> {
 fn need_words(
     alloc: Global,
     condition: &Condition,
-    criterion: usize,
+    criterion: Criterion,
 ) -> Result<String, AllocError> {
     let Ok(inside) = &condition.told else {
         return Ok(String::new(alloc));
     };
     match criterion {
-        1 => height_missing(alloc, inside, Limit::Gm, inside.missing.height),
-        7 => list_missing(alloc, inside),
-        8 => trim_missing(alloc, inside),
-        11 => height_missing(alloc, inside, Limit::LeastGm, inside.missing.own_height),
+        Criterion::C1 => height_missing(alloc, inside, Limit::Gm, inside.missing.height),
+        Criterion::C7 => list_missing(alloc, inside),
+        Criterion::C8 => trim_missing(alloc, inside),
+        Criterion::C11 => {
+            height_missing(alloc, inside, Limit::LeastGm, inside.missing.own_height)
+        }
         _ => Ok(String::new(alloc)),
     }
 }
@@ -424,7 +417,7 @@ fn add_failure(
     findings: &Findings,
     inputs: &Inputs<'_>,
     condition: &Condition,
-    criterion: usize,
+    criterion: Criterion,
 ) -> Result<(), AllocError> {
     let case = lines.case;
     let advice = advice_of(condition, criterion);
@@ -432,7 +425,7 @@ fn add_failure(
     let place = where_words(alloc, case, inputs, condition.step)?;
     add_paragraph(alloc, text, "WHERE", place.as_str())?;
     let here = match &condition.told {
-        Ok(_) => inside_words(alloc, lines, condition, code_at(criterion))?,
+        Ok(_) => inside_words(alloc, lines, condition, criterion)?,
         Err(missed) => missed_words(alloc, case.profile, condition.kg, missed)?,
     };
     add_paragraph(alloc, text, "HERE", here.as_str())?;
@@ -463,7 +456,7 @@ fn add_pass(
     let Some(row) = tightest(rows.as_slice()) else {
         return Ok(());
     };
-    let code = row.code;
+    let code = row.criterion.code();
     let value = value_words(alloc, row)?;
     let limit = row.limit.as_str();
     let step = row.step;
@@ -479,43 +472,27 @@ fn add_pass(
     }
 }
 
-/// The number of a criterion.
-fn number_of(criterion: Criterion) -> usize {
-    match criterion {
-        Criterion::C0 => 0,
-        Criterion::C1 => 1,
-        Criterion::C2 => 2,
-        Criterion::C3 => 3,
-        Criterion::C4 => 4,
-        Criterion::C5 => 5,
-        Criterion::C6 => 6,
-        Criterion::C7 => 7,
-        Criterion::C8 => 8,
-        Criterion::C9 => 9,
-        Criterion::C10 => 10,
-        Criterion::C11 => 11,
-    }
-}
-
-/// Adds behind a report's last line the explanation of the first condition that fails, with its
-/// sheet; where all pass, the sheet of the condition that uses most of a limit.
-pub fn add_explanation(
+/// What stands behind a report's last line: the explanation of the first condition that fails, with
+/// its sheet; where all pass, the sheet of the condition that uses most of a limit.
+pub fn explanation_of(
     alloc: Global,
-    text: &mut String,
     lines: &Lines<'_>,
     findings: &Findings,
     first: Option<(u32, Criterion)>,
     inputs: &Inputs<'_>,
-) -> Result<(), AllocError> {
-    text.push_str("\n")?;
+) -> Result<String, AllocError> {
+    let mut text = String::from_str(alloc, "\n")?;
     let Some((step, criterion)) = first else {
-        return add_pass(alloc, text, lines, findings);
+        add_pass(alloc, &mut text, lines, findings)?;
+        return Ok(text);
     };
     let Some(condition) = condition_at(lines, step) else {
-        return Ok(());
+        return Ok(text);
     };
-    let number = number_of(criterion);
-    add_failure(alloc, text, lines, findings, inputs, &condition, number)?;
+    add_failure(
+        alloc, &mut text, lines, findings, inputs, &condition, criterion,
+    )?;
     text.push_str("\n")?;
-    add_sheet(alloc, text, lines.case, &condition)
+    add_sheet(alloc, &mut text, lines.case, &condition)?;
+    Ok(text)
 }

@@ -1,5 +1,5 @@
 //! The texts that a planner reads of a port call: one screen to accept it by ([`summary_front`]),
-//! the first condition that fails in words ([`add_explanation`]), and the sheet of any condition
+//! the first condition that fails in words ([`explanation_of`]), and the sheet of any condition
 //! ([`add_sheet`]).
 //!
 //! The figures are those of `view_figures` and `worst_values`; what is here is text alone, and
@@ -19,10 +19,10 @@ mod summaries;
 mod unmet;
 mod words;
 
-pub use explanations::add_explanation;
+pub use explanations::explanation_of;
 pub use identity::{Identity, identity_line};
 pub use places::lifts_of;
 pub use records::{end_line, run_line};
 pub use sheets::add_sheet;
-pub use sources::{Message, Sources, message_of, sources_of, sources_with};
+pub use sources::{Sources, sources_of};
 pub use summaries::{Names, VERSION, summary_front};

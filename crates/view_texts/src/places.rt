@@ -43,18 +43,18 @@ pub struct StepPlace {
     pub record: Option<u32>,
 }
 
-/// For each step the number of its lift in the movement instruction, 0 for none. Without a steps
+/// For each step the number of its lift in the movement instruction, if it is one. Without a steps
 /// file the steps are the lifts in their order.
 pub fn lifts_of(
     alloc: Global,
     movins: &[u8],
     file: Option<&[u8]>,
     count: u32,
-) -> Result<Vec<u32>, AllocError> {
+) -> Result<Vec<Option<u32>>, AllocError> {
     let mut lifts = Vec::new(alloc);
     let Some(text) = file else {
         for step in 0..count {
-            lifts.push(step.saturating_add(1))?;
+            lifts.push(Some(step.saturating_add(1)))?;
         }
         return Ok(lifts);
     };
@@ -64,8 +64,8 @@ pub fn lifts_of(
     };
     for row in &rows {
         lifts.push(match row {
-            StepRow::Lift(number) => *number,
-            _ => 0,
+            StepRow::Lift(number) => Some(*number),
+            _ => None,
         })?;
     }
     Ok(lifts)

@@ -8,7 +8,7 @@ use std::alloc::{AllocError, Global};
 use std::fmt::Write;
 use view_table::add_json_text;
 
-/// Adds a text behind its key; `null` isn't written, and nothing is where it is empty.
+/// Adds a text behind its key; it is empty where nothing says it.
 fn add_text(text: &mut String, key: &str, value: &str) -> Result<(), AllocError> {
     write!(text, ",\"{key}\":")?;
     add_json_text(text, value.as_bytes())

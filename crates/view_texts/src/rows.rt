@@ -1,7 +1,9 @@
 //! The rows of the table of limits, in words.
 use crate::words::add_line;
+use criteria::Criterion;
 use fractions::is_less;
 use hydrostat::Outside;
+use seq_report::cause_word;
 use std::alloc::{AllocError, Global};
 use std::cmp::Ordering;
 use units_core::Frac;
@@ -14,8 +16,7 @@ use worst_values::Limit;
 /// A row of the table, as it is printed.
 #[derive(Debug, Drop)]
 pub struct RowText {
-    /// The code of its criterion.
-    pub code: &'static str,
+    pub criterion: Criterion,
     pub name: String,
     pub unit: &'static str,
     /// The value, the limit and the margin, a dash for each that isn't there.
@@ -30,21 +31,21 @@ pub struct RowText {
     pub step: u32,
 }
 
-/// What a row's criterion is.
-pub fn code_of(limit: Limit) -> &'static str {
+/// The criterion of a limit.
+fn criterion_of(limit: Limit) -> Criterion {
     match limit {
-        Limit::Closing => "C0",
-        Limit::Gm => "C1",
-        Limit::AreaTo30 => "C2",
-        Limit::AreaTo40 => "C3",
-        Limit::Area30To40 => "C4",
-        Limit::Lever => "C5",
-        Limit::PeakAngle => "C6",
-        Limit::List => "C7",
-        Limit::DraughtAft | Limit::DraughtForward | Limit::Trim => "C8",
-        Limit::Shear => "C9",
-        Limit::Bending => "C10",
-        Limit::LeastGm => "C11",
+        Limit::Closing => Criterion::C0,
+        Limit::Gm => Criterion::C1,
+        Limit::AreaTo30 => Criterion::C2,
+        Limit::AreaTo40 => Criterion::C3,
+        Limit::Area30To40 => Criterion::C4,
+        Limit::Lever => Criterion::C5,
+        Limit::PeakAngle => Criterion::C6,
+        Limit::List => Criterion::C7,
+        Limit::DraughtAft | Limit::DraughtForward | Limit::Trim => Criterion::C8,
+        Limit::Shear => Criterion::C9,
+        Limit::Bending => Criterion::C10,
+        Limit::LeastGm => Criterion::C11,
     }
 }
 
@@ -191,7 +192,7 @@ pub fn row_text(alloc: Global, row: &Row, step: u32) -> Result<RowText, AllocErr
         _ => unit_of(row.limit),
     };
     Ok(RowText {
-        code: code_of(row.limit),
+        criterion: criterion_of(row.limit),
         name,
         unit,
         value,
@@ -204,17 +205,6 @@ pub fn row_text(alloc: Global, row: &Row, step: u32) -> Result<RowText, AllocErr
     })
 }
 
-/// The word of a cause.
-pub fn cause_word(cause: Outside) -> &'static str {
-    match cause {
-        Outside::Hydro => "HYDRO",
-        Outside::Levers => "LEVERS",
-        Outside::Bonjean => "BONJEAN",
-        Outside::Closing => "CLOSING",
-        Outside::GmLimit => "GMLIMIT",
-    }
-}
-
 /// The row of a condition outside of the ship's tables.
 pub fn outside_row(alloc: Global, cause: Outside, step: u32) -> Result<RowText, AllocError> {
     let cause = cause_word(cause);
@@ -224,7 +214,7 @@ pub fn outside_row(alloc: Global, cause: Outside, step: u32) -> Result<RowText, 
     let margin = String::from_str(alloc, "-")?;
     let used = String::from_str(alloc, "-")?;
     Ok(RowText {
-        code: "C0",
+        criterion: Criterion::C0,
         name,
         unit: "",
         value,
@@ -239,7 +229,7 @@ pub fn outside_row(alloc: Global, cause: Outside, step: u32) -> Result<RowText, 
 
 /// A row of the table without its step.
 fn figures_line(alloc: Global, row: &RowText) -> Result<String, AllocError> {
-    let code = row.code;
+    let code = row.criterion.code();
     let between = if row.unit.is_empty() { "" } else { ", " };
     let name = row.name.as_str();
     let unit = row.unit;

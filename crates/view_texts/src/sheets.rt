@@ -1,16 +1,17 @@
 //! The sheet of one condition: what leads to it, how the ship floats, each limit with its margin,
 //! and the loads at each frame.
-use crate::rows::{NO_LEAST_GM, RowText, add_row, cause_word, outside_row, percent_text, row_text};
+use crate::rows::{NO_LEAST_GM, RowText, add_row, outside_row, percent_text, row_text};
 use crate::steps::{deed, lift_at};
 use crate::words::{add_line, add_wrapped};
 use hydrostat::Outside;
 use port_call::Case;
+use seq_report::cause_word;
 use std::alloc::{AllocError, Global};
 use std::cmp::Ordering;
 use view_figures::{
     Condition, Figures, FrameRow, Inside, Missed, Row, in_hundredths, in_tenths, in_thousandths,
 };
-use worst_values::Limit;
+use worst_values::{Limit, Unmet, criterion_at};
 
 /// The heading of the table of one condition.
 const HEADING: &str = "    CRITERION            VALUE    LIMIT   MARGIN  USED";
@@ -60,8 +61,8 @@ fn add_missed(
     text.push_str("VERDICT FAIL C0\n")
 }
 
-/// The row of a limit.
-fn row_by(inside: &Inside, limit: Limit) -> Option<&Row> {
+/// The row of a limit, of a condition within the tables.
+pub fn row_by(inside: &Inside, limit: Limit) -> Option<&Row> {
     for row in &inside.rows {
         if let Some(row) = row {
             if row.limit == limit {
@@ -191,20 +192,15 @@ fn add_frame(
     text.push_str("\n")
 }
 
-/// The codes of the criteria, in their order.
-pub const CODES: [&str; 12] = [
-    "C0", "C1", "C2", "C3", "C4", "C5", "C6", "C7", "C8", "C9", "C10", "C11",
-];
-
 /// The codes of the criteria that a condition doesn't meet, parted by commas.
-pub fn unmet_words(alloc: Global, unmet: &[bool; 17]) -> Result<String, AllocError> {
+pub fn unmet_words(alloc: Global, unmet: &Unmet) -> Result<String, AllocError> {
     let mut text = String::new(alloc);
     for at in 0..12usize {
         if unmet[at] {
             if !text.is_empty() {
                 text.push_str(", ")?;
             }
-            text.push_str(CODES[at])?;
+            text.push_str(criterion_at(at).code())?;
         }
     }
     Ok(text)

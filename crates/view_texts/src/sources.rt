@@ -27,7 +27,7 @@ pub struct Sources {
 }
 
 /// The SHA-256 of a text, in hexadecimal.
-pub fn digest_of(alloc: Global, text: &[u8]) -> Result<String, AllocError> {
+fn digest_of(alloc: Global, text: &[u8]) -> Result<String, AllocError> {
     let bytes: [u8; 32] = Sha256::digest(text);
     let mut hex = String::new(alloc);
     for byte in &bytes {
@@ -44,7 +44,7 @@ fn add_file(alloc: Global, list: &mut String, text: &[u8], name: &str) -> Result
 }
 
 /// The digest of a profile: of the list of its files' digests, in the order in which they are read.
-pub fn profile_digest(alloc: Global, files: &ProfileBytes<'_>) -> Result<String, AllocError> {
+fn profile_digest(alloc: Global, files: &ProfileBytes<'_>) -> Result<String, AllocError> {
     let mut list = String::new(alloc);
     add_file(alloc, &mut list, files.ship, "ship.toml")?;
     add_file(alloc, &mut list, files.cells, "cells.csv")?;
@@ -59,7 +59,7 @@ pub fn profile_digest(alloc: Global, files: &ProfileBytes<'_>) -> Result<String,
 }
 
 /// What a message of this kind is.
-pub fn message_of(alloc: Global, text: &[u8], kind: Kind) -> Result<Message, AllocError> {
+fn message_of(alloc: Global, text: &[u8], kind: Kind) -> Result<Message, AllocError> {
     Ok(Message {
         identity: identity_in(alloc, text, kind)?,
         digest: digest_of(alloc, text)?,
@@ -81,10 +81,7 @@ fn name_in(alloc: Global, text: &[u8]) -> Result<String, AllocError> {
 }
 
 /// The profile's digest and the ship's name.
-pub fn profile_source(
-    alloc: Global,
-    files: &ProfileBytes<'_>,
-) -> Result<(String, String), AllocError> {
+fn profile_source(alloc: Global, files: &ProfileBytes<'_>) -> Result<(String, String), AllocError> {
     let digest = profile_digest(alloc, files)?;
     let name = name_in(alloc, files.ship)?;
     Ok((digest, name))
@@ -94,16 +91,6 @@ pub fn profile_source(
 pub fn sources_of(alloc: Global, inputs: &Inputs<'_>) -> Result<Sources, AllocError> {
     let plan = message_of(alloc, inputs.baplie, Kind::Baplie)?;
     let moves = message_of(alloc, inputs.movins, Kind::Movins)?;
-    sources_with(alloc, inputs, plan, moves)
-}
-
-/// What the inputs of a run are, by what its messages are.
-pub fn sources_with(
-    alloc: Global,
-    inputs: &Inputs<'_>,
-    plan: Message,
-    moves: Message,
-) -> Result<Sources, AllocError> {
     let (profile, name) = profile_source(alloc, &inputs.profile)?;
     let steps = match inputs.steps {
         Some(text) => Some(digest_of(alloc, text)?),

@@ -1,73 +1,12 @@
 //! What a step does, in words.
 use crate::words::shown_line;
-use arrayvec::ArrayVec;
 use lift_sequence::Op;
 use port_call::{Case, printable};
 use std::alloc::{AllocError, Global};
-use stow_messages::{Item, Lift, copy_text};
+use stow_messages::Lift;
 use units_core::Cell;
 use view_figures::in_thousandths;
-
-/// A container that a step moves, as it is aboard.
-#[derive(Debug, Drop)]
-pub struct Moved {
-    /// Its identification, which may be empty.
-    pub id: ArrayVec<u8, 17>,
-    /// Its mass in kg.
-    pub kg: u32,
-}
-
-/// The container of an item.
-fn container_of(item: &Item) -> Moved {
-    Moved {
-        id: copy_text(&item.id),
-        kg: item.kg.get(),
-    }
-}
-
-/// Where the container in a cell behind a step came from: an item that the step loads, or the cell
-/// in which it stood before it.
-fn came_from(op: &Op, cell: Cell) -> Result<Moved, Cell> {
-    match op {
-        Op::Lift(Lift::Load(item)) => {
-            if item.cell == cell {
-                Ok(container_of(item))
-            } else {
-                Err(cell)
-            }
-        }
-        Op::Restow { from, to, .. } => Err(if *to == cell { *from } else { cell }),
-        _ => Err(cell),
-    }
-}
-
-/// The container in a cell behind the first `steps` steps, if there is one.
-fn container_in(case: Case<'_>, cell: Cell, steps: usize) -> Option<Moved> {
-    let mut cell = cell;
-    for op in case.sequence.ops().iter().take(steps).rev() {
-        match came_from(op, cell) {
-            Ok(moved) => return Some(moved),
-            Err(before) => cell = before,
-        }
-    }
-    for item in case.arrival.items() {
-        if item.cell == cell {
-            return Some(container_of(item));
-        }
-    }
-    None
-}
-
-/// The container that a step moves; `None` for a filling.
-pub fn moved_by(case: Case<'_>, step: usize) -> Option<Moved> {
-    let before = step.checked_sub(1)?;
-    match case.sequence.ops().get(before)? {
-        Op::Lift(Lift::Load(item)) => Some(container_of(item)),
-        Op::Lift(Lift::Discharge { cell, .. }) => container_in(case, *cell, before),
-        Op::Restow { from, .. } => container_in(case, *from, before),
-        Op::Fill { .. } => None,
-    }
-}
+use view_table::MovedBy;
 
 /// Bytes of a name, a question mark for each that can't be printed, and for a blank.
 fn shown(alloc: Global, bytes: &[u8]) -> Result<String, AllocError> {
@@ -127,16 +66,17 @@ fn cell_words(alloc: Global, cell: Cell) -> Result<String, AllocError> {
     Ok(text)
 }
 
-/// A container in words, with its mass.
-fn container_words(alloc: Global, moved: Option<Moved>) -> Result<String, AllocError> {
-    let Some(Moved { id, kg }) = moved else {
+/// The container that a step moves in words, with its mass.
+fn container_words(alloc: Global, case: Case<'_>, step: u32) -> Result<String, AllocError> {
+    let moved = MovedBy::new(alloc, case)?;
+    let Some(item) = moved.item(case, step as usize) else {
         return String::from_str(alloc, "a container");
     };
-    let tonnes = in_thousandths(alloc, i128::from(kg))?;
-    let name = if id.is_empty() {
+    let tonnes = in_thousandths(alloc, i128::from(item.kg.get()))?;
+    let name = if item.id.is_empty() {
         String::from_str(alloc, "a container without identification")?
     } else {
-        shown(alloc, id.as_slice())?
+        shown(alloc, item.id.as_slice())?
     };
     let text = format!(in alloc; "{name}, {tonnes} t")?;
     Ok(text)
@@ -181,17 +121,17 @@ pub fn deed(alloc: Global, case: Case<'_>, step: u32) -> Result<String, AllocErr
     match op {
         Op::Fill { name, kg } => fill_words(alloc, case, step, name.as_slice(), *kg),
         Op::Lift(Lift::Load(item)) => {
-            let what = container_words(alloc, moved_by(case, step as usize))?;
+            let what = container_words(alloc, case, step)?;
             let into = cell_words(alloc, item.cell)?;
             Ok(format!(in alloc; "loads {what}, into {into}")?)
         }
         Op::Lift(Lift::Discharge { cell, .. }) => {
-            let what = container_words(alloc, moved_by(case, step as usize))?;
+            let what = container_words(alloc, case, step)?;
             let from = cell_words(alloc, *cell)?;
             Ok(format!(in alloc; "discharges {what}, from {from}")?)
         }
         Op::Restow { from, to, .. } => {
-            let what = container_words(alloc, moved_by(case, step as usize))?;
+            let what = container_words(alloc, case, step)?;
             let from = cell_words(alloc, *from)?;
             let to = cell_words(alloc, *to)?;
             Ok(format!(in alloc; "restows {what}, from {from} to {to}")?)

@@ -1,9 +1,6 @@
 //! One screen to accept a plan by.
 use crate::identity::identity_line;
-use crate::rows::{
-    NO_LEAST_GM, RowText, add_worst_row, cause_word, outside_row, row_text, tightest,
-};
-use crate::sheets::CODES;
+use crate::rows::{NO_LEAST_GM, RowText, add_worst_row, outside_row, row_text, tightest};
 use crate::sources::Sources;
 use crate::steps::lift_at;
 use crate::unmet::{failing_lines, first_with, lines_with, runs_with};
@@ -12,11 +9,11 @@ use criteria::Criterion;
 use hydrostat::Outside;
 use lift_sequence::Op;
 use port_call::Case;
-use seq_report::Lines;
+use seq_report::{Lines, cause_word};
 use std::alloc::{AllocError, Global};
 use stow_messages::Lift;
 use view_figures::{Condition, condition_at, in_thousandths};
-use worst_values::{Findings, Stretches};
+use worst_values::{Findings, Stretches, criterion_at};
 
 /// The program and the version of its texts.
 pub const VERSION: &str = "loadview 1.0";
@@ -148,17 +145,9 @@ fn verdict_line(
     Ok(text)
 }
 
-/// The code of a criterion by its number.
-pub fn code_at(mark: usize) -> &'static str {
-    match CODES.get(mark) {
-        Some(code) => code,
-        None => "C0",
-    }
-}
-
 /// The line of the row that uses most of its limit.
 fn tightest_line(alloc: Global, case: Case<'_>, row: &RowText) -> Result<String, AllocError> {
-    let code = row.code;
+    let code = row.criterion.code();
     let name = row.name.as_str();
     let at = at_step(alloc, case, row.step, "on arrival")?;
     if row.share.is_none() {
@@ -435,7 +424,7 @@ fn add_fails(
     for mark in 0..12usize {
         let count = lines_with(unmet, mark);
         if count > 0 {
-            let code = code_at(mark);
+            let code = criterion_at(mark).code();
             let runs = runs_with(alloc, unmet, mark)?;
             write!(text, "{code:<3} fails at {count} of {conditions}: {runs}")?;
             if mark == 0 {

@@ -1,9 +1,32 @@
 //! Which conditions don't meet a criterion: how many, and in which runs of steps.
+ghost use Rattle.std.specs.Prelude.{◌<◌};
+
+use criteria::Criterion;
 use std::alloc::{AllocError, Global};
 use worst_values::{Stretch, Stretches};
 
 /// How many runs of numbers are printed.
 const RUNS: usize = 4;
+
+/// The mark of a criterion among those of a line.
+pub fn mark_of(criterion: Criterion) -> usize
+    ensures { result < 12 }
+{
+    match criterion {
+        Criterion::C0 => 0,
+        Criterion::C1 => 1,
+        Criterion::C2 => 2,
+        Criterion::C3 => 3,
+        Criterion::C4 => 4,
+        Criterion::C5 => 5,
+        Criterion::C6 => 6,
+        Criterion::C7 => 7,
+        Criterion::C8 => 8,
+        Criterion::C9 => 9,
+        Criterion::C10 => 10,
+        Criterion::C11 => 11,
+    }
+}
 
 /// The stretch of a number, the last one behind all.
 fn stretch_at(stretches: &Stretches, number: usize) -> &Stretch {

@@ -1,5 +1,8 @@
-ghost use Rattle.std.specs.Prelude.{◌≡◌, ◌<◌};
+ghost use Rattle.std.specs.Prelude.{◌≡◌, ◌<◌, slice_get, Some};
+ghost use Rattle.criteria.specs.Criteria.{criteria};
 ghost use Rattle.worst_values.specs.Limits.{limit_of};
+
+use criteria::Criterion;
 
 /// What a condition is judged by: a row of the table of limits.
 #[derive(Clone, Copy, Debug, PartialEq, Eq)]
@@ -54,4 +57,28 @@ pub fn limit_at(row: usize) -> Limit
     ensures { result ≡ limit_of row }
 {
     LIMITS[row]
+}
+
+/// The criteria in their order.
+const CRITERIA: [Criterion; 12] = [
+    Criterion::C0,
+    Criterion::C1,
+    Criterion::C2,
+    Criterion::C3,
+    Criterion::C4,
+    Criterion::C5,
+    Criterion::C6,
+    Criterion::C7,
+    Criterion::C8,
+    Criterion::C9,
+    Criterion::C10,
+    Criterion::C11,
+];
+
+/// The criterion of a number, the first being 0.
+pub fn criterion_at(number: usize) -> Criterion
+    requires { number < 12 }
+    ensures { slice_get criteria number ≡ Some result }
+{
+    CRITERIA[number]
 }

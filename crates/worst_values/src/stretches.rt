@@ -1,4 +1,5 @@
-ghost use Rattle.std.specs.Prelude.{◌≡◌, ◌^◌, ◌<◌, [], ◌∷◌, ◌++◌, OnOk, length};
+ghost use Rattle.std.specs.Prelude.{◌≡◌, ◌^◌, ◌<◌, [], ◌∷◌, ◌++◌, OnOk, Some, length};
+ghost use Rattle.std.specs.Prelude.{if◌then◌else◌};
 ghost use Rattle.criteria.specs.Criteria.{criteria};
 ghost use Rattle.worst_values.specs.Firsts.{first_marked, first_unmet};
 ghost use Rattle.worst_values.specs.Stretches.{lines_of, lines_of_all};
@@ -34,66 +35,31 @@ impl Model for Stretches {
     ghost view = { λ s. lines_of_all s.closed.items ++ lines_of s.last };
 }
 
+/// A criterion, if it is marked, else what was found behind it.
+fn marked(is_marked: bool, criterion: Criterion, behind: Option<Criterion>) -> Option<Criterion>
+    ensures { result ≡ (if is_marked then Some criterion else behind) }
+{
+    if is_marked { Some(criterion) } else { behind }
+}
+
 /// The first criterion that is marked as not met.
+#[rattlefmt::skip]
 fn first_marked(unmet: &Unmet) -> Option<Criterion>
     ensures { result ≡ first_marked criteria unmet.now }
 {
-    let [
-        c0,
-        c1,
-        c2,
-        c3,
-        c4,
-        c5,
-        c6,
-        c7,
-        c8,
-        c9,
-        c10,
-        c11,
-        _,
-        _,
-        _,
-        _,
-        _,
-    ] = *unmet;
-    if c0 {
-        return Some(Criterion::C0);
-    }
-    if c1 {
-        return Some(Criterion::C1);
-    }
-    if c2 {
-        return Some(Criterion::C2);
-    }
-    if c3 {
-        return Some(Criterion::C3);
-    }
-    if c4 {
-        return Some(Criterion::C4);
-    }
-    if c5 {
-        return Some(Criterion::C5);
-    }
-    if c6 {
-        return Some(Criterion::C6);
-    }
-    if c7 {
-        return Some(Criterion::C7);
-    }
-    if c8 {
-        return Some(Criterion::C8);
-    }
-    if c9 {
-        return Some(Criterion::C9);
-    }
-    if c10 {
-        return Some(Criterion::C10);
-    }
-    if c11 {
-        return Some(Criterion::C11);
-    }
-    None
+    let [c0, c1, c2, c3, c4, c5, c6, c7, c8, c9, c10, c11, _, _, _, _, _] = *unmet;
+    let found = marked(c11, Criterion::C11, None);
+    let found = marked(c10, Criterion::C10, found);
+    let found = marked(c9, Criterion::C9, found);
+    let found = marked(c8, Criterion::C8, found);
+    let found = marked(c7, Criterion::C7, found);
+    let found = marked(c6, Criterion::C6, found);
+    let found = marked(c5, Criterion::C5, found);
+    let found = marked(c4, Criterion::C4, found);
+    let found = marked(c3, Criterion::C3, found);
+    let found = marked(c2, Criterion::C2, found);
+    let found = marked(c1, Criterion::C1, found);
+    marked(c0, Criterion::C0, found)
 }
 
 /// The first line of a stretch that doesn't meet some criterion, where its first line is this.

@@ -2,7 +2,7 @@ use Rattle.std.proofs.Common.{rules, inl, refl}
 use Rattle.std.proofs.lemmas.Result.{IfErr-weaker, IfOk-weaker}
 use Rattle.run_files.specs.Statuses.{IsUnread}
 use Rattle.program.proofs.StopLemmas.{left_of_line, reported, unread, unreported}
-use Rattle.program.proofs.WrittenLemmas.{nothing}
+use Rattle.seq_report.proofs.WrittenLemmas.{nothing}
 use Rattle.program.proofs.serving.line_to.Goals as goal
 
 pub returns-in_err-texts-clause-left : goal.returns-in_err-texts-clause-left

@@ -1,7 +1,7 @@
 use Rattle.std.proofs.Common.{inl, map, refl}
 use Rattle.std.proofs.lemmas.Result.{IfErr-weaker, IfOk-weaker}
 use Rattle.program.proofs.StopLemmas.{left_by_line, no_line, of_line}
-use Rattle.program.proofs.WrittenLemmas.{nothing}
+use Rattle.seq_report.proofs.WrittenLemmas.{nothing}
 use Rattle.program.proofs.serving.run_words.Goals as goal
 
 pub returns-in-Ok-clause-told : goal.returns-in-Ok-clause-told

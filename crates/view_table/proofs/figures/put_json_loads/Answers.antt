@@ -1,0 +1,15 @@
+use Rattle.std.proofs.Common.{◌∙◌, List, ◌++◌, ℕ, codes, ap}
+use Rattle.criteria.specs.Judgement.{read}
+use Rattle.view_table.specs.Tables.{array, least_member}
+use Rattle.view_table.proofs.TextLemmas.{three}
+use Rattle.view_table.proofs.figures.put_json_loads.Goals as goal
+
+pub returns : goal.returns
+returns c =
+    let j = c.args.judged.now in
+    let f = read j.figures in
+    let shear = codes ",\"shear_kg\":" ++ array f.shear j.frames in
+    let bending = codes ",\"bending_kgmm\":" ++ array f.bending j.frames in
+    c.put_array-2.ensures.text
+    ∙ ap (λ (t : List ℕ). shear ++ t) (c.put_array.ensures.text ∙ ap (λ (t : List ℕ). bending ++ t) c.put_least.ensures.text)
+    ∙ three shear bending (least_member j.least_gm) c.args.end.now
