@@ -3,13 +3,14 @@ _loadseq() {
     local word="${COMP_WORDS[COMP_CWORD]}" before="${COMP_WORDS[COMP_CWORD - 1]}" options
     COMPREPLY=()
     if [ "$COMP_CWORD" = 1 ]; then
-        mapfile -t COMPREPLY < <(compgen -W "check first whatif summary explain table --help --version" -- "$word")
+        mapfile -t COMPREPLY < <(compgen -W "check first whatif summary explain table profile --help --version" -- "$word")
     elif [ "$before" = --workers ] || [ "$before" = --chunk ] || [ "$before" = --step ]; then
         return
     elif [ "$before" = --format ]; then
         mapfile -t COMPREPLY < <(compgen -W "csv jsonl" -- "$word")
     elif [[ "$word" = -* ]]; then
         options="--steps --workers --chunk --help"
+        [ "${COMP_WORDS[1]}" != profile ] || options=--help
         case "${COMP_WORDS[1]}" in
             explain) options+=" --step" ;;
             table) options+=" --format" ;;

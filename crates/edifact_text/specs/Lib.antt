@@ -8,3 +8,4 @@ pub mod Reading
 pub mod Stages
 pub mod Views
 pub mod Printed
+pub mod Places

@@ -102,7 +102,7 @@ fn bytes_if_there<R: Readers>(
 
 /// The bytes of the files of a ship's profile.
 #[derive(Debug, Drop)]
-struct Folder {
+pub struct Folder {
     ship: Vec<u8>,
     cells: Vec<u8>,
     hydro: Vec<u8>,
@@ -133,7 +133,7 @@ impl Model for Folder {
 
 impl Folder {
     /// The texts of the files, each as that of its file.
-    fn texts(&self) -> ProfileBytes<'_>
+    pub fn texts(&self) -> ProfileBytes<'_>
         ensures { texts_of result ≡ self.now }
     {
         ProfileBytes {
@@ -150,7 +150,7 @@ impl Folder {
 
 /// Reads the files of a ship's profile in their order. The first that can't be read ends the run;
 /// only `gm.csv` may be missing.
-fn read_folder<R: Readers>(alloc: Global, files: &mut R, folder: &str) -> Result<Folder, Stop>
+pub fn read_folder<R: Readers>(alloc: Global, files: &mut R, folder: &str) -> Result<Folder, Stop>
     ensures texts { IfOk result (AreShipTexts (R.known files.old) folder.now) }
     ensures unread { IfErr result IsUnread }
     ensures same { R.known files.new ≡ R.known files.old }

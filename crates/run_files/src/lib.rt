@@ -8,5 +8,5 @@ mod folders;
 mod stops;
 
 pub use files::{Disk, LIMIT, Readers, Unopened};
-pub use folders::{Texts, read_texts};
+pub use folders::{Folder, Texts, read_folder, read_texts};
 pub use stops::{Stop, report_stop, status_on};

@@ -1,11 +1,9 @@
 //! Figures as a planner reads them, with numbers worked out beside them.
 use crate::checks::same;
+use plain_text::{in_hundredths, in_ten_thousandths, in_tenths, in_thousandths};
 use std::test::Fail;
 use units_core::Frac;
-use view_figures::{
-    Reading, area_reading, at_least, at_most, in_hundredths, in_ten_thousandths, in_tenths,
-    in_thousandths, list_reading, used_of,
-};
+use view_figures::{Reading, area_reading, at_least, at_most, list_reading, used_of};
 
 // 149.6 is printed as 149, and lacks 0.4, which is printed as -1; 150.4 has 0.4 to spare.
 #[test]

@@ -19,6 +19,7 @@ mod step_rows;
 mod weights;
 
 pub use faults::{StowCode, StowFault};
+pub use groups::{SegmentKind, kind_of};
 pub use instructions::movins;
 pub use items::{Item, copy_text};
 pub use laws::{one_bay_plan, one_movement_instruction, one_steps_file};
@@ -27,3 +28,4 @@ pub use plans::baplie;
 pub use step_faults::{StepsCode, StepsFault};
 pub use step_files::steps;
 pub use step_rows::StepRow;
+pub use weights::kilograms;

@@ -14,6 +14,10 @@ mod messages;
 #[cfg(test)]
 mod numbers;
 #[cfg(test)]
+mod placed;
+#[cfg(test)]
+mod plain_texts;
+#[cfg(test)]
 mod records;
 #[cfg(test)]
 mod steps_files;

@@ -6,7 +6,7 @@
 //! up ([`Used`]). [`condition_at`] gives the table of limits of a condition, how the ship floats,
 //! her levers and loads, and what is missing to her limits.
 //!
-//! The definitions are `Readings` and `Texts` of `specs/`.
+//! The definitions are `Readings` of `specs/`.
 #![tactic(auto)]
 
 mod afloat;
@@ -18,7 +18,6 @@ mod outside;
 mod readings;
 mod rows;
 mod shares;
-mod texts;
 
 pub use afloat::{Floating, Missing};
 pub use angles::{ListReading, list_reading};
@@ -29,4 +28,3 @@ pub use outside::{Missed, Station};
 pub use readings::{Reading, at_least, at_most};
 pub use rows::{Figures, Row};
 pub use shares::{Used, used_of};
-pub use texts::{in_hundredths, in_ten_thousandths, in_tenths, in_thousandths};

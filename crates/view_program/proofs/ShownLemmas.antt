@@ -1,5 +1,5 @@
 -- How a view ends: by what was read of the inputs, and what was written.
-use Rattle.std.proofs.Common.{◌≡◌, ◌≢◌, ◌≤◌, ℕ, true, List, ◌++◌, Option, Err, refl, sym, subst, arith}
+use Rattle.std.proofs.Common.{◌≡◌, ◌≢◌, ◌≤◌, ℕ, true, List, ◌++◌, Option, None, Some, Err, inl, inr, refl, sym, subst, arith}
 use Rattle.std.specs.Io.KnownBytes.{Appends}
 use Rattle.std.proofs.KnownBytes.{Appends-trans}
 use Rattle.criteria.specs.declared.criterion.Criterion.{Criterion}
@@ -20,12 +20,16 @@ use Rattle.seq_report.specs.Refusal.{outcome_of}
 use Rattle.seq_report.proofs.RunLemmas.{refused}
 use Rattle.run_files.specs.declared.stops.Stop.{Stop}
 use Rattle.run_files.specs.declared.stops.Stop.TheVariants.{Refused, Edits, Usage, NoMemory, Read, Write}
-use Rattle.run_files.specs.Files.{AreTexts, Known, RunTexts, texts_in}
+use Rattle.run_files.specs.Files.{AreShipTexts, AreTexts, Known, RunTexts, texts_in}
+use Rattle.ship_profile.specs.Record as profile
 use Rattle.command_line.specs.declared.lines.LineFault.{LineFault}
 use Rattle.command_line.specs.declared.lines.LineFault.TheVariants as line
-use Rattle.run_files.specs.Statuses.{IsUnread, status_of, stop_of_line, stop_of_run}
+use Rattle.run_files.specs.Statuses.{IsUnread, status_of, status_on, stop_of_line, stop_of_run}
+use Rattle.view_program.specs.declared.words.View.{View}
+use Rattle.view_program.specs.declared.words.View.TheVariants.{Summary, Explain, Table}
 use Rattle.view_program.specs.declared.words.ViewLine.{ViewLine}
-use Rattle.view_program.specs.Shown.{IsRefusedBy, IsStopBy, IsStopOf, IsStopOn, IsTable, OfTexts, OnFiles, files_of, report_lines}
+use Rattle.view_program.specs.Answers.{IsAnswerBy, IsAnswerOf, IsAnswerOn, IsProfileAnswer, IsProfileAnswerOn, IsRefusalTold, IsRefusedBy, IsShownBy, IsUnrefused, IsUntouched, Taken}
+use Rattle.view_program.specs.Shown.{IsShown, IsStopOn, IsTable, IsTextOf, OfTexts, OnFiles, files_of, first_in, report_lines}
 
 -- inputs of which no port call was read
 pub unread : (inputs : Inputs) (e : InputFault) (fault : RunFault) (stop : Stop) → fault ≡ run_fault e → stop ≡ stop_of_run fault → (e ≢ input.NoMemory → case_of inputs ≡ Err e)
@@ -45,29 +49,65 @@ unread inputs e fault stop of is read =
     by run.NoMemory told uncut = tt
     by (run.Write m) told uncut = tt
 
+-- a stop that refuses no input, and one before which nothing was written
+pub untouched_same : (stop : Stop) (taken : Taken) → IsUntouched stop taken taken
+untouched_same (Refused fault) taken = refl
+untouched_same (Edits number) taken = tt
+untouched_same (Usage text) taken = tt
+untouched_same NoMemory taken = tt
+untouched_same (Read name) taken = tt
+untouched_same Write taken = tt
+
+pub untouched_write : (stop : Stop) (old new : Taken) → stop ≡ Write → IsUntouched stop old new
+untouched_write stop old new is = subst (λ (s : Stop). IsUntouched s old new) (sym is) tt
+
+pub unrefused_write : (stop : Stop) → stop ≡ Write → IsUnrefused stop
+unrefused_write stop is = subst IsUnrefused (sym is) tt
+
+pub unrefused_unread : (stop : Stop) → IsUnread stop → IsUnrefused stop
+unrefused_unread (Refused fault) h = absurd h
+unrefused_unread (Edits number) h = absurd h
+unrefused_unread (Usage text) h = tt
+unrefused_unread NoMemory h = tt
+unrefused_unread (Read name) h = tt
+unrefused_unread Write h = tt
+
+pub unrefused_line : (fault : LineFault) (stop : Stop) → stop ≡ stop_of_line fault → IsUnrefused stop
+unrefused_line fault stop is = subst IsUnrefused (sym is) (by fault) where
+  by : (fault : LineFault) → IsUnrefused (stop_of_line fault)
+  by (line.Usage text) = tt
+  by line.NoMemory = tt
+
+pub unrefused_other : (texts : RunTexts) (stop : Stop) → ((fault : RunFault) → stop ≢ Refused fault) → OfTexts texts (λ inputs. IsStopOn inputs stop) → IsUnrefused stop
+unrefused_other texts (Refused fault) other h = absurd (other fault refl)
+unrefused_other texts (Edits number) other h = absurd h.2
+unrefused_other texts (Usage text) other h = tt
+unrefused_other texts NoMemory other h = tt
+unrefused_other texts (Read name) other h = tt
+unrefused_other texts Write other h = tt
+
+-- where an explanation wasn't asked for, nothing is written
+pub told_beside : (view : View) (fault : RunFault) (taken : Taken) → view ≢ Explain → IsRefusalTold view fault taken taken
+told_beside Summary fault taken other = refl
+told_beside Explain fault taken other = absurd (other refl)
+told_beside Table fault taken other = refl
+
+-- a refusal of some texts, of which nothing was written
+pub told_on : (texts : RunTexts) (line : ViewLine) (status : ℕ) (fault : RunFault) (old mid new : Taken) → status ≡ 2
+    → OfTexts texts (λ inputs. IsStopOn inputs (Refused fault)) → mid ≡ old → IsRefusalTold line.view fault mid new → IsAnswerOn texts line status old new
+told_on texts line status fault old mid new two stopped same told =
+    inr (two, fault, stopped, subst (λ (taken : Taken). IsRefusalTold line.view fault taken new) same told)
+
 -- a claim about inputs, as a claim about the files of a line
 module _ (known : List ℕ → Known) (line : ViewLine) (texts : RunTexts) (read : AreTexts known (files_of line) texts) where
-  pub on_files : (holds : Inputs → Type 0) → OfTexts texts holds → OnFiles known line holds
+  on_files : (holds : Inputs → Type 0) → OfTexts texts holds → OnFiles known line holds
   on_files holds h = (h.0, texts.edits, subst (AreTexts known (files_of line)) (sym h.1) read, h.2)
 
-  pub stopped : (stop : Stop) → OfTexts texts (λ inputs. IsStopOn inputs stop) → IsStopOf known line stop
-  stopped (Refused fault) h = on_files (λ inputs. outcome_of inputs ≡ Err fault) h
-  stopped (Edits number) h = absurd h.2
-  stopped (Usage text) h = tt
-  stopped NoMemory h = tt
-  stopped (Read name) h = tt
-  stopped Write h = tt
+  pub on_answer : (status : ℕ) (old new : Taken) → IsAnswerOn texts line status old new → IsAnswerOf known line status old new
+  on_answer status old new (inl h) = inl (h.0, on_files (λ inputs. IsShown (IsTextOf line) inputs status h.0) h.1, h.2)
+  on_answer status old new (inr h) = inr (inl (h.0, h.1, on_files (λ inputs. outcome_of inputs ≡ Err h.1) h.2, h.3))
 
--- files that can't be read
-pub unopened : (known : List ℕ → Known) (line : ViewLine) (stop : Stop) → IsUnread stop → IsStopOf known line stop
-unopened known line (Refused fault) h = absurd h
-unopened known line (Edits number) h = absurd h
-unopened known line (Usage text) h = absurd h
-unopened known line NoMemory h = tt
-unopened known line (Read name) h = tt
-unopened known line Write h = absurd h
-
--- no run that is stopped has the status of a report
+-- no run that is stopped has the status of a report, or of a refusal
 pub at_least : (stop : Stop) → 2 ≤ status_of stop
 at_least (Refused fault) = omega arith
 at_least (Edits number) = omega arith
@@ -76,31 +116,53 @@ at_least NoMemory = omega arith
 at_least (Read name) = omega arith
 at_least Write = omega arith
 
--- a run on some words
-module _ (known : List ℕ → Known) where
-  pub of_line : (line : ViewLine) (stop : Stop) → IsStopOf known line stop → IsStopBy known stop
-  of_line line (Refused fault) h = (line, fault, h)
-  of_line line (Edits number) h = absurd h
-  of_line line (Usage text) h = tt
-  of_line line NoMemory h = tt
-  of_line line (Read name) h = tt
-  of_line line Write h = tt
+pub not_refusal : (stop : Stop) → IsUnrefused stop → status_of stop ≡ 2 → ⊥
+not_refusal (Refused fault) h two = h
+not_refusal (Edits number) h two = h
+not_refusal (Usage text) h two = omega arith
+not_refusal NoMemory h two = omega arith
+not_refusal (Read name) h two = omega arith
+not_refusal Write h two = omega arith
 
-  -- that are no line
-  pub no_line : (fault : LineFault) (stop : Stop) → stop ≡ stop_of_line fault → IsStopBy known stop
-  no_line fault stop is = subst (IsStopBy known) (sym is) (by fault) where
-    by : (fault : LineFault) → IsStopBy known (stop_of_line fault)
-    by (line.Usage text) = tt
-    by line.NoMemory = tt
+status_few : (first : Option (ℕ × Criterion)) → status_on first ≤ 1
+status_few None = omega arith
+status_few (Some failing) = omega arith
 
-  -- a status of 2 is a refusal
-  pub refusal : (stop : Stop) → status_of stop ≡ 2 → IsStopBy known stop → IsRefusedBy known
-  refusal (Refused fault) e h = h
-  refusal (Edits number) e h = absurd h
-  refusal (Usage text) e h = absurd (omega arith)
-  refusal NoMemory e h = absurd (omega arith)
-  refusal (Read name) e h = absurd (omega arith)
-  refusal Write e h = absurd (omega arith)
+-- what an answer is by its status
+module _ (known : List ℕ → Known) (status : ℕ) (old new : Taken) where
+  shown_line : status ≤ 1 → (line : ViewLine) → IsAnswerOf known line status old new → IsShownBy known status old new
+  shown_line few line (inl h) = inl (line, h)
+  shown_line few line (inr (inl h)) = absurd (omega (arith, few, h.0))
+  shown_line few line (inr (inr five)) = absurd (omega (arith, few, five))
+
+  shown_read : status ≤ 1 → (folder : List ℕ) (texts : profile.Texts) → AreShipTexts known folder texts → IsProfileAnswerOn texts status old new → IsShownBy known status old new
+  shown_read few folder texts files (inl h) = inr (folder, h.0, (texts, files, h.1, h.2))
+  shown_read few folder texts files (inr h) = absurd (omega (arith, few, h.0))
+
+  shown_folder : status ≤ 1 → (folder : List ℕ) → IsProfileAnswer known folder status old new → IsShownBy known status old new
+  shown_folder few folder (inl h) = shown_read few folder h.0 h.1 h.2
+  shown_folder few folder (inr five) = absurd (omega (arith, few, five))
+
+  pub shown_by : status ≤ 1 → IsAnswerBy known status old new → IsShownBy known status old new
+  shown_by few (inl h) = shown_line few h.0 h.1
+  shown_by few (inr h) = shown_folder few h.0 h.1
+
+  refused_line : status ≡ 2 → (line : ViewLine) → IsAnswerOf known line status old new → IsRefusedBy known old new
+  refused_line two line (inl h) = absurd (omega (arith, two, h.1.3.2, status_few (first_in h.1.3.0)))
+  refused_line two line (inr (inl h)) = inl (line, h.1, h.2, h.3)
+  refused_line two line (inr (inr five)) = absurd (omega (arith, two, five))
+
+  refused_read : status ≡ 2 → (folder : List ℕ) (texts : profile.Texts) → AreShipTexts known folder texts → IsProfileAnswerOn texts status old new → IsRefusedBy known old new
+  refused_read two folder texts files (inl h) = absurd (omega (arith, two, h.0))
+  refused_read two folder texts files (inr h) = inr (folder, (texts, files, h.1, h.2, h.3))
+
+  refused_folder : status ≡ 2 → (folder : List ℕ) → IsProfileAnswer known folder status old new → IsRefusedBy known old new
+  refused_folder two folder (inl h) = refused_read two folder h.0 h.1 h.2
+  refused_folder two folder (inr five) = absurd (omega (arith, two, five))
+
+  pub refused_by : status ≡ 2 → IsAnswerBy known status old new → IsRefusedBy known old new
+  refused_by two (inl h) = refused_line two h.0 h.1
+  refused_by two (inr h) = refused_folder two h.0 h.1
 
 -- a table was written: its heading, its lines, and what stands behind them
 pub table_written : (form : Form) (case : CaseRecord) (old mid late new : Option (List ℕ)) (heading end : List ℕ) (first : Option (ℕ × Criterion)) → Appends old mid heading

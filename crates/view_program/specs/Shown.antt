@@ -87,26 +87,3 @@ files_of line = record {
 abbrev pub OnFiles : (List ℕ → Known) → ViewLine → (Inputs → Type 0) → Type 0
 OnFiles known line holds = (inputs : Inputs) × (edits : Option (List ℕ))
     × AreTexts known (files_of line) (texts_in inputs edits) × holds inputs
-
--- why nothing is shown of them: a refusal is that of the report, and a file may be unread
-abbrev pub IsStopOf : (List ℕ → Known) → ViewLine → Stop → Type 0
-IsStopOf known line (Refused fault) = OnFiles known line (λ inputs. outcome_of inputs ≡ Err fault)
-IsStopOf known line (Edits number) = ⊥
-IsStopOf known line stop = Unit {0}
-
--- what a run prints whose words are some line
-abbrev pub IsShownBy : (List ℕ → Known) → ℕ → List ℕ → Type 0
-IsShownBy known status text =
-    (line : ViewLine) × OnFiles known line (λ inputs. IsShown (IsTextOf line) inputs status text)
-
--- the report on its files is refused
-abbrev pub IsRefusedBy : (List ℕ → Known) → Type 0
-IsRefusedBy known =
-    (line : ViewLine) × (fault : RunFault)
-    × OnFiles known line (λ inputs. outcome_of inputs ≡ Err fault)
-
--- why a run on some words shows nothing, or not all
-abbrev pub IsStopBy : (List ℕ → Known) → Stop → Type 0
-IsStopBy known (Refused fault) = IsRefusedBy known
-IsStopBy known (Edits number) = ⊥
-IsStopBy known stop = Unit {0}

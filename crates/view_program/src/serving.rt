@@ -3,28 +3,41 @@ ghost use Rattle.std.specs.Io.KnownBytes.{Appends};
 ghost use Rattle.port_call.specs.Views.{case_in_view};
 ghost use Rattle.run_files.specs.declared.stops.Stop.TheVariants.{Write as WriteStop};
 ghost use Rattle.seq_report.specs.Written.{HasWritten};
-ghost use Rattle.view_program.specs.Shown.{IsExplanation, IsRefusedBy, IsShown, IsShownBy};
-ghost use Rattle.view_program.specs.Shown.{IsStopBy, IsStopOf, IsStopOn, IsSummary, IsTable};
-ghost use Rattle.view_program.specs.Shown.{IsTextOf, OfTexts, OnFiles, files_of, first_in};
+ghost use Rattle.run_files.specs.Statuses.{IsUnread};
+ghost use Rattle.ship_profile.specs.Record.{texts_of};
+ghost use Rattle.view_program.specs.Answers.{IsAnswerBy, IsAnswerOf, IsAnswerOn, IsRefusalTold};
+ghost use Rattle.view_program.specs.Answers.{IsProfileAnswer, IsProfileAnswerOn, IsRefusedBy};
+ghost use Rattle.view_program.specs.Answers.{IsToldOf, IsUnrefused, IsUntouched};
+ghost use Rattle.view_program.specs.Answers.{IsShownBy};
+ghost use Rattle.view_program.specs.Shown.{IsExplanation, IsShown, IsStopOn, IsSummary};
+ghost use Rattle.view_program.specs.Shown.{IsTable, IsTextOf, OfTexts, files_of, first_in};
 
-use crate::words::{View, ViewLine, read_view_line};
-use crate::working::{Seen, see, see_with_sources, work};
+use crate::words::{Command, View, ViewLine, read_command};
+use crate::working::{Beside, Seen, see, see_with_sources, work};
 use claim_run::{Gate, Workers};
 use command_line::{Line, Task};
 use criteria::Criterion;
-use port_call::Inputs;
-use run_files::{Readers, Stop, Texts, read_texts, report_stop, status_on};
+use port_call::{Inputs, RunFault};
+use run_files::{Readers, Stop, Texts, read_folder, read_texts, report_stop, status_on};
 use seq_report::{Lines, write_last_line};
+use ship_profile::{Profile, ProfileBytes, ProfileFault};
 use std::alloc::{AllocError, Global};
 use std::io::Write;
 use std::sync::Wait;
 use std::thread::Threads;
 use view_figures::condition_at;
+use view_inputs::{Names, Notice, lifts_of, notices_on};
+use view_profile::{Parts, profile_text, warnings_on};
+use view_refusals::{profile_refusal_of, refusal_of, unread_file};
 use view_table::{Form, TableFault, csv_heading, write_lines};
 use view_texts::{
-    Names, Sources, add_sheet, end_line, explanation_of, lifts_of, run_line, sources_of,
-    summary_front,
+    Odd, add_sheet, end_line, explanation_of, profile_source, run_line, sources_of, summary_front,
 };
+
+/// The exit status where an input is refused, and where a file can't be read.
+const REFUSED: u8 = 2;
+
+const UNREAD: u8 = 5;
 
 /// The words by which the files are read.
 fn files_of<'a>(line: ViewLine<'a>) -> Line<'a>
@@ -52,19 +65,57 @@ fn names_of<'a>(line: ViewLine<'a>) -> Names<'a> {
     }
 }
 
+/// The warnings on a profile that tell what isn't read of it: V1 and V2.
+fn misread(alloc: Global, warnings: Vec<Notice>) -> Result<Vec<Notice>, AllocError> {
+    let mut list = Vec::new(alloc);
+    for warning in warnings {
+        if warning.code == "V1" || warning.code == "V2" {
+            list.push(warning)?;
+        }
+    }
+    Ok(list)
+}
+
+/// The summary but for its last line, with what is odd of the inputs.
+fn summary_of(
+    alloc: Global,
+    lines: &Lines<'_>,
+    seen: &Seen,
+    beside: Beside,
+    inputs: &Inputs<'_>,
+    line: ViewLine<'_>,
+) -> Result<String, AllocError> {
+    let Beside { sources, marks } = beside;
+    let names = names_of(line);
+    let name = sources.name.as_str();
+    let parts = Parts::new(alloc, inputs.profile, lines.case.profile)?;
+    let warnings = warnings_on(alloc, &parts)?;
+    let count = u32::try_from(warnings.len()).unwrap_or(u32::MAX);
+    let mut list = misread(alloc, warnings)?;
+    for notice in notices_on(alloc, marks, inputs, name, lines.case)? {
+        list.push(notice)?;
+    }
+    let odd = Odd {
+        warnings: count,
+        notices: list.as_slice(),
+    };
+    let first = seen.first();
+    summary_front(alloc, lines, &seen.findings, first, &names, &sources, odd)
+}
+
 /// The summary of what is seen of a port call.
 fn summary_text(
     alloc: Global,
     lines: &Lines<'_>,
     seen: &Seen,
-    sources: &Sources,
+    beside: Beside,
+    inputs: &Inputs<'_>,
     line: ViewLine<'_>,
 ) -> Result<String, AllocError>
     ensures { IfOk result (λ text. IsSummary seen.now.worked.call (string_bytes text)) }
 {
-    let names = names_of(line);
     let first = seen.first();
-    let mut text = summary_front(alloc, lines, &seen.findings, first, &names, sources)?;
+    let mut text = summary_of(alloc, lines, seen, beside, inputs, line)?;
     write_last_line(&mut text, first)?;
     Ok(text)
 }
@@ -137,6 +188,7 @@ fn put<O: Write>(out: &mut O, text: &str) -> Result<(), Stop>
 }
 
 /// Writes the summary, and gives the exit status.
+#[tactic(auto, using(crate::proofs::ShownLemmas::untouched_same, crate::proofs::ShownLemmas::untouched_write))]
 fn summary_to<G: Gate, T: Threads + Wait + Sync, O: Write>(
     rt: &T,
     alloc: Global,
@@ -150,12 +202,16 @@ fn summary_to<G: Gate, T: Threads + Wait + Sync, O: Write>(
         (λ text. OfTexts texts.now (λ inputs. IsShown IsSummary inputs status text))) }
     ensures status { IfOk result (λ status. status ≤ 1) }
     ensures stopped { IfErr result (λ stop. OfTexts texts.now (λ inputs. IsStopOn inputs stop)) }
+    ensures untouched { IfErr result
+        (λ stop. IsUntouched stop (O.contents out.old) (O.contents out.new)) }
 {
-    let (seen, sources) = match see_with_sources(rt, alloc, gate, workers, texts, line.chunk) {
+    let (seen, beside) = match see_with_sources(rt, alloc, gate, workers, texts, line.chunk) {
         Ok(both) => both,
         Err(stop) => return Err(stop),
     };
-    let Ok(text) = summary_text(alloc, &seen.worked.lines(), &seen, &sources, line) else {
+    let inputs = texts.inputs();
+    let lines = seen.worked.lines();
+    let Ok(text) = summary_text(alloc, &lines, &seen, beside, &inputs, line) else {
         return Err(Stop::NoMemory);
     };
     match put(out, text.as_str()) {
@@ -165,6 +221,7 @@ fn summary_to<G: Gate, T: Threads + Wait + Sync, O: Write>(
 }
 
 /// Writes the explanation, or the sheet of one condition, and gives the exit status.
+#[tactic(auto, using(crate::proofs::ShownLemmas::untouched_same, crate::proofs::ShownLemmas::untouched_write))]
 fn explanation_to<G: Gate, T: Threads + Wait + Sync, O: Write>(
     rt: &T,
     alloc: Global,
@@ -178,6 +235,8 @@ fn explanation_to<G: Gate, T: Threads + Wait + Sync, O: Write>(
         (IsShown (IsExplanation line.entry.condition) inputs.now status)) }
     ensures status { IfOk result (λ status. status ≤ 1) }
     ensures stopped { IfErr result (IsStopOn inputs.now) }
+    ensures untouched { IfErr result
+        (λ stop. IsUntouched stop (O.contents out.old) (O.contents out.new)) }
 {
     let seen = match see(rt, alloc, gate, workers, inputs, line.chunk) {
         Ok(seen) => seen,
@@ -221,6 +280,7 @@ fn end_of(
 }
 
 /// Writes the table of some lines, and gives the first of them that fails.
+#[tactic(auto, using(crate::proofs::ShownLemmas::untouched_same, crate::proofs::ShownLemmas::untouched_write))]
 fn put_table<G: Gate, T: Threads + Wait + Sync, O: Write>(
     rt: &T,
     alloc: Global,
@@ -235,6 +295,8 @@ fn put_table<G: Gate, T: Threads + Wait + Sync, O: Write>(
         (IsTable line.entry.form (case_in_view lines.now.case))) }
     ensures first { IfOk result (λ first. first ≡ first_in (case_in_view lines.now.case)) }
     ensures stopped { IfErr result (IsStopOn inputs.now) }
+    ensures untouched { IfErr result
+        (λ stop. IsUntouched stop (O.contents out.old) (O.contents out.new)) }
 {
     let steps = lines.case.lines().saturating_sub(1);
     let Ok(lifts) = lifts_of(alloc, inputs.movins, inputs.steps, steps) else {
@@ -261,6 +323,7 @@ fn put_table<G: Gate, T: Threads + Wait + Sync, O: Write>(
 }
 
 /// Writes the table that a line asks for, and gives the exit status.
+#[tactic(auto, using(crate::proofs::ShownLemmas::untouched_same, crate::proofs::ShownLemmas::untouched_write))]
 fn table_to<G: Gate, T: Threads + Wait + Sync, O: Write>(
     rt: &T,
     alloc: Global,
@@ -274,6 +337,8 @@ fn table_to<G: Gate, T: Threads + Wait + Sync, O: Write>(
         (IsShown (IsTable line.entry.form) inputs.now status)) }
     ensures status { IfOk result (λ status. status ≤ 1) }
     ensures stopped { IfErr result (IsStopOn inputs.now) }
+    ensures untouched { IfErr result
+        (λ stop. IsUntouched stop (O.contents out.old) (O.contents out.new)) }
 {
     let worked = match work(rt, alloc, gate, workers, inputs, line.chunk) {
         Ok(worked) => worked,
@@ -287,6 +352,7 @@ fn table_to<G: Gate, T: Threads + Wait + Sync, O: Write>(
 }
 
 /// Writes what a line asks for on the texts of its files, and gives the exit status.
+#[tactic(auto, using(crate::proofs::ShownLemmas::untouched_same, crate::proofs::ShownLemmas::untouched_write))]
 fn texts_to<G: Gate, T: Threads + Wait + Sync, O: Write>(
     rt: &T,
     alloc: Global,
@@ -300,6 +366,8 @@ fn texts_to<G: Gate, T: Threads + Wait + Sync, O: Write>(
         (λ inputs. IsShown (IsTextOf line.entry) inputs status text))) }
     ensures status { IfOk result (λ status. status ≤ 1) }
     ensures stopped { IfErr result (λ stop. OfTexts texts.now (λ inputs. IsStopOn inputs stop)) }
+    ensures untouched { IfErr result
+        (λ stop. IsUntouched stop (O.contents out.old) (O.contents out.new)) }
 {
     let inputs = texts.inputs();
     // The words are 1 to 16 already, which `clap` sees to.
@@ -313,55 +381,258 @@ fn texts_to<G: Gate, T: Threads + Wait + Sync, O: Write>(
     }
 }
 
-/// Writes what a line asks for, and gives the exit status.
-fn line_to<R: Readers, G: Gate, T: Threads + Wait + Sync, O: Write>(
+/// What is printed of a refusal: its line, and its explanation.
+fn refusal_text(
+    alloc: Global,
+    fault: RunFault,
+    inputs: &Inputs<'_>,
+    line: ViewLine<'_>,
+) -> Result<String, AllocError>
+    ensures { IfOk result (λ text. IsToldOf fault (string_bytes text)) }
+{
+    let behind = refusal_of(alloc, fault, inputs, &names_of(line))?;
+    let stop = Stop::Refused(fault);
+    let text = format!(in alloc; "{stop}\n{behind}")?;
+    Ok(text)
+}
+
+/// Tells of a refusal, and gives its exit status: an explanation is what was asked for, and goes to
+/// `out`; beside anything else it is a fault, and goes to `err`.
+#[tactic(auto, using(crate::proofs::ShownLemmas::told_beside, crate::proofs::ShownLemmas::unrefused_write))]
+fn tell_refusal<O: Write, E: Write>(
+    alloc: Global,
+    fault: RunFault,
+    inputs: &Inputs<'_>,
+    line: ViewLine<'_>,
+    out: &mut O,
+    err: &mut E,
+) -> Result<u8, Stop>
+    ensures told { IfOk result (λ status. (status ≡ 2)
+        × IsRefusalTold line.entry.view fault (O.contents out.old) (O.contents out.new)) }
+    ensures stopped { IfErr result IsUnrefused }
+{
+    let Ok(text) = refusal_text(alloc, fault, inputs, line) else {
+        return Err(Stop::NoMemory);
+    };
+    if line.view == View::Explain {
+        return match put(out, text.as_str()) {
+            Ok(()) => Ok(REFUSED),
+            Err(stop) => Err(stop),
+        };
+    }
+    // What `err` takes of it changes nothing.
+    let _ = err.write_all(text.as_bytes());
+    Ok(REFUSED)
+}
+
+/// Writes what a line asks for on the texts of its files, or tells of their refusal, and gives the
+/// exit status.
+#[tactic(auto, using(crate::proofs::ShownLemmas::unrefused_other))]
+fn answer_to<G: Gate, T: Threads + Wait + Sync, O: Write, E: Write>(
+    rt: &T,
+    alloc: Global,
+    gate: &G,
+    texts: &Texts,
+    line: ViewLine<'_>,
+    out: &mut O,
+    err: &mut E,
+) -> Result<u8, Stop>
+    ensures answered { IfOk result (λ status.
+        IsAnswerOn texts.now line.entry status (O.contents out.old) (O.contents out.new)) }
+    ensures status { IfOk result (λ status. status ≤ 2) }
+    ensures quiet { IfOk result
+        (λ status. status ≤ 1 → E.contents err.new ≡ E.contents err.old) }
+    ensures stopped { IfErr result IsUnrefused }
+{
+    let stop = match texts_to(rt, alloc, gate, texts, line, out) {
+        Ok(status) => return Ok(status),
+        Err(stop) => stop,
+    };
+    match stop {
+        Stop::Refused(fault) => tell_refusal(alloc, fault, &texts.inputs(), line, out, err),
+        stop => Err(stop),
+    }
+}
+
+/// Tells of a file that can't be read, and gives its exit status: on `out` where an explanation was
+/// asked for, and else on `err`.
+#[tactic(auto, using(crate::proofs::ShownLemmas::unrefused_unread, crate::proofs::ShownLemmas::unrefused_write))]
+fn tell_unread<O: Write, E: Write>(
+    alloc: Global,
+    stop: Stop,
+    is_asked: bool,
+    out: &mut O,
+    err: &mut E,
+) -> Result<u8, Stop>
+    requires { IsUnread stop }
+    ensures status { IfOk result (λ status. status ≡ 5) }
+    ensures stopped { IfErr result IsUnrefused }
+{
+    let Stop::Read(_) = &stop else {
+        return Err(stop);
+    };
+    let Ok(behind) = unread_file(alloc) else {
+        return Err(Stop::NoMemory);
+    };
+    let Ok(text) = format!(in alloc; "{stop}\n{behind}") else {
+        return Err(Stop::NoMemory);
+    };
+    if is_asked {
+        return match put(out, text.as_str()) {
+            Ok(()) => Ok(UNREAD),
+            Err(stop) => Err(stop),
+        };
+    }
+    // What `err` takes of it changes nothing.
+    let _ = err.write_all(text.as_bytes());
+    Ok(UNREAD)
+}
+
+/// Writes what a line asks for, or tells why there is no such text, and gives the exit status.
+fn line_to<R: Readers, G: Gate, T: Threads + Wait + Sync, O: Write, E: Write>(
     rt: &T,
     alloc: Global,
     gate: &G,
     files: &mut R,
     line: ViewLine<'_>,
     out: &mut O,
+    err: &mut E,
 ) -> Result<u8, Stop>
-    ensures shown { IfOk result (λ status. HasWritten (O.contents out.old) (O.contents out.new)
-        (λ text. OnFiles (R.known files.old) line.entry
-        (λ inputs. IsShown (IsTextOf line.entry) inputs status text))) }
-    ensures status { IfOk result (λ status. status ≤ 1) }
-    ensures stopped { IfErr result (IsStopOf (R.known files.old) line.entry) }
+    ensures answered { IfOk result (λ status. IsAnswerOf (R.known files.old) line.entry status
+        (O.contents out.old) (O.contents out.new)) }
+    ensures status { IfOk result (λ status. status ≤ 5) }
+    ensures quiet { IfOk result
+        (λ status. status ≤ 1 → E.contents err.new ≡ E.contents err.old) }
+    ensures stopped { IfErr result IsUnrefused }
 {
-    let texts = match read_texts(alloc, files, files_of(line)) {
-        Ok(texts) => texts,
-        Err(stop) => return Err(stop),
-    };
-    texts_to(rt, alloc, gate, &texts, line, out)
+    match read_texts(alloc, files, files_of(line)) {
+        Ok(texts) => answer_to(rt, alloc, gate, &texts, line, out, err),
+        Err(stop) => tell_unread(alloc, stop, line.view == View::Explain, out, err),
+    }
 }
 
-/// Writes what the words of a command line ask for, and gives the exit status.
-fn run_words<R: Readers, G: Gate, T: Threads + Wait + Sync, O: Write>(
+/// What is printed of a refused profile: the line of the refusal, and its explanation.
+fn profile_refusal(
+    alloc: Global,
+    fault: ProfileFault,
+    files: &ProfileBytes<'_>,
+) -> Result<String, AllocError> {
+    let behind = profile_refusal_of(alloc, fault, files)?;
+    let stop = Stop::Refused(RunFault::Profile(fault));
+    let text = format!(in alloc; "{stop}\n{behind}")?;
+    Ok(text)
+}
+
+/// A profile that was read of the files of a folder, in words.
+fn profile_words(
+    alloc: Global,
+    folder: &str,
+    files: &ProfileBytes<'_>,
+    profile: &Profile,
+) -> Result<String, AllocError> {
+    let (digest, name) = profile_source(alloc, files)?;
+    let parts = Parts::new(alloc, *files, profile)?;
+    profile_text(alloc, folder, name.as_str(), digest.as_str(), &parts)
+}
+
+/// Writes the profile of the files of a folder, or tells of its refusal, and gives the exit status.
+#[tactic(auto, using(crate::proofs::ShownLemmas::told_beside, crate::proofs::ShownLemmas::unrefused_write))]
+fn folder_to<O: Write, E: Write>(
+    alloc: Global,
+    folder: &str,
+    files: &ProfileBytes<'_>,
+    out: &mut O,
+    err: &mut E,
+) -> Result<u8, Stop>
+    ensures answered { IfOk result (λ status. IsProfileAnswerOn (texts_of files.now) status
+        (O.contents out.old) (O.contents out.new)) }
+    ensures status { IfOk result (λ status. status ≤ 2) }
+    ensures quiet { IfOk result
+        (λ status. status ≤ 1 → E.contents err.new ≡ E.contents err.old) }
+    ensures stopped { IfErr result IsUnrefused }
+{
+    match Profile::read(alloc, files) {
+        Ok(profile) => {
+            let Ok(text) = profile_words(alloc, folder, files, &profile) else {
+                return Err(Stop::NoMemory);
+            };
+            match put(out, text.as_str()) {
+                Ok(()) => Ok(0),
+                Err(stop) => Err(stop),
+            }
+        }
+        Err(ProfileFault::NoMemory) => Err(Stop::NoMemory),
+        Err(fault) => {
+            let Ok(text) = profile_refusal(alloc, fault, files) else {
+                return Err(Stop::NoMemory);
+            };
+            // What `err` takes of it changes nothing.
+            let _ = err.write_all(text.as_bytes());
+            Ok(REFUSED)
+        }
+    }
+}
+
+/// Writes the profile of a folder, or tells why there is none, and gives the exit status.
+fn profile_to<R: Readers, O: Write, E: Write>(
+    alloc: Global,
+    files: &mut R,
+    folder: &str,
+    out: &mut O,
+    err: &mut E,
+) -> Result<u8, Stop>
+    ensures answered { IfOk result (λ status. IsProfileAnswer (R.known files.old) folder.now status
+        (O.contents out.old) (O.contents out.new)) }
+    ensures status { IfOk result (λ status. status ≤ 5) }
+    ensures quiet { IfOk result
+        (λ status. status ≤ 1 → E.contents err.new ≡ E.contents err.old) }
+    ensures stopped { IfErr result IsUnrefused }
+{
+    match read_folder(alloc, files, folder) {
+        Ok(texts) => {
+            let bytes = texts.texts();
+            folder_to(alloc, folder, &bytes, out, err)
+        }
+        Err(stop) => tell_unread(alloc, stop, false, out, err),
+    }
+}
+
+/// Writes what the words of a command line ask for, or tells why there is no such text, and gives
+/// the exit status.
+fn run_words<R: Readers, G: Gate, T: Threads + Wait + Sync, O: Write, E: Write>(
     rt: &T,
     alloc: Global,
     gate: &G,
     files: &mut R,
     words: &[&str],
     out: &mut O,
+    err: &mut E,
 ) -> Result<u8, Stop>
-    ensures shown { IfOk result (λ status. HasWritten (O.contents out.old) (O.contents out.new)
-        (IsShownBy (R.known files.old) status)) }
-    ensures status { IfOk result (λ status. status ≤ 1) }
-    ensures stopped { IfErr result (IsStopBy (R.known files.old)) }
+    ensures answered { IfOk result (λ status. IsAnswerBy (R.known files.old) status
+        (O.contents out.old) (O.contents out.new)) }
+    ensures status { IfOk result (λ status. status ≤ 5) }
+    ensures quiet { IfOk result
+        (λ status. status ≤ 1 → E.contents err.new ≡ E.contents err.old) }
+    ensures stopped { IfErr result IsUnrefused }
 {
-    match read_view_line(alloc, words) {
-        Ok(line) => line_to(rt, alloc, gate, files, line, out),
+    match read_command(alloc, words) {
+        Ok(Command::Call(line)) => line_to(rt, alloc, gate, files, line, out, err),
+        Ok(Command::Profile { folder }) => profile_to(alloc, files, folder, out, err),
         Err(fault) => Err(Stop::from(fault)),
     }
 }
 
-/// The whole program over readers and writers: the text goes to `out`, and one line on what stopped
-/// it to `err`. The exit status is that of the report on the same inputs, 0 or 1; or 2 an input is
+/// The whole program over readers and writers: the text goes to `out`, and what stopped it to
+/// `err`. The exit status is that of the report on the same inputs, 0 or 1; or 2 an input is
 /// refused, 3 usage error or help, 4 out of memory, 5 a file can't be read or `out` can't be
 /// written. A fault of `err` changes nothing.
 ///
-/// A summary ends with the last line of the report, an explanation begins with it, and a table has
-/// the figures of each of its lines. An input is refused where the report refuses it.
+/// The profile of a folder is read back where it is read at all. Of a port call, a summary ends
+/// with the last line of the report, an explanation begins with it, and a table has
+/// the figures of each of its lines. An input is refused where the report refuses it: then its line
+/// with an explanation behind it goes to `out` where an explanation was asked for, and to `err`,
+/// without anything on `out`, where anything else was; a file that can't be read is told of
+/// likewise.
 pub fn serve_view<R: Readers, G: Gate, T: Threads + Wait + Sync, O: Write, E: Write>(
     rt: &T,
     alloc: Global,
@@ -372,12 +643,13 @@ pub fn serve_view<R: Readers, G: Gate, T: Threads + Wait + Sync, O: Write, E: Wr
     err: &mut E,
 ) -> u8
     ensures range { result ≤ 5 }
-    ensures shown { result ≤ 1 → HasWritten (O.contents out.old) (O.contents out.new)
-        (IsShownBy (R.known files.old) result) }
-    ensures refused { result ≡ 2 → IsRefusedBy (R.known files.old) }
+    ensures shown { result ≤ 1 → IsShownBy (R.known files.old) result
+        (O.contents out.old) (O.contents out.new) }
+    ensures refused { result ≡ 2 → IsRefusedBy (R.known files.old)
+        (O.contents out.old) (O.contents out.new) }
     ensures quiet { result ≤ 1 → E.contents err.new ≡ E.contents err.old }
 {
-    match run_words(rt, alloc, gate, files, words, out) {
+    match run_words(rt, alloc, gate, files, words, out, err) {
         Ok(status) => status,
         Err(stop) => report_stop(&stop, err),
     }

@@ -1,6 +1,6 @@
 //! The words of a command line of the planner's view.
 use clap::error::ErrorKind;
-use clap::{Arg, ArgAction, ArgMatches, Command, value_parser};
+use clap::{Arg, ArgAction, ArgMatches, Command as Words, value_parser};
 use command_line::LineFault;
 use std::alloc::{AllocError, Global};
 use view_table::Form;
@@ -16,7 +16,16 @@ pub enum View {
     Table,
 }
 
-/// The words of a command line, as they were given.
+/// What the words of a command line ask for.
+#[derive(Clone, Copy, Debug, PartialEq, Eq)]
+pub enum Command<'a> {
+    /// A text on a port call.
+    Call(ViewLine<'a>),
+    /// The ship's profile in a folder, read back.
+    Profile { folder: &'a str },
+}
+
+/// The words of a command line on a port call, as they were given.
 #[derive(Clone, Copy, Debug, PartialEq, Eq)]
 pub struct ViewLine<'a> {
     /// What is printed, by the first word.
@@ -40,7 +49,7 @@ pub struct ViewLine<'a> {
 }
 
 /// The usage text where the first word is no command.
-const USAGE: &str = "usage: loadseq summary|explain|table";
+const USAGE: &str = "usage: loadseq summary|explain|table|profile";
 
 /// What help says of the commands, of each of their words, and of their options.
 const ABOUT_SUMMARY: &str =
@@ -51,6 +60,9 @@ const ABOUT_EXPLAIN: &str =
 
 const ABOUT_TABLE: &str =
     "Writes every figure of every condition for other programs, as CSV or as lines of JSON";
+
+const ABOUT_PROFILE: &str =
+    "Writes the ship's profile back in tonnes, metres and degrees, with a warning for whatever looks wrong";
 
 const ABOUT_FOLDER: &str = "The folder of the ship's profile: ship.toml and her tables";
 
@@ -108,13 +120,13 @@ fn number<'a>(alloc: Global, name: &'a str, value: &'a str, about: &'a str) -> A
 }
 
 /// The command that asks for this, with the words that it has to be given.
-fn with_words<'a>(alloc: Global, view: View) -> Result<Command<'a>, AllocError> {
+fn with_words<'a>(alloc: Global, view: View) -> Result<Words<'a>, AllocError> {
     let (name, about) = match view {
         View::Summary => ("loadseq summary", ABOUT_SUMMARY),
         View::Explain => ("loadseq explain", ABOUT_EXPLAIN),
         View::Table => ("loadseq table", ABOUT_TABLE),
     };
-    Command::new(alloc, name)
+    Words::new(alloc, name)
         .about(about)
         .no_binary_name(true)
         .arg(word(alloc, "FOLDER", ABOUT_FOLDER))?
@@ -124,7 +136,7 @@ fn with_words<'a>(alloc: Global, view: View) -> Result<Command<'a>, AllocError> 
 }
 
 /// The command with what it alone takes.
-fn with_own<'a>(alloc: Global, view: View) -> Result<Command<'a>, AllocError> {
+fn with_own<'a>(alloc: Global, view: View) -> Result<Words<'a>, AllocError> {
     let command = with_words(alloc, view)?;
     match view {
         View::Summary => Ok(command),
@@ -136,7 +148,7 @@ fn with_own<'a>(alloc: Global, view: View) -> Result<Command<'a>, AllocError> {
 }
 
 /// The command with all its words and options.
-fn command_for<'a>(alloc: Global, view: View) -> Result<Command<'a>, AllocError> {
+fn command_for<'a>(alloc: Global, view: View) -> Result<Words<'a>, AllocError> {
     with_own(alloc, view)?
         .arg(number(alloc, "workers", "N", ABOUT_WORKERS).value_parser(value_parser!(u32).range(
             1..=16,
@@ -225,17 +237,51 @@ fn line_for<'a>(
     }
 }
 
-/// The command line that the words after the program's name are. [`LineFault::Usage`] comes where
+/// The command that asks for a profile.
+fn profile_words<'a>(alloc: Global) -> Result<Words<'a>, AllocError> {
+    Words::new(alloc, "loadseq profile")
+        .about(ABOUT_PROFILE)
+        .no_binary_name(true)
+        .arg(word(alloc, "FOLDER", ABOUT_FOLDER))
+}
+
+/// What `clap` makes of the words behind it.
+fn profile_matches<'a>(alloc: Global, words: &'a [&'a str]) -> Result<ArgMatches<'a>, clap::Error> {
+    let command = profile_words(alloc)?;
+    command.try_get_matches_from(words)
+}
+
+/// The folder of a profile that the words name.
+fn profile_for<'a>(alloc: Global, words: &'a [&'a str]) -> Result<Command<'a>, LineFault> {
+    match profile_matches(alloc, words) {
+        Ok(matches) => match matches.get_str("FOLDER") {
+            Some(folder) => Ok(Command::Profile { folder }),
+            None => Err(usage(alloc, USAGE)),
+        },
+        Err(error) => Err(usage_fault(alloc, &error)),
+    }
+}
+
+/// The text on a port call that the words ask for.
+fn call_for<'a>(alloc: Global, view: View, words: &'a [&'a str]) -> Result<Command<'a>, LineFault> {
+    match line_for(alloc, view, words) {
+        Ok(line) => Ok(Command::Call(line)),
+        Err(fault) => Err(fault),
+    }
+}
+
+/// The command that the words after the program's name are. [`LineFault::Usage`] comes where
 /// there is no first word, it is no command, or `clap` doesn't take the words behind it; help is
 /// such an answer too.
-pub fn read_view_line<'a>(alloc: Global, words: &'a [&'a str]) -> Result<ViewLine<'a>, LineFault> {
+pub fn read_command<'a>(alloc: Global, words: &'a [&'a str]) -> Result<Command<'a>, LineFault> {
     let Some((first, behind)) = words.split_first() else {
         return Err(usage(alloc, USAGE));
     };
     match *first {
-        "summary" => line_for(alloc, View::Summary, behind),
-        "explain" => line_for(alloc, View::Explain, behind),
-        "table" => line_for(alloc, View::Table, behind),
+        "summary" => call_for(alloc, View::Summary, behind),
+        "explain" => call_for(alloc, View::Explain, behind),
+        "table" => call_for(alloc, View::Table, behind),
+        "profile" => profile_for(alloc, behind),
         _ => Err(usage(alloc, USAGE)),
     }
 }

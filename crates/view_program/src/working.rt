@@ -22,6 +22,7 @@ use std::sync::Wait;
 use std::thread;
 use std::thread::{Promise, PromisedHandle, Scope, Threads};
 use strength::Hull;
+use view_inputs::{Marks, marks_of};
 use view_texts::{Sources, sources_of};
 use worst_values::{Findings, found_in};
 
@@ -166,17 +167,40 @@ fn start_sources<'s, E>(
     Ok(started?)
 }
 
-/// What is found of the inputs of some texts, and what these are.
-type Both = (Seen, Sources);
+/// Starts a thread that looks at what the messages say by themselves.
+fn start_marks<'s, E>(
+    scope: &Scope<'s, E>,
+    alloc: Global,
+    texts: &'s Texts,
+) -> Result<PromisedHandle<Result<Marks, AllocError>, Unsaid>, AllocError> {
+    let started = scope.spawn_with(Unsaid, move || -> Result<Marks, AllocError> {
+        marks_of(alloc, &texts.inputs())
+    });
+    Ok(started?)
+}
 
-/// What is found, with what the inputs are, if that is there.
-fn with_sources(seen: Seen, sources: Result<Sources, AllocError>) -> Result<Both, Stop>
+/// What is found of inputs beside the port call: what they are, and what is odd of the messages.
+#[derive(Drop)]
+pub struct Beside {
+    pub sources: Sources,
+    pub marks: Marks,
+}
+
+/// What is found of the inputs of some texts, and beside that.
+type Both = (Seen, Beside);
+
+/// What is found, with what is found beside it, if that is there.
+fn with_sources(
+    seen: Seen,
+    sources: Result<Sources, AllocError>,
+    marks: Result<Marks, AllocError>,
+) -> Result<Both, Stop>
     ensures made { IfOk result (λ b. b.0 ≡ seen) }
     ensures stopped { IfErr result (λ stop. stop ≡ Stop.NoMemory) }
 {
-    match sources {
-        Ok(sources) => Ok((seen, sources)),
-        Err(AllocError) => Err(Stop::NoMemory),
+    match (sources, marks) {
+        (Ok(sources), Ok(marks)) => Ok((seen, Beside { sources, marks })),
+        _ => Err(Stop::NoMemory),
     }
 }
 
@@ -196,7 +220,7 @@ fn see_in_turn<G: Gate, R: Threads + Wait + Sync>(
 {
     let inputs = texts.inputs();
     match see(rt, alloc, gate, workers, &inputs, chunk) {
-        Ok(seen) => with_sources(seen, sources_of(alloc, &inputs)),
+        Ok(seen) => with_sources(seen, sources_of(alloc, &inputs), marks_of(alloc, &inputs)),
         Err(stop) => Err(stop),
     }
 }
@@ -229,10 +253,16 @@ fn see_beside<G: Gate, R: Threads + Wait + Sync>(
             let Ok(sources) = start_sources(scope, alloc, texts) else {
                 return Err(Stop::NoMemory);
             };
+            let Ok(marks) = start_marks(scope, alloc, texts) else {
+                // joined, so that what it found is let go
+                drop(sources.join(rt));
+                return Err(Stop::NoMemory);
+            };
             let seen = see(rt, alloc, gate, workers, &inputs, chunk);
             let sources = sources.join(rt);
+            let marks = marks.join(rt);
             match seen {
-                Ok(seen) => with_sources(seen, sources),
+                Ok(seen) => with_sources(seen, sources, marks),
                 Err(stop) => Err(stop),
             }
         },

@@ -1,42 +1,22 @@
 //! The first condition that fails, in words: what fails, where, by how much, what is missing, and
 //! what to do.
 use crate::advice::{Advice, NO_LIST, advice_on, advice_outside};
-use crate::places::{StepPlace, place_of};
 use crate::rows::{RowText, tightest};
 use crate::sheets::{add_sheet, condition_rows, row_by, unmet_words};
 use crate::steps::{deed, lift_at};
 use crate::summaries::worst_rows;
 use crate::unmet::{lines_with, mark_of, runs_with};
-use crate::words::add_wrapped;
 use criteria::Criterion;
 use hydrostat::Outside;
+use plain_text::{add_paragraph, in_tenths, in_thousandths};
 use port_call::{Case, Inputs};
 use seq_report::Lines;
 use ship_profile::Profile;
 use std::alloc::{AllocError, Global};
 use std::cmp::Ordering;
-use view_figures::{Condition, Figures, Inside, Missed, condition_at, in_tenths, in_thousandths};
+use view_figures::{Condition, Figures, Inside, Missed, condition_at};
+use view_inputs::{StepPlace, place_of};
 use worst_values::{Findings, Limit};
-
-/// How far a paragraph is indented.
-const INDENT: usize = 8;
-
-/// Adds a paragraph behind its heading, where there is something to say.
-fn add_paragraph(
-    alloc: Global,
-    text: &mut String,
-    heading: &str,
-    words: &str,
-) -> Result<(), AllocError> {
-    if words.is_empty() {
-        return Ok(());
-    }
-    add_wrapped(
-        text,
-        format!(in alloc; "{heading:<8}{words}")?.as_str(),
-        INDENT,
-    )
-}
 
 /// Whether the ship has no list in a condition.
 fn has_no_list(inside: &Inside) -> bool {

@@ -8,8 +8,6 @@
 
 mod advice;
 mod explanations;
-mod identity;
-mod places;
 mod records;
 mod rows;
 mod sheets;
@@ -17,12 +15,9 @@ mod sources;
 mod steps;
 mod summaries;
 mod unmet;
-mod words;
 
 pub use explanations::explanation_of;
-pub use identity::{Identity, identity_line};
-pub use places::lifts_of;
 pub use records::{end_line, run_line};
 pub use sheets::add_sheet;
-pub use sources::{Sources, sources_of};
-pub use summaries::{Names, VERSION, summary_front};
+pub use sources::{Sources, profile_source, sources_of};
+pub use summaries::{Odd, VERSION, summary_front};

@@ -1,11 +1,11 @@
 //! The first and the last object of a table of JSON.
-use crate::identity::first_of;
 use crate::sources::Sources;
-use crate::summaries::{Names, VERSION};
+use crate::summaries::VERSION;
 use criteria::Criterion;
 use port_call::Case;
 use std::alloc::{AllocError, Global};
 use std::fmt::Write;
+use view_inputs::{Names, first_of};
 use view_table::add_json_text;
 
 /// Adds a text behind its key; it is empty where nothing says it.

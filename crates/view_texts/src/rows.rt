@@ -1,16 +1,13 @@
 //! The rows of the table of limits, in words.
-use crate::words::add_line;
 use criteria::Criterion;
 use fractions::is_less;
 use hydrostat::Outside;
+use plain_text::{add_line, in_hundredths, in_ten_thousandths, in_tenths, in_thousandths};
 use seq_report::cause_word;
 use std::alloc::{AllocError, Global};
 use std::cmp::Ordering;
 use units_core::Frac;
-use view_figures::{
-    Figures, ListReading, Reading, Row, Used, in_hundredths, in_ten_thousandths, in_tenths,
-    in_thousandths,
-};
+use view_figures::{Figures, ListReading, Reading, Row, Used};
 use worst_values::Limit;
 
 /// A row of the table, as it is printed.

@@ -2,15 +2,13 @@
 //! and the loads at each frame.
 use crate::rows::{NO_LEAST_GM, RowText, add_row, outside_row, percent_text, row_text};
 use crate::steps::{deed, lift_at};
-use crate::words::{add_line, add_wrapped};
 use hydrostat::Outside;
+use plain_text::{add_line, add_wrapped, in_hundredths, in_tenths, in_thousandths};
 use port_call::Case;
 use seq_report::cause_word;
 use std::alloc::{AllocError, Global};
 use std::cmp::Ordering;
-use view_figures::{
-    Condition, Figures, FrameRow, Inside, Missed, Row, in_hundredths, in_tenths, in_thousandths,
-};
+use view_figures::{Condition, Figures, FrameRow, Inside, Missed, Row};
 use worst_values::{Limit, Unmet, criterion_at};
 
 /// The heading of the table of one condition.

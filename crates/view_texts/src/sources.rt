@@ -1,10 +1,11 @@
 //! What the inputs of a run are: what the messages say of themselves, and the digest of each text.
-use crate::identity::{Identity, identity_in};
 use edifact_text::Kind;
+use plain_text::shown_line;
 use port_call::Inputs;
 use sha2::{Digest, Sha256};
 use ship_profile::ProfileBytes;
 use std::alloc::{AllocError, Global};
+use view_inputs::{Identity, identity_in};
 
 /// A message: what it says, and the SHA-256 of its text in hexadecimal.
 #[derive(Debug, Drop)]
@@ -73,29 +74,43 @@ fn name_in(alloc: Global, text: &[u8]) -> Result<String, AllocError> {
     };
     match table.get("name") {
         Some(value) => match value.as_str() {
-            Some(name) => crate::words::shown_line(alloc, name.as_bytes()),
+            Some(name) => shown_line(alloc, name.as_bytes()),
             None => Ok(String::new(alloc)),
         },
         None => Ok(String::new(alloc)),
     }
 }
 
-/// The profile's digest and the ship's name.
-fn profile_source(alloc: Global, files: &ProfileBytes<'_>) -> Result<(String, String), AllocError> {
+/// The digest of a profile's files, and the ship's name, empty where she has none.
+pub fn profile_source(
+    alloc: Global,
+    files: &ProfileBytes<'_>,
+) -> Result<(String, String), AllocError> {
     let digest = profile_digest(alloc, files)?;
     let name = name_in(alloc, files.ship)?;
     Ok((digest, name))
 }
 
-/// What the inputs of a run are.
-pub fn sources_of(alloc: Global, inputs: &Inputs<'_>) -> Result<Sources, AllocError> {
+/// The bay plan and the instruction of a run.
+fn messages_of(alloc: Global, inputs: &Inputs<'_>) -> Result<(Message, Message), AllocError> {
     let plan = message_of(alloc, inputs.baplie, Kind::Baplie)?;
     let moves = message_of(alloc, inputs.movins, Kind::Movins)?;
+    Ok((plan, moves))
+}
+
+/// The digest of a steps file, if there is one.
+fn steps_digest(alloc: Global, text: Option<&[u8]>) -> Result<Option<String>, AllocError> {
+    match text {
+        Some(text) => Ok(Some(digest_of(alloc, text)?)),
+        None => Ok(None),
+    }
+}
+
+/// What the inputs of a run are.
+pub fn sources_of(alloc: Global, inputs: &Inputs<'_>) -> Result<Sources, AllocError> {
+    let (plan, moves) = messages_of(alloc, inputs)?;
     let (profile, name) = profile_source(alloc, &inputs.profile)?;
-    let steps = match inputs.steps {
-        Some(text) => Some(digest_of(alloc, text)?),
-        None => None,
-    };
+    let steps = steps_digest(alloc, inputs.steps)?;
     Ok(Sources {
         profile,
         name,

@@ -1,28 +1,12 @@
 //! What a step does, in words.
-use crate::words::shown_line;
 use lift_sequence::Op;
-use port_call::{Case, printable};
+use plain_text::{in_thousandths, shown, shown_line};
+use port_call::Case;
 use std::alloc::{AllocError, Global};
 use stow_messages::Lift;
 use units_core::Cell;
-use view_figures::in_thousandths;
+use view_inputs::cell_text;
 use view_table::MovedBy;
-
-/// Bytes of a name, a question mark for each that can't be printed, and for a blank.
-fn shown(alloc: Global, bytes: &[u8]) -> Result<String, AllocError> {
-    let mut text = String::new(alloc);
-    for byte in bytes {
-        text.push(char::from(printable(*byte)))?;
-    }
-    Ok(text)
-}
-
-/// A cell in its seven digits.
-pub fn cell_text(alloc: Global, cell: Cell) -> Result<String, AllocError> {
-    let Cell { bay, row, tier } = cell;
-    let text = format!(in alloc; "{bay:03}{row:02}{tier:02}")?;
-    Ok(text)
-}
 
 /// What leads to a condition, as the report's column LIFT has it.
 pub fn lift_text(alloc: Global, op: Option<&Op>) -> Result<String, AllocError> {
@@ -50,13 +34,14 @@ pub fn lift_text(alloc: Global, op: Option<&Op>) -> Result<String, AllocError> {
     }
 }
 
+/// The step of a number; `None` of 0, which is the arrival, and behind the last.
+fn op_at<'a>(case: Case<'a>, step: u32) -> Option<&'a Op> {
+    case.sequence.ops().get((step as usize).checked_sub(1)?)
+}
+
 /// What leads to the condition of a step of a case.
 pub fn lift_at(alloc: Global, case: Case<'_>, step: u32) -> Result<String, AllocError> {
-    let op = match (step as usize).checked_sub(1) {
-        Some(place) => case.sequence.ops().get(place),
-        None => None,
-    };
-    lift_text(alloc, op)
+    lift_text(alloc, op_at(case, step))
 }
 
 /// A cell in words.
@@ -111,11 +96,7 @@ pub fn mass_out(case: Case<'_>, step: u32) -> u32 {
 
 /// What the step of a number does, 0 being the condition on arrival.
 pub fn deed(alloc: Global, case: Case<'_>, step: u32) -> Result<String, AllocError> {
-    let op = match (step as usize).checked_sub(1) {
-        Some(place) => case.sequence.ops().get(place),
-        None => None,
-    };
-    let Some(op) = op else {
+    let Some(op) = op_at(case, step) else {
         return String::from_str(alloc, "the condition on arrival");
     };
     match op {

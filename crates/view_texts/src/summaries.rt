@@ -1,18 +1,18 @@
 //! One screen to accept a plan by.
-use crate::identity::identity_line;
 use crate::rows::{NO_LEAST_GM, RowText, add_worst_row, outside_row, row_text, tightest};
 use crate::sources::Sources;
 use crate::steps::lift_at;
 use crate::unmet::{failing_lines, first_with, lines_with, runs_with};
-use crate::words::{add_line, add_wrapped, front, many, path};
 use criteria::Criterion;
 use hydrostat::Outside;
 use lift_sequence::Op;
+use plain_text::{add_line, add_wrapped, front, in_thousandths, many, path};
 use port_call::Case;
 use seq_report::{Lines, cause_word};
 use std::alloc::{AllocError, Global};
 use stow_messages::Lift;
-use view_figures::{Condition, condition_at, in_thousandths};
+use view_figures::{Condition, condition_at};
+use view_inputs::{Names, Notice, add_notices, identity_line};
 use worst_values::{Findings, Stretches, criterion_at};
 
 /// The program and the version of its texts.
@@ -20,6 +20,14 @@ pub const VERSION: &str = "loadview 1.0";
 
 /// The heading of the table of all conditions.
 const HEADING: &str = "    CRITERION            WORST    LIMIT   MARGIN  USED    STEP LIFT";
+
+/// What is odd of the inputs: how many warnings there are on the profile, and what was read
+/// otherwise than meant.
+#[derive(Clone, Copy)]
+pub struct Odd<'a> {
+    pub warnings: u32,
+    pub notices: &'a [Notice],
+}
 
 /// What is judged, and what isn't.
 const JUDGED: &str =
@@ -37,15 +45,6 @@ const CAUSES: [(Outside, usize); 5] = [
     (Outside::Closing, 15),
     (Outside::GmLimit, 16),
 ];
-
-/// The paths of a run's files, as they were given.
-#[derive(Clone, Copy)]
-pub struct Names<'a> {
-    pub folder: &'a str,
-    pub baplie: &'a str,
-    pub movins: &'a str,
-    pub steps: Option<&'a str>,
-}
 
 /// The cause for which a line is outside of the tables.
 fn cause_at(findings: &Findings, line: u32) -> Outside {
@@ -188,14 +187,19 @@ fn add_sources(
     text: &mut String,
     names: &Names<'_>,
     sources: &Sources,
+    warnings: u32,
 ) -> Result<(), AllocError> {
     write!(text, "\nREAD BY {VERSION}\n")?;
+    let warned = match warnings {
+        0 => String::from_str(alloc, "no warning")?,
+        _ => many(alloc, warnings, "warning")?,
+    };
     add_input(
         alloc,
         text,
         "profile",
         names.folder,
-        "",
+        warned.as_str(),
         sources.profile.as_str(),
     )?;
     let plan = &sources.plan;
@@ -465,6 +469,15 @@ fn add_table(
     add_fails(alloc, text, unmet, case.lines())
 }
 
+/// Adds what was read otherwise than meant, or not at all.
+fn add_odd(alloc: Global, text: &mut String, notices: &[Notice]) -> Result<(), AllocError> {
+    if notices.is_empty() {
+        return text.push_str("NOT READ, OR ODD: nothing\n");
+    }
+    text.push_str("NOT READ, OR ODD (loadview never changes what is judged)\n")?;
+    add_notices(alloc, text, notices)
+}
+
 /// The summary of a case but for its last line, which is the report's; `first` is the first
 /// condition that fails, with its first criterion.
 pub fn summary_front(
@@ -474,6 +487,7 @@ pub fn summary_front(
     first: Option<(u32, Criterion)>,
     names: &Names<'_>,
     sources: &Sources,
+    odd: Odd<'_>,
 ) -> Result<String, AllocError> {
     let case = lines.case;
     let mut text = String::new(alloc);
@@ -489,12 +503,12 @@ pub fn summary_front(
     if let Some(row) = tightest(rows.as_slice()) {
         add_wrapped(&mut text, tightest_line(alloc, case, row)?.as_str(), 6)?;
     }
-    add_sources(alloc, &mut text, names, sources)?;
+    add_sources(alloc, &mut text, names, sources, odd.warnings)?;
     let last = case.lines().saturating_sub(1);
     if let (Some(arrival), Some(end)) = (condition_at(lines, 0), condition_at(lines, last)) {
         add_aboard(alloc, &mut text, case, &arrival, &end)?;
     }
-    text.push_str("NOT READ, OR ODD: not looked for\n")?;
+    add_odd(alloc, &mut text, odd.notices)?;
     add_table(alloc, &mut text, case, rows.as_slice(), &findings.unmet)?;
     text.push_str("\n")?;
     text.push_str(JUDGED)?;

@@ -2,11 +2,9 @@
 ghost use Rattle.std.specs.Prelude.{◌<◌};
 
 use criteria::Criterion;
+use plain_text::Runs;
 use std::alloc::{AllocError, Global};
 use worst_values::{Stretch, Stretches};
-
-/// How many runs of numbers are printed.
-const RUNS: usize = 4;
 
 /// The mark of a criterion among those of a line.
 pub fn mark_of(criterion: Criterion) -> usize
@@ -98,53 +96,17 @@ pub fn first_with(stretches: &Stretches, mark: usize) -> Option<u32> {
     None
 }
 
-/// Runs of numbers, as they are printed: the first four.
-#[derive(Drop)]
-struct Runs {
-    text: String,
-    count: usize,
-}
-
-/// Adds a run from one number to another.
-fn add_run(runs: &mut Runs, first: u32, last: u32) -> Result<(), AllocError> {
-    if runs.count > RUNS {
-        return Ok(());
-    }
-    let between = if runs.count == 0 { "" } else { ", " };
-    if runs.count == RUNS {
-        write!(runs.text, "{between}..")?;
-    } else if first == last {
-        write!(runs.text, "{between}{first}")?;
-    } else {
-        write!(runs.text, "{between}{first} to {last}")?;
-    }
-    runs.count = runs.count.saturating_add(1);
-    Ok(())
-}
-
 /// The lines with a mark, as runs of numbers: `1 to 3, 7`; at most four, then `..`.
 pub fn runs_with(alloc: Global, stretches: &Stretches, mark: usize) -> Result<String, AllocError> {
-    let mut runs = Runs {
-        text: String::new(alloc),
-        count: 0,
-    };
+    let mut runs = Runs::new(alloc);
     let mut line = 0u32;
-    let mut start: Option<u32> = None;
     for number in 0..count_of(stretches) {
         let stretch = stretch_at(stretches, number);
-        if stretch.lines > 0 {
-            if has(stretch, mark) {
-                start = start.or(Some(line));
-            } else if let Some(first) = start {
-                add_run(&mut runs, first, line.saturating_sub(1))?;
-                start = None;
-            }
-            line = line.saturating_add(stretch.lines);
+        let behind = line.saturating_add(stretch.lines);
+        if has(stretch, mark) && line < behind {
+            runs.add(line, behind.saturating_sub(1))?;
         }
+        line = behind;
     }
-    if let Some(first) = start {
-        add_run(&mut runs, first, line.saturating_sub(1))?;
-    }
-    let Runs { text, count: _ } = runs;
-    Ok(text)
+    runs.into_text()
 }

@@ -1,0 +1,213 @@
+//! Who stands where while the steps are done, one after another, with what lies above and below.
+use crate::cells::{CellRow, DECK};
+use lift_sequence::Op;
+use plain_text::count_of;
+use std::alloc::{AllocError, Global};
+use stow_messages::{Item, Lift};
+use units_core::{Cell, conflicts};
+
+/// Nobody stands there.
+pub const NOBODY: u32 = u32::MAX;
+
+/// A cell of the ship, and who stands in it.
+#[derive(Clone, Copy, Debug)]
+pub struct Berth {
+    pub cell: Cell,
+    /// The number of the item of the bay plan that the container came as, or of its load, behind
+    /// these.
+    pub who: u32,
+    /// The step that put it there, 0 of the arrival.
+    pub since: u32,
+    /// Who was taken out last, and by which step.
+    pub taken: u32,
+    pub taken_at: u32,
+}
+
+/// The cells of a ship in the order of row, hold or deck, bay and tier, with who stands in each.
+#[derive(Debug, Drop)]
+pub struct Cargo {
+    berths: Vec<Berth>,
+}
+
+/// Where a cell stands in that order.
+fn rank(cell: Cell) -> u64 {
+    let deck = u64::from(cell.tier >= DECK);
+    let side = u64::from(cell.row).wrapping_mul(2).wrapping_add(deck);
+    let bay = side.wrapping_mul(2_000).wrapping_add(u64::from(cell.bay));
+    bay.wrapping_mul(256).wrapping_add(u64::from(cell.tier))
+}
+
+/// Where the first cell of a bay stands in it, in the row and on the side of the deck of a cell.
+fn rank_of_bay(cell: Cell, bay: u16) -> u64 {
+    let tier = if cell.tier >= DECK { DECK } else { 0 };
+    rank(Cell {
+        bay,
+        row: cell.row,
+        tier,
+    })
+}
+
+impl Cargo {
+    /// The cells of a ship, in which nobody stands.
+    pub fn new(alloc: Global, rows: &[CellRow]) -> Result<Cargo, AllocError> {
+        let mut berths = Vec::with_capacity(alloc, rows.len())?;
+        for row in rows {
+            berths.push(Berth {
+                cell: row.cell,
+                who: NOBODY,
+                since: 0,
+                taken: NOBODY,
+                taken_at: 0,
+            })?;
+        }
+        berths.sort_unstable_by_key(|berth| rank(berth.cell));
+        Ok(Cargo { berths })
+    }
+
+    /// All cells with who stands in them.
+    pub fn berths(&self) -> &[Berth] {
+        self.berths.as_slice()
+    }
+
+    /// The first place of those that are at least of a rank.
+    fn place_from(&self, least: u64) -> usize {
+        self.berths
+            .as_slice()
+            .partition_point(|berth| rank(berth.cell) < least)
+    }
+
+    /// The place of a cell.
+    fn place(&self, cell: Cell) -> Option<usize> {
+        let place = self.place_from(rank(cell));
+        let berth = self.berths.get(place)?;
+        if berth.cell == cell {
+            Some(place)
+        } else {
+            None
+        }
+    }
+
+    /// A cell with who stands in it; nothing where the ship has no such cell.
+    pub fn berth(&self, cell: Cell) -> Option<&Berth> {
+        self.berths.get(self.place(cell)?)
+    }
+
+    /// Puts somebody into a cell.
+    pub fn put(&mut self, cell: Cell, who: u32, step: u32) {
+        if let Some(place) = self.place(cell) {
+            if let Some(berth) = self.berths.get_mut(place) {
+                berth.who = who;
+                berth.since = step;
+            }
+        }
+    }
+
+    /// Takes who stands in a cell out of it.
+    pub fn take(&mut self, cell: Cell, step: u32) -> u32 {
+        let Some(place) = self.place(cell) else {
+            return NOBODY;
+        };
+        match self.berths.get_mut(place) {
+            Some(berth) => {
+                let who = berth.who;
+                berth.who = NOBODY;
+                berth.taken = who;
+                berth.taken_at = step;
+                who
+            }
+            None => NOBODY,
+        }
+    }
+
+    /// The cells in the same row, and on the same side of the deck, of the bays that may overlap
+    /// with that of a cell.
+    fn beside(&self, cell: Cell) -> &[Berth] {
+        let first = self.place_from(rank_of_bay(cell, cell.bay.saturating_sub(2)));
+        let last = self.place_from(rank_of_bay(cell, cell.bay.saturating_add(3)));
+        self.berths.as_slice().get(first..last).unwrap_or(&[])
+    }
+
+    /// The least cell above a cell in which a container stands.
+    pub fn above(&self, cell: Cell) -> Option<Cell> {
+        let mut found: Option<Cell> = None;
+        for berth in self.beside(cell) {
+            let other = berth.cell;
+            let level = Cell {
+                tier: cell.tier,
+                ..other
+            };
+            if berth.who != NOBODY && other.tier > cell.tier && conflicts(level, cell) {
+                let is_least = match found {
+                    Some(least) => (other.bay, other.tier) < (least.bay, least.tier),
+                    None => true,
+                };
+                if is_least {
+                    found = Some(other);
+                }
+            }
+        }
+        found
+    }
+
+    /// Whether the ship has a cell below a cell, on its side of the deck, and nobody stands in it
+    /// or overlaps it.
+    pub fn hangs_over(&self, cell: Cell) -> bool {
+        let Some(before) = self.place_from(rank(cell)).checked_sub(1) else {
+            return false;
+        };
+        let Some(berth) = self.berths.get(before) else {
+            return false;
+        };
+        let below = berth.cell;
+        if rank_of_bay(below, below.bay) != rank_of_bay(cell, cell.bay) {
+            return false;
+        }
+        for other in self.beside(below) {
+            if other.who != NOBODY && conflicts(other.cell, below) {
+                return false;
+            }
+        }
+        true
+    }
+}
+
+/// The container of a number: an item of the bay plan, or of a load behind these.
+pub fn item_of<'a>(items: &'a [Item], ops: &'a [Op], who: u32) -> Option<&'a Item> {
+    let number = who as usize;
+    if let Some(item) = items.get(number) {
+        return Some(item);
+    }
+    match ops.get(number.checked_sub(items.len())?)? {
+        Op::Lift(Lift::Load(item)) => Some(item),
+        _ => None,
+    }
+}
+
+/// What is aboard on arrival.
+pub fn arrive(alloc: Global, rows: &[CellRow], items: &[Item]) -> Result<Cargo, AllocError> {
+    let mut cargo = Cargo::new(alloc, rows)?;
+    let mut who = 0u32;
+    for item in items {
+        cargo.put(item.cell, who, 0);
+        who = who.saturating_add(1);
+    }
+    Ok(cargo)
+}
+
+/// Does a step, which can be done, and gives who it moves.
+pub fn do_step(cargo: &mut Cargo, items: &[Item], op: &Op, step: u32) -> u32 {
+    match op {
+        Op::Lift(Lift::Load(item)) => {
+            let who = count_of(items.len()).saturating_add(step).saturating_sub(1);
+            cargo.put(item.cell, who, step);
+            who
+        }
+        Op::Lift(Lift::Discharge { cell, .. }) => cargo.take(*cell, step),
+        Op::Restow { from, to, .. } => {
+            let who = cargo.take(*from, step);
+            cargo.put(*to, who, step);
+            who
+        }
+        Op::Fill { .. } => NOBODY,
+    }
+}

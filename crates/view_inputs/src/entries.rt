@@ -1,0 +1,80 @@
+//! The entries of a message: the items of a bay plan, the lifts of a movement instruction, in their
+//! order, each with what is told of it beyond the item or the lift.
+use crate::groups::{Gathering, Located};
+use crate::messages::MessageText;
+use edifact_text::{Kind, Message};
+use std::alloc::{AllocError, Global};
+
+/// An entry of a message.
+#[derive(Clone, Copy, Debug)]
+pub struct Entry {
+    /// The number of the segment that locates it.
+    pub segment: u64,
+    /// The mass in kg that its group gives in kilograms, also of a discharge.
+    pub kg: Option<u32>,
+    /// Whether it is for the port that is asked for.
+    pub is_for_port: bool,
+}
+
+/// Whether a group is for a port.
+fn is_for(group: &Located<'_>, port: Option<&[u8]>) -> bool {
+    let Some(port) = port else {
+        return false;
+    };
+    match group.discharge_port.or(group.delivery_port) {
+        Some(segment) => segment.component(2, 0).is(port),
+        None => false,
+    }
+}
+
+/// Adds the entry of a group, if it is one.
+fn add(
+    entries: &mut Vec<Entry>,
+    group: &Located<'_>,
+    mark: u8,
+    port: Option<&[u8]>,
+) -> Result<(), AllocError> {
+    if !group.names_container() {
+        return Ok(());
+    }
+    entries.push(Entry {
+        segment: group.location.number(),
+        kg: group.mass(mark),
+        is_for_port: is_for(group, port),
+    })?;
+    Ok(())
+}
+
+/// The entries of a message of this kind; nothing where the text is no such message.
+pub fn entries_of(
+    alloc: Global,
+    text: &[u8],
+    kind: Kind,
+    port: Option<&[u8]>,
+) -> Result<Vec<Entry>, AllocError> {
+    match (MessageText { text, kind }).opened() {
+        Some(message) => entries_in(alloc, &message, kind, port),
+        None => Ok(Vec::new(alloc)),
+    }
+}
+
+/// The entries of a message.
+pub fn entries_in(
+    alloc: Global,
+    message: &Message<'_>,
+    kind: Kind,
+    port: Option<&[u8]>,
+) -> Result<Vec<Entry>, AllocError> {
+    let mut entries = Vec::new(alloc);
+    let mark = message.decimal_mark();
+    let mut gathering = Gathering::new(kind == Kind::Movins);
+    for segment in message.segments() {
+        if let Some(group) = gathering.take(&segment) {
+            add(&mut entries, &group, mark, port)?;
+        }
+    }
+    if let Some(group) = gathering.last() {
+        add(&mut entries, &group, mark, port)?;
+    }
+    Ok(entries)
+}

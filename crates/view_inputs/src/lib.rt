@@ -1,0 +1,44 @@
+//! What the inputs of a run say beyond what is judged of them, where they say it, and what was read
+//! otherwise than its writer may have meant, or not at all ([`notices_on`]). None of that is a
+//! refusal, and none of it changes what is judged.
+//!
+//! [`identity_in`] is what a message says of itself, [`place_of`] where the inputs order a step,
+//! [`line_of_record`] the line on which a record stands, and [`stands`] who is in a cell after some
+//! steps. [`cells_in`] and [`tanks_in`] are the records of a ship's cells and tanks, [`document`]
+//! her ship.toml.
+#![tactic(auto)]
+
+mod cargo;
+mod case_notices;
+mod cells;
+mod entries;
+mod groups;
+mod identity;
+mod keys;
+mod laws;
+mod messages;
+mod notices;
+mod occurs;
+mod places;
+mod records;
+mod standing;
+mod tanks;
+
+pub use cargo::{Berth, Cargo, NOBODY, arrive, do_step, item_of};
+pub use case_notices::{Marks, marks_of, notices_on};
+pub use cells::{CellRow, DECK, cell_named, cell_text, cells_in};
+pub use entries::{Entry, entries_of};
+pub use groups::{Gathering, Located};
+pub use identity::{Identity, first_of, identity_in, identity_line};
+pub use keys::{
+    ARRAYS, ArrayKeys, KeyLimits, SHIP, document, elements, line_beginning, number_in, table_at,
+    text_in, unread_keys,
+};
+pub use laws::segments_are_numbered;
+pub use messages::{MessageText, Names, line_at, messages_of, raw_shown};
+pub use notices::{Notice, Notices, add_notices, message_notices};
+pub use occurs::Occurs;
+pub use places::{StepPlace, lifts_of, place_of};
+pub use records::{NumberedLine, field, line_of_record, number_at, record_at};
+pub use standing::{Standing, stands};
+pub use tanks::{Filling, TankRows, tanks_in};

@@ -1,0 +1,93 @@
+//! Where the inputs order a step.
+use crate::entries::entries_of;
+use edifact_text::Kind;
+use std::alloc::{AllocError, Global};
+use stow_messages::{StepRow, steps};
+
+/// Where a step is ordered.
+#[derive(Clone, Copy, Debug)]
+pub struct StepPlace {
+    /// The lift of the movement instruction, from 1, and the segment that locates it.
+    pub lift: Option<(u32, u64)>,
+    /// The record of the steps file, if there is one.
+    pub record: Option<u32>,
+}
+
+/// For each step the number of its lift in the movement instruction, if it is one. Without a steps
+/// file the steps are the lifts in their order.
+pub fn lifts_of(
+    alloc: Global,
+    movins: &[u8],
+    file: Option<&[u8]>,
+    count: u32,
+) -> Result<Vec<Option<u32>>, AllocError> {
+    let there = match file {
+        Some(_) => entries_of(alloc, movins, Kind::Movins, None)?.len(),
+        None => 0,
+    };
+    lifts_among(alloc, there, file, count)
+}
+
+/// The same by how many lifts the instruction has.
+pub fn lifts_among(
+    alloc: Global,
+    there: usize,
+    file: Option<&[u8]>,
+    count: u32,
+) -> Result<Vec<Option<u32>>, AllocError> {
+    let mut lifts = Vec::new(alloc);
+    let Some(text) = file else {
+        for step in 0..count {
+            lifts.push(Some(step.saturating_add(1)))?;
+        }
+        return Ok(lifts);
+    };
+    let there = u32::try_from(there).unwrap_or(u32::MAX);
+    let Ok(rows) = steps(alloc, text, there) else {
+        return Ok(lifts);
+    };
+    for row in &rows {
+        lifts.push(match row {
+            StepRow::Lift(number) => Some(*number),
+            _ => None,
+        })?;
+    }
+    Ok(lifts)
+}
+
+/// The lift that a record of a steps file orders.
+fn lift_in_file(alloc: Global, text: &[u8], lifts: u32, step: u32) -> Option<u32> {
+    let rows = steps(alloc, text, lifts).ok()?;
+    match rows.get((step as usize).checked_sub(1)?)? {
+        StepRow::Lift(number) => Some(*number),
+        _ => None,
+    }
+}
+
+/// Where the step of a number, from 1, is ordered.
+pub fn place_of(
+    alloc: Global,
+    movins: &[u8],
+    file: Option<&[u8]>,
+    step: u32,
+) -> Result<StepPlace, AllocError> {
+    let entries = entries_of(alloc, movins, Kind::Movins, None)?;
+    let (number, record) = match file {
+        Some(text) => {
+            let lifts = u32::try_from(entries.len()).unwrap_or(u32::MAX);
+            (
+                lift_in_file(alloc, text, lifts, step),
+                Some(step.saturating_add(1)),
+            )
+        }
+        None => (Some(step), None),
+    };
+    let lift = match number {
+        Some(number) => match entries.get((number as usize).wrapping_sub(1)) {
+            Some(entry) => Some((number, entry.segment)),
+            None => None,
+        },
+        None => None,
+    };
+    Ok(StepPlace { lift, record })
+}

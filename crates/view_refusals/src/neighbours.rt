@@ -1,0 +1,145 @@
+//! What the ship has in place of a cell or a tank that isn't hers.
+use plain_text::many;
+use std::alloc::{AllocError, Global};
+use units_core::Cell;
+use view_inputs::{CellRow, TankRows};
+
+/// Numbers of three digits or fewer, each once.
+#[derive(Drop)]
+struct Numbers {
+    marks: Vec<bool>,
+}
+
+impl Numbers {
+    /// No number yet.
+    fn new(alloc: Global) -> Result<Numbers, AllocError> {
+        let mut marks = Vec::with_capacity(alloc, 1000)?;
+        for _ in 0..1000usize {
+            marks.push(false)?;
+        }
+        Ok(Numbers { marks })
+    }
+
+    /// Adds a number.
+    fn add(&mut self, number: usize) {
+        if let Some(mark) = self.marks.get_mut(number) {
+            *mark = true;
+        }
+    }
+
+    /// Whether a number is among them.
+    fn has(&self, number: usize) -> bool {
+        match self.marks.get(number) {
+            Some(mark) => *mark,
+            None => false,
+        }
+    }
+
+    /// The least and the greatest of them, and how many there are.
+    fn reach(&self) -> (usize, usize, u32) {
+        let mut least = 0;
+        let mut most = 0;
+        let mut count = 0u32;
+        for (number, mark) in self.marks.iter().enumerate() {
+            if *mark {
+                if count == 0 {
+                    least = number;
+                }
+                most = number;
+                count = count.saturating_add(1);
+            }
+        }
+        (least, most, count)
+    }
+
+    /// All of them in two digits, each behind a blank.
+    fn listed(&self, alloc: Global) -> Result<String, AllocError> {
+        let mut text = String::new(alloc);
+        for (number, mark) in self.marks.iter().enumerate() {
+            if *mark {
+                write!(text, " {number:02}")?;
+            }
+        }
+        Ok(text)
+    }
+}
+
+/// What the ship has in place of a cell that isn't hers: her bays, or the bay's rows, or the row's
+/// tiers.
+pub fn bay_words(alloc: Global, rows: &[CellRow], cell: Cell) -> Result<String, AllocError> {
+    let Cell { bay, row, tier } = cell;
+    let mut bays = Numbers::new(alloc)?;
+    let mut near = Numbers::new(alloc)?;
+    let mut tiers = Numbers::new(alloc)?;
+    for place in rows {
+        let other = place.cell;
+        bays.add(usize::from(other.bay));
+        if other.bay == bay {
+            near.add(usize::from(other.row));
+            if other.row == row {
+                tiers.add(usize::from(other.tier));
+            }
+        }
+    }
+    if !bays.has(usize::from(bay)) {
+        let (least, most, count) = bays.reach();
+        let text = format!(in alloc;
+            "She has no bay {bay:03}; hers are {least:03} to {most:03} ({count} bays)."
+        )?;
+        return Ok(text);
+    }
+    if !near.has(usize::from(row)) {
+        let list = near.listed(alloc)?;
+        let text = format!(in alloc; "Bay {bay:03} has no row {row:02}; its rows are{list}.")?;
+        return Ok(text);
+    }
+    let list = tiers.listed(alloc)?;
+    let text = format!(in alloc;
+        "Bay {bay:03} row {row:02} has no tier {tier:02}; its tiers are{list}."
+    )?;
+    Ok(text)
+}
+
+/// Whether a byte is a blank of any kind.
+fn is_blank(byte: u8) -> bool {
+    byte == b' ' || 9 <= byte && byte <= 13
+}
+
+/// A name without its blanks, in capital letters.
+fn plain_name(alloc: Global, name: &[u8]) -> Result<Vec<u8>, AllocError> {
+    let mut plain = Vec::new(alloc);
+    for byte in name {
+        if !is_blank(*byte) {
+            plain.push(byte.to_ascii_uppercase())?;
+        }
+    }
+    Ok(plain)
+}
+
+/// How many tanks a table has, and which of them has nearly this name: the same but for blanks and
+/// capital letters.
+pub fn tank_words(alloc: Global, tanks: &[TankRows], name: &[u8]) -> Result<String, AllocError> {
+    let wanted = plain_name(alloc, name)?;
+    let mut nearest: Option<&TankRows> = None;
+    for tank in tanks {
+        if plain_name(alloc, tank.name.as_slice())?.as_slice() == wanted.as_slice() {
+            let is_less = match nearest {
+                Some(other) => tank.name.as_slice() < other.name.as_slice(),
+                None => true,
+            };
+            if is_less {
+                nearest = Some(tank);
+            }
+        }
+    }
+    let count = many(
+        alloc,
+        u32::try_from(tanks.len()).unwrap_or(u32::MAX),
+        "tank",
+    )?;
+    let Some(tank) = nearest else {
+        return Ok(format!(in alloc; "tanks.csv has {count}.")?);
+    };
+    let name = tank.shown(alloc)?;
+    Ok(format!(in alloc; "tanks.csv has {count}, of which \"{name}\" comes nearest.")?)
+}
