@@ -6,12 +6,15 @@ use crate::printed::{
     reach_in_metres, reach_in_tonnes, surface,
 };
 use crate::warnings::Parts;
-use plain_text::{count_of, many};
+use plain_text::{add_wrapped, count_of, many};
 use ship_profile::{Profile, TankFill};
 use std::alloc::{AllocError, Global};
 use units_core::Frac;
 use view_figures::used_of;
 use view_inputs::DECK;
+
+/// How many columns of a line there are for a key.
+const KEY: usize = 34;
 
 /// Adds a limit: what it is called, its figure with its unit, and its key.
 fn add_limit(text: &mut String, name: &str, figure: &str, key: &str) -> Result<(), AllocError> {
@@ -43,7 +46,15 @@ fn add_light(alloc: Global, text: &mut String, profile: &Profile) -> Result<(), 
     let across = metres(alloc, light.y.div_euclid(kg))?;
     let up = metres(alloc, light.z.div_euclid(kg))?;
     let centre = format!(in alloc; "LCG {along}  TCG {across}  KG {up} m")?;
-    add_limit(text, name.as_str(), figure.as_str(), centre.as_str())
+    let (name, figure) = (name.as_str(), figure.as_str());
+    if centre.len() <= KEY {
+        return add_limit(text, name, figure, centre.as_str());
+    }
+    // of a great ship the line has no room for all three
+    let centre = format!(in alloc; "LCG {along} m")?;
+    add_limit(text, name, figure, centre.as_str())?;
+    let centre = format!(in alloc; "TCG {across}  KG {up} m")?;
+    add_limit(text, "", "", centre.as_str())
 }
 
 /// Adds the stations: how many, and from where to where.
@@ -167,8 +178,15 @@ pub fn add_hydro(alloc: Global, text: &mut String, profile: &Profile) -> Result<
 }
 
 /// Adds a table: its file, how many records it has, and what it reaches.
-fn add_table(text: &mut String, file: &str, count: &str, words: &str) -> Result<(), AllocError> {
-    write!(text, "  {file:<12}{count:>7}  {words}\n")
+fn add_table(
+    alloc: Global,
+    text: &mut String,
+    file: &str,
+    count: &str,
+    words: &str,
+) -> Result<(), AllocError> {
+    let line = format!(in alloc; "  {file:<12}{count:>7}  {words}")?;
+    add_wrapped(text, line.as_str(), 23)
 }
 
 /// From where to where a table over the displacement reaches.
@@ -184,7 +202,7 @@ fn add_curves(alloc: Global, text: &mut String, parts: &Parts<'_>) -> Result<(),
     let count = levers.len();
     let count = format!(in alloc; "{count}")?;
     let words = reach_words(alloc, levers)?;
-    add_table(text, "kn.csv", count.as_str(), words.as_str())?;
+    add_table(alloc, text, "kn.csv", count.as_str(), words.as_str())?;
     let draughts = profile.bonjean().arguments();
     let count = draughts.len();
     let count = format!(in alloc; "{count}")?;
@@ -194,7 +212,7 @@ fn add_curves(alloc: Global, text: &mut String, parts: &Parts<'_>) -> Result<(),
         None => String::from_str(alloc, "-")?,
     };
     let words = format!(in alloc; "{first} to {last} m; upright it closes within {closing} t")?;
-    add_table(text, "bonjean.csv", count.as_str(), words.as_str())
+    add_table(alloc, text, "bonjean.csv", count.as_str(), words.as_str())
 }
 
 /// Adds the cells.
@@ -219,7 +237,7 @@ fn add_cells(alloc: Global, text: &mut String, parts: &Parts<'_>) -> Result<(), 
     let words = format!(in alloc;
         "bays {least:03} to {most:03}; {short} of 20 feet, {long} of 40; {on_deck} on deck"
     )?;
-    add_table(text, "cells.csv", count.as_str(), words.as_str())
+    add_table(alloc, text, "cells.csv", count.as_str(), words.as_str())
 }
 
 /// Adds the tanks.
@@ -233,13 +251,19 @@ fn add_tanks(alloc: Global, text: &mut String, parts: &Parts<'_>) -> Result<(), 
     let count = parts.tanks.len();
     let count = format!(in alloc; "{count}")?;
     let words = format!(in alloc; "tanks, {full} t in all where full")?;
-    add_table(text, "tanks.csv", count.as_str(), words.as_str())
+    add_table(alloc, text, "tanks.csv", count.as_str(), words.as_str())
 }
 
 /// Adds the least metacentric heights.
 fn add_heights(alloc: Global, text: &mut String, profile: &Profile) -> Result<(), AllocError> {
     let Some(curves) = profile.least_gm() else {
-        return add_table(text, "gm.csv", "-", "no such file: C11 is not judged");
+        return add_table(
+            alloc,
+            text,
+            "gm.csv",
+            "-",
+            "no such file: C11 is not judged",
+        );
     };
     let heights: &[i128] = match curves.column(0) {
         Some(heights) => heights,
@@ -256,7 +280,7 @@ fn add_heights(alloc: Global, text: &mut String, profile: &Profile) -> Result<()
     let count = heights.len();
     let count = format!(in alloc; "{count}")?;
     let words = format!(in alloc; "{reach}, least GM {least} to {most} m (C11)")?;
-    add_table(text, "gm.csv", count.as_str(), words.as_str())
+    add_table(alloc, text, "gm.csv", count.as_str(), words.as_str())
 }
 
 /// Adds the tables, and how far each reaches.
@@ -301,10 +325,10 @@ fn add_fill(
     let Some(body) = parts.profile.tank_item(fill.tank, fill.kg) else {
         let least = tonnes(alloc, i128::from(least))?;
         let most = tonnes(alloc, i128::from(most))?;
-        return write!(
-            text,
-            "  {name:<16}{mass:>11} t  its records reach from {least} to {most} t: refused (S6)\n"
-        );
+        let line = format!(in alloc;
+            "  {name:<16}{mass:>11} t  its records reach from {least} to {most} t: refused (S6)"
+        )?;
+        return add_wrapped(text, line.as_str(), 33);
     };
     let part = percent_words(alloc, i64::from(fill.kg), most)?;
     let part = part.as_str();
