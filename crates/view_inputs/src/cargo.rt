@@ -21,6 +21,10 @@ pub struct Berth {
     /// Who was taken out last, and by which step.
     pub taken: u32,
     pub taken_at: u32,
+    /// From where to where the cells beside it stand in the list: those in the same row, and on the
+    /// same side of the deck, of the bays that may overlap with its own.
+    first: usize,
+    last: usize,
 }
 
 /// The cells of a ship in the order of row, hold or deck, bay and tier, with who stands in each.
@@ -58,10 +62,43 @@ impl Cargo {
                 since: 0,
                 taken: NOBODY,
                 taken_at: 0,
+                first: 0,
+                last: 0,
             })?;
         }
         berths.sort_unstable_by_key(|berth| rank(berth.cell));
-        Ok(Cargo { berths })
+        let mut cargo = Cargo { berths };
+        cargo.find_sides();
+        Ok(cargo)
+    }
+
+    /// Finds the cells beside each cell: both ends of these rise with the place of the cell.
+    fn find_sides(&mut self) {
+        let (mut first, mut last) = (0usize, 0usize);
+        for place in 0..self.berths.len() {
+            let Some(berth) = self.berths.get(place) else {
+                return;
+            };
+            let cell = berth.cell;
+            first = self.next_from(first, rank_of_bay(cell, cell.bay.saturating_sub(2)));
+            last = self.next_from(last, rank_of_bay(cell, cell.bay.saturating_add(3)));
+            if let Some(berth) = self.berths.get_mut(place) {
+                berth.first = first;
+                berth.last = last;
+            }
+        }
+    }
+
+    /// The first place, from one on, of those that are at least of a rank.
+    fn next_from(&self, from: usize, least: u64) -> usize {
+        let mut place = from;
+        for berth in self.berths.get(from..).unwrap_or(&[]) {
+            if rank(berth.cell) >= least {
+                break;
+            }
+            place = place.saturating_add(1);
+        }
+        place
     }
 
     /// All cells with who stands in them.
@@ -119,18 +156,15 @@ impl Cargo {
         }
     }
 
-    /// The cells in the same row, and on the same side of the deck, of the bays that may overlap
-    /// with that of a cell.
-    fn beside(&self, cell: Cell) -> &[Berth] {
-        let first = self.place_from(rank_of_bay(cell, cell.bay.saturating_sub(2)));
-        let last = self.place_from(rank_of_bay(cell, cell.bay.saturating_add(3)));
-        self.berths.as_slice().get(first..last).unwrap_or(&[])
+    /// The cells beside a cell.
+    fn beside(&self, berth: &Berth) -> &[Berth] {
+        self.berths.get(berth.first..berth.last).unwrap_or(&[])
     }
 
     /// The least cell above a cell in which a container stands.
     pub fn above(&self, cell: Cell) -> Option<Cell> {
         let mut found: Option<Cell> = None;
-        for berth in self.beside(cell) {
+        for berth in self.beside(self.berth(cell)?) {
             let other = berth.cell;
             let level = Cell {
                 tier: cell.tier,
@@ -162,7 +196,7 @@ impl Cargo {
         if rank_of_bay(below, below.bay) != rank_of_bay(cell, cell.bay) {
             return false;
         }
-        for other in self.beside(below) {
+        for other in self.beside(berth) {
             if other.who != NOBODY && conflicts(other.cell, below) {
                 return false;
             }

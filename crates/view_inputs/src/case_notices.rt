@@ -1,7 +1,7 @@
 //! What is odd of a whole port call: of its messages beside one another, and of its steps.
 use crate::cargo::{Cargo, NOBODY, arrive, do_step, item_of};
 use crate::cells::{CellRow, cell_text, cells_in};
-use crate::entries::{Entry, entries_in};
+use crate::entries::Entry;
 use crate::identity::{Identity, identity_of};
 use crate::messages::{MessageText, messages_of};
 use crate::notices::{Notice, Notices, add_notices_on};
@@ -20,7 +20,7 @@ use units_core::Cell;
 const MASS_APART: u32 = 1_000;
 
 /// A name in capital letters, its blanks one each.
-fn plain_name(alloc: Global, name: &str) -> Result<String, AllocError> {
+fn with_single_blanks(alloc: Global, name: &str) -> Result<String, AllocError> {
     let mut plain = String::new(alloc);
     for word in name.split_ascii_whitespace() {
         if !plain.is_empty() {
@@ -38,8 +38,8 @@ fn names_differ(alloc: Global, one: &str, other: &str) -> Result<bool, AllocErro
     if one.is_empty() || other.is_empty() {
         return Ok(false);
     }
-    let one = plain_name(alloc, one)?;
-    let other = plain_name(alloc, other)?;
+    let one = with_single_blanks(alloc, one)?;
+    let other = with_single_blanks(alloc, other)?;
     Ok(one.as_str() != other.as_str())
 }
 
@@ -484,13 +484,14 @@ fn add_cargo(
 /// what is aboard, so that it may be found beside the reading.
 #[derive(Drop)]
 pub struct Marks {
+    /// The cells of the ship.
+    pub cells: Vec<CellRow>,
     pub plan: Identity,
     pub moves: Identity,
     /// N1 to N11.
     notices: Notices,
     items: Vec<Entry>,
     lifts: Vec<Entry>,
-    cells: Vec<CellRow>,
 }
 
 /// What a message says, what is odd of it by itself, and its entries.
@@ -516,8 +517,7 @@ fn told_by(
             entries: Vec::new(alloc),
         });
     };
-    add_notices_on(alloc, notices, message, &opened, &identity)?;
-    let entries = entries_in(alloc, &opened, message.kind, port)?;
+    let entries = add_notices_on(alloc, notices, message, &opened, &identity, port)?;
     Ok(Told { identity, entries })
 }
 
@@ -530,7 +530,7 @@ pub fn marks_of(alloc: Global, inputs: &Inputs<'_>) -> Result<Marks, AllocError>
     let port = if port.is_empty() { None } else { Some(port) };
     let mut notices = Notices::new(alloc);
     let plan = told_by(alloc, &mut notices, plan, port)?;
-    notices.append(of_moves)?;
+    notices.append(of_moves.into_list())?;
     Ok(Marks {
         plan: plan.identity,
         moves: moves.identity,
@@ -541,40 +541,46 @@ pub fn marks_of(alloc: Global, inputs: &Inputs<'_>) -> Result<Marks, AllocError>
     })
 }
 
+/// What is odd of the cargo and of the steps of a port call of these messages: N14 to N18.
+/// `steps` is the text of its steps file.
+pub fn cargo_notices(
+    alloc: Global,
+    marks: &Marks,
+    steps: Option<&[u8]>,
+    case: Case<'_>,
+) -> Result<Vec<Notice>, AllocError> {
+    let mut notices = Notices::new(alloc);
+    let told = Entries {
+        items: marks.items.as_slice(),
+        lifts: marks.lifts.as_slice(),
+        cells: marks.cells.as_slice(),
+    };
+    let port = marks.moves.port.as_str();
+    add_cargo(alloc, &mut notices, told, steps, port, case)?;
+    Ok(notices.into_list())
+}
+
 /// What of a port call was read otherwise than its writers may have meant, or not at all, in the
 /// order of the codes N1 to N19: of the bay plan, of the instruction, and of both with the profile
-/// and the steps. `name` is the ship's name in her profile.
+/// and the steps. `cargo` is what [`cargo_notices`] finds of it, `steps` the text of its steps
+/// file, and `name` the ship's name in her profile.
 pub fn notices_on(
     alloc: Global,
     marks: Marks,
-    inputs: &Inputs<'_>,
+    cargo: Vec<Notice>,
+    steps: Option<&[u8]>,
     name: &str,
-    case: Case<'_>,
 ) -> Result<Vec<Notice>, AllocError> {
     let Marks {
         plan,
         moves,
         mut notices,
-        items,
-        lifts,
-        cells,
+        ..
     } = marks;
     add_ships(alloc, &mut notices, &plan, &moves, name)?;
     add_ports(alloc, &mut notices, &plan, &moves)?;
-    let told = Entries {
-        items: items.as_slice(),
-        lifts: lifts.as_slice(),
-        cells: cells.as_slice(),
-    };
-    add_cargo(
-        alloc,
-        &mut notices,
-        told,
-        inputs.steps,
-        moves.port.as_str(),
-        case,
-    )?;
-    if let Some(text) = inputs.steps {
+    notices.append(cargo)?;
+    if let Some(text) = steps {
         add_heading(alloc, &mut notices, text)?;
     }
     Ok(notices.into_list())

@@ -28,7 +28,7 @@ fn is_for(group: &Located<'_>, port: Option<&[u8]>) -> bool {
 }
 
 /// Adds the entry of a group, if it is one.
-fn add(
+pub fn add_entry(
     entries: &mut Vec<Entry>,
     group: &Located<'_>,
     mark: u8,
@@ -59,7 +59,7 @@ pub fn entries_of(
 }
 
 /// The entries of a message.
-pub fn entries_in(
+fn entries_in(
     alloc: Global,
     message: &Message<'_>,
     kind: Kind,
@@ -70,11 +70,11 @@ pub fn entries_in(
     let mut gathering = Gathering::new(kind == Kind::Movins);
     for segment in message.segments() {
         if let Some(group) = gathering.take(&segment) {
-            add(&mut entries, &group, mark, port)?;
+            add_entry(&mut entries, &group, mark, port)?;
         }
     }
     if let Some(group) = gathering.last() {
-        add(&mut entries, &group, mark, port)?;
+        add_entry(&mut entries, &group, mark, port)?;
     }
     Ok(entries)
 }

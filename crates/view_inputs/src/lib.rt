@@ -25,7 +25,7 @@ mod standing;
 mod tanks;
 
 pub use cargo::{Berth, Cargo, NOBODY, arrive, do_step, item_of};
-pub use case_notices::{Marks, marks_of, notices_on};
+pub use case_notices::{Marks, cargo_notices, marks_of, notices_on};
 pub use cells::{CellRow, DECK, cell_named, cell_text, cells_in};
 pub use entries::{Entry, entries_of};
 pub use groups::{Gathering, Located};

@@ -1,10 +1,12 @@
 //! What of a message was read otherwise than its writer may have meant, or not at all. None of it
 //! is a refusal.
+use crate::entries::{Entry, add_entry};
 use crate::groups::{Gathering, Located};
 use crate::identity::{Identity, identity_of};
 use crate::messages::{MessageText, literal, raw_line, raw_shown};
 use crate::occurs::Occurs;
 use edifact_text::{Kind, Message, PlacedSegment, Raw, placed_segments};
+use memchr::memchr3;
 use plain_text::{add_wrapped, front, in_thousandths, many, many_of};
 use std::alloc::{AllocError, Global};
 use stow_messages::{SegmentKind, kilograms, kind_of};
@@ -48,12 +50,7 @@ fn is_upper(byte: u8) -> bool {
 
 /// Whether a line ends in a segment, or a tab stands in it.
 fn is_wrapped(segment: &PlacedSegment<'_>) -> bool {
-    for byte in segment.bytes() {
-        if *byte == b'\r' || *byte == b'\n' || *byte == b'\t' {
-            return true;
-        }
-    }
-    false
+    memchr3(b'\r', b'\n', b'\t', segment.bytes()).is_some()
 }
 
 /// A list of notices.
@@ -88,8 +85,8 @@ impl Notices {
     }
 
     /// Adds other notices behind these.
-    pub fn append(&mut self, others: Notices) -> Result<(), AllocError> {
-        for notice in others.into_list() {
+    pub fn append(&mut self, others: Vec<Notice>) -> Result<(), AllocError> {
+        for notice in others {
             self.list.push(notice)?;
         }
         Ok(())
@@ -156,8 +153,16 @@ struct Odd<'a> {
     sizes: Groups<'a>,
 }
 
+/// Whether a component is 1 to 3 digits, a mark, and 3 digits.
+fn is_dotted(raw: Raw<'_>, mark: u8) -> bool {
+    match raw.without_release() {
+        Some(value) => has_dot(value, mark),
+        None => has_dot(literal(raw).as_slice(), mark),
+    }
+}
+
 /// Whether a value is 1 to 3 digits, a mark, and 3 digits.
-fn is_dotted(value: &[u8], mark: u8) -> bool {
+fn has_dot(value: &[u8], mark: u8) -> bool {
     let digits = match value {
         [rest @ .., point, a, b, c]
             if (*point == b'.' || *point == b',' || *point == mark)
@@ -171,7 +176,15 @@ fn is_dotted(value: &[u8], mark: u8) -> bool {
 
 /// Whether a size type is against the bay in which its container stands: one of 20 feet in an even
 /// bay, one of 40 feet and more in an odd one.
-fn is_against(size: &[u8], bay: u16) -> bool {
+fn is_against(raw: Raw<'_>, bay: u16) -> bool {
+    match raw.without_release() {
+        Some(size) => is_of_other_length(size, bay),
+        None => is_of_other_length(literal(raw).as_slice(), bay),
+    }
+}
+
+/// Whether a container of a size type has another length than its bay.
+fn is_of_other_length(size: &[u8], bay: u16) -> bool {
     match size.first() {
         Some(b'2') => bay % 2 == 0,
         Some(b'4' | b'9' | b'L' | b'M' | b'N' | b'P') => bay % 2 == 1,
@@ -209,7 +222,7 @@ impl<'a> Odd<'a> {
                 self.least = self.least.min(kg);
                 self.most = self.most.max(kg);
             }
-            if is_dotted(literal(value).as_slice(), mark) {
+            if is_dotted(value, mark) {
                 self.dotted.note(*group);
             }
         }
@@ -231,7 +244,7 @@ impl<'a> Odd<'a> {
                     self.nameless.note(*group);
                 }
                 if let Some(cell) = group.cell() {
-                    if is_against(literal(equipment.component(3, 0)).as_slice(), cell.bay) {
+                    if is_against(equipment.component(3, 0), cell.bay) {
                         self.sizes.note(*group);
                     }
                 }
@@ -243,8 +256,14 @@ impl<'a> Odd<'a> {
     }
 }
 
-/// What is odd of the groups of a message.
-fn odd_in<'a>(message: &Message<'a>, kind: Kind) -> Odd<'a> {
+/// What is odd of the groups of a message, of which the entries are added to others, each with
+/// whether it is for a port.
+fn odd_in<'a>(
+    message: &Message<'a>,
+    kind: Kind,
+    port: Option<&[u8]>,
+    entries: &mut Vec<Entry>,
+) -> Result<Odd<'a>, AllocError> {
     let mut odd = Odd::nothing();
     let mark = message.decimal_mark();
     let mut gathering = Gathering::new(kind == Kind::Movins);
@@ -259,12 +278,14 @@ fn odd_in<'a>(message: &Message<'a>, kind: Kind) -> Odd<'a> {
         }
         if let Some(group) = gathering.take(&segment) {
             odd.note(&group, mark);
+            add_entry(entries, &group, mark, port)?;
         }
     }
     if let Some(group) = gathering.last() {
         odd.note(&group, mark);
+        add_entry(entries, &group, mark, port)?;
     }
-    odd
+    Ok(odd)
 }
 
 /// The first of some groups: its segment and its cell.
@@ -428,17 +449,20 @@ fn add_sizes(
     notices.add("N10", word, text)
 }
 
-/// Adds the notices on a message: N1 to N11, of which the last is by what it says of itself.
+/// Adds the notices on a message, N1 to N11, of which the last is by what it says of itself, and
+/// gives its entries, each with whether it is for a port.
 pub fn add_notices_on(
     alloc: Global,
     notices: &mut Notices,
     message: MessageText<'_>,
     opened: &Message<'_>,
     identity: &Identity,
-) -> Result<(), AllocError> {
+    port: Option<&[u8]>,
+) -> Result<Vec<Entry>, AllocError> {
     let word = message.word();
     add_segments(alloc, notices, message)?;
-    let odd = odd_in(opened, message.kind);
+    let mut entries = Vec::new(alloc);
+    let odd = odd_in(opened, message.kind, port, &mut entries)?;
     add_places(alloc, notices, word, &odd)?;
     add_strange(alloc, notices, word, &odd)?;
     add_dotted(alloc, notices, word, &odd, opened.decimal_mark())?;
@@ -447,7 +471,7 @@ pub fn add_notices_on(
         let text = String::from_str(alloc, "the message is a cancellation (BGM function 1)")?;
         notices.add("N11", word, text)?;
     }
-    Ok(())
+    Ok(entries)
 }
 
 /// The notices on a message: N1 to N11; none on a text that is no such message.
@@ -455,7 +479,7 @@ pub fn message_notices(alloc: Global, message: MessageText<'_>) -> Result<Vec<No
     let mut notices = Notices::new(alloc);
     if let Some(opened) = message.opened() {
         let identity = identity_of(alloc, Some(&opened))?;
-        add_notices_on(alloc, &mut notices, message, &opened, &identity)?;
+        let _entries = add_notices_on(alloc, &mut notices, message, &opened, &identity, None)?;
     }
     Ok(notices.into_list())
 }

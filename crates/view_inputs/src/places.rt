@@ -1,6 +1,7 @@
 //! Where the inputs order a step.
 use crate::entries::entries_of;
 use edifact_text::Kind;
+use plain_text::count_of;
 use std::alloc::{AllocError, Global};
 use stow_messages::{StepRow, steps};
 
@@ -74,7 +75,7 @@ pub fn place_of(
     let entries = entries_of(alloc, movins, Kind::Movins, None)?;
     let (number, record) = match file {
         Some(text) => {
-            let lifts = u32::try_from(entries.len()).unwrap_or(u32::MAX);
+            let lifts = count_of(entries.len());
             (
                 lift_in_file(alloc, text, lifts, step),
                 Some(step.saturating_add(1)),

@@ -68,7 +68,7 @@ pub fn add_sizes(
         warnings.add("V3", "ship.toml", text)?;
     }
     let mut farthest = 0i64;
-    for row in &parts.cells {
+    for row in parts.cells {
         farthest = farthest.max(row.x.saturating_abs());
     }
     if farthest < 1_000 {

@@ -219,7 +219,7 @@ fn add_curves(alloc: Global, text: &mut String, parts: &Parts<'_>) -> Result<(),
 fn add_cells(alloc: Global, text: &mut String, parts: &Parts<'_>) -> Result<(), AllocError> {
     let (mut least, mut most) = (u16::MAX, 0u16);
     let (mut short, mut long, mut on_deck) = (0u32, 0u32, 0u32);
-    for row in &parts.cells {
+    for row in parts.cells {
         let cell = row.cell;
         least = least.min(cell.bay);
         most = most.max(cell.bay);

@@ -9,32 +9,31 @@ use csv_text::number;
 use plain_text::shown;
 use ship_profile::{Profile, ProfileBytes};
 use std::alloc::{AllocError, Global};
-use view_inputs::{
-    CellRow, Notice, Notices, TankRows, cells_in, document, record_at, tanks_in, unread_keys,
-};
+use view_inputs::{CellRow, Notice, Notices, TankRows, document, record_at, tanks_in, unread_keys};
 
 /// A profile with the records of its cells and tanks, and what is worked out of it once.
 #[derive(Drop)]
 pub struct Parts<'a> {
     pub files: ProfileBytes<'a>,
     pub profile: &'a Profile,
-    pub cells: Vec<CellRow>,
+    pub cells: &'a [CellRow],
     pub tanks: Vec<TankRows>,
     /// The greatest closing error on an even keel.
     pub closing: Option<Closing>,
 }
 
 impl<'a> Parts<'a> {
-    /// A profile that was read of these files.
+    /// A profile that was read of these files, with the records of her cells.
     pub fn new(
         alloc: Global,
         files: ProfileBytes<'a>,
         profile: &'a Profile,
+        cells: &'a [CellRow],
     ) -> Result<Parts<'a>, AllocError> {
         Ok(Parts {
             files,
             profile,
-            cells: cells_in(alloc, files.cells)?,
+            cells,
             tanks: tanks_in(alloc, files.tanks)?,
             closing: worst_closing(profile),
         })
@@ -194,7 +193,7 @@ pub fn warnings_on(alloc: Global, parts: &Parts<'_>) -> Result<Vec<Notice>, Allo
     add_reaches(alloc, &mut warnings, parts.profile)?;
     add_tanks(alloc, &mut warnings, parts.tanks.as_slice())?;
     add_fills(alloc, &mut warnings, parts)?;
-    add_cells(alloc, &mut warnings, parts.cells.as_slice())?;
+    add_cells(alloc, &mut warnings, parts.cells)?;
     add_frames(alloc, &mut warnings, parts.profile)?;
     add_alone(alloc, &mut warnings, parts.profile)?;
     Ok(warnings.into_list())

@@ -13,10 +13,11 @@ ghost use Rattle.view_program.specs.Shown.{IsExplanation, IsShown, IsStopOn, IsS
 ghost use Rattle.view_program.specs.Shown.{IsTable, IsTextOf, OfTexts, files_of, first_in};
 
 use crate::words::{Command, View, ViewLine, read_command};
-use crate::working::{Beside, Seen, see, see_with_sources, work};
+use crate::working::{Beside, Looks, Seen, see, see_with_sources, work};
 use claim_run::{Gate, Workers};
 use command_line::{Line, Task};
 use criteria::Criterion;
+use plain_text::count_of;
 use port_call::{Inputs, RunFault};
 use run_files::{Readers, Stop, Texts, read_folder, read_texts, report_stop, status_on};
 use seq_report::{Lines, write_last_line};
@@ -26,8 +27,8 @@ use std::io::Write;
 use std::sync::Wait;
 use std::thread::Threads;
 use view_figures::condition_at;
-use view_inputs::{Names, Notice, lifts_of, notices_on};
-use view_profile::{Parts, profile_text, warnings_on};
+use view_inputs::{Names, Notice, cells_in, lifts_of, notices_on};
+use view_profile::{Parts, profile_text};
 use view_refusals::{profile_refusal_of, refusal_of, unread_file};
 use view_table::{Form, TableFault, csv_heading, write_lines};
 use view_texts::{
@@ -85,14 +86,17 @@ fn summary_of(
     inputs: &Inputs<'_>,
     line: ViewLine<'_>,
 ) -> Result<String, AllocError> {
-    let Beside { sources, marks } = beside;
+    let Beside {
+        sources,
+        marks,
+        looks,
+    } = beside;
+    let Looks { warnings, cargo } = looks;
     let names = names_of(line);
     let name = sources.name.as_str();
-    let parts = Parts::new(alloc, inputs.profile, lines.case.profile)?;
-    let warnings = warnings_on(alloc, &parts)?;
-    let count = u32::try_from(warnings.len()).unwrap_or(u32::MAX);
+    let count = count_of(warnings.len());
     let mut list = misread(alloc, warnings)?;
-    for notice in notices_on(alloc, marks, inputs, name, lines.case)? {
+    for notice in notices_on(alloc, marks, cargo, inputs.steps, name)? {
         list.push(notice)?;
     }
     let odd = Odd {
@@ -531,7 +535,8 @@ fn profile_words(
     profile: &Profile,
 ) -> Result<String, AllocError> {
     let (digest, name) = profile_source(alloc, files)?;
-    let parts = Parts::new(alloc, *files, profile)?;
+    let cells = cells_in(alloc, files.cells)?;
+    let parts = Parts::new(alloc, *files, profile, cells.as_slice())?;
     profile_text(alloc, folder, name.as_str(), digest.as_str(), &parts)
 }
 
@@ -628,11 +633,10 @@ fn run_words<R: Readers, G: Gate, T: Threads + Wait + Sync, O: Write, E: Write>(
 /// written. A fault of `err` changes nothing.
 ///
 /// The profile of a folder is read back where it is read at all. Of a port call, a summary ends
-/// with the last line of the report, an explanation begins with it, and a table has
-/// the figures of each of its lines. An input is refused where the report refuses it: then its line
-/// with an explanation behind it goes to `out` where an explanation was asked for, and to `err`,
-/// without anything on `out`, where anything else was; a file that can't be read is told of
-/// likewise.
+/// with the last line of the report, an explanation begins with it, and a table has the figures of
+/// each of its lines. An input is refused where the report refuses it: then its line with an
+/// explanation behind it goes to `out` where an explanation was asked for, and to `err`, without
+/// anything on `out`, where anything else was; a file that can't be read is told of likewise.
 pub fn serve_view<R: Readers, G: Gate, T: Threads + Wait + Sync, O: Write, E: Write>(
     rt: &T,
     alloc: Global,

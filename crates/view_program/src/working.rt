@@ -2,6 +2,7 @@
 //! its own, what its inputs are.
 ghost use Rattle.std.specs.Prelude.{◌≡◌, ◌+◌, ◌^◌, ◌<◌, IfOk, IfErr, Ok, length};
 ghost use Rattle.prefix_scan.specs.Cut.{Divides};
+ghost use Rattle.port_call.specs.declared.inputs.Inputs.{Inputs};
 ghost use Rattle.port_call.specs.Views.{case_in_view};
 ghost use Rattle.running_sums.specs.Lines.{AreFirstSums};
 ghost use Rattle.seq_report.specs.Cases.{outcome_in};
@@ -22,7 +23,8 @@ use std::sync::Wait;
 use std::thread;
 use std::thread::{Promise, PromisedHandle, Scope, Threads};
 use strength::Hull;
-use view_inputs::{Marks, marks_of};
+use view_inputs::{Marks, Notice, cargo_notices, marks_of};
+use view_profile::{Parts, warnings_on};
 use view_texts::{Sources, sources_of};
 use worst_values::{Findings, found_in};
 
@@ -179,28 +181,89 @@ fn start_marks<'s, E>(
     Ok(started?)
 }
 
-/// What is found of inputs beside the port call: what they are, and what is odd of the messages.
+/// What looks odd of a port call: the warnings on its profile, and the notices on its cargo and on
+/// its steps.
+#[derive(Drop)]
+pub struct Looks {
+    pub warnings: Vec<Notice>,
+    pub cargo: Vec<Notice>,
+}
+
+/// What looks odd of a port call that was read of inputs.
+fn looks_of(
+    alloc: Global,
+    inputs: &Inputs<'_>,
+    call: &PortCall,
+    marks: &Marks,
+) -> Result<Looks, AllocError> {
+    let case = call.case();
+    let parts = Parts::new(alloc, inputs.profile, case.profile, marks.cells.as_slice())?;
+    let warnings = warnings_on(alloc, &parts)?;
+    let cargo = cargo_notices(alloc, marks, inputs.steps, case)?;
+    Ok(Looks { warnings, cargo })
+}
+
+/// Starts a thread that looks at what is odd of a port call.
+fn start_looks<'s, E>(
+    scope: &Scope<'s, E>,
+    alloc: Global,
+    texts: &'s Texts,
+    call: &'s PortCall,
+    marks: &'s Marks,
+) -> Result<PromisedHandle<Result<Looks, AllocError>, Unsaid>, AllocError> {
+    let started = scope.spawn_with(Unsaid, move || -> Result<Looks, AllocError> {
+        looks_of(alloc, &texts.inputs(), call, marks)
+    });
+    Ok(started?)
+}
+
+/// What is found of inputs beside the port call: what they are, and what is odd of the messages and
+/// of the port call.
 #[derive(Drop)]
 pub struct Beside {
     pub sources: Sources,
     pub marks: Marks,
+    pub looks: Looks,
 }
 
 /// What is found of the inputs of some texts, and beside that.
 type Both = (Seen, Beside);
 
+/// What is found of the inputs of some texts, and what is odd of these.
+type Looked = (Seen, Marks, Looks);
+
 /// What is found, with what is found beside it, if that is there.
-fn with_sources(
-    seen: Seen,
-    sources: Result<Sources, AllocError>,
-    marks: Result<Marks, AllocError>,
-) -> Result<Both, Stop>
-    ensures made { IfOk result (λ b. b.0 ≡ seen) }
+fn with_sources(looked: Looked, sources: Result<Sources, AllocError>) -> Result<Both, Stop>
+    ensures made { IfOk result (λ b. b.0 ≡ looked.0) }
     ensures stopped { IfErr result (λ stop. stop ≡ Stop.NoMemory) }
 {
-    match (sources, marks) {
-        (Ok(sources), Ok(marks)) => Ok((seen, Beside { sources, marks })),
-        _ => Err(Stop::NoMemory),
+    let (seen, marks, looks) = looked;
+    match sources {
+        Ok(sources) => {
+            let beside = Beside {
+                sources,
+                marks,
+                looks,
+            };
+            Ok((seen, beside))
+        }
+        Err(AllocError) => Err(Stop::NoMemory),
+    }
+}
+
+/// What is found, with what is odd of the inputs, one after the other.
+fn look_in_turn(alloc: Global, texts: &Texts, seen: Seen) -> Result<Looked, Stop>
+    ensures made { IfOk result (λ l. l.0 ≡ seen) }
+    ensures stopped { IfErr result (λ stop. stop ≡ Stop.NoMemory) }
+{
+    let inputs = texts.inputs();
+    let marks = match marks_of(alloc, &inputs) {
+        Ok(marks) => marks,
+        Err(AllocError) => return Err(Stop::NoMemory),
+    };
+    match looks_of(alloc, &inputs, &seen.worked.call, &marks) {
+        Ok(looks) => Ok((seen, marks, looks)),
+        Err(AllocError) => Err(Stop::NoMemory),
     }
 }
 
@@ -220,7 +283,84 @@ fn see_in_turn<G: Gate, R: Threads + Wait + Sync>(
 {
     let inputs = texts.inputs();
     match see(rt, alloc, gate, workers, &inputs, chunk) {
-        Ok(seen) => with_sources(seen, sources_of(alloc, &inputs), marks_of(alloc, &inputs)),
+        Ok(seen) => match look_in_turn(alloc, texts, seen) {
+            Ok(looked) => with_sources(looked, sources_of(alloc, &inputs)),
+            Err(stop) => Err(stop),
+        },
+        Err(stop) => Err(stop),
+    }
+}
+
+/// What is found of a port call, and beside it, in a thread of its own, what is odd of it.
+fn found_with_looks<G: Gate, R: Threads + Wait + Sync>(
+    rt: &R,
+    alloc: Global,
+    gate: &G,
+    workers: Workers,
+    texts: &Texts,
+    worked: &Worked,
+    marks: &Marks,
+) -> Result<(Findings, Looks), AllocError>
+    ensures found { IfOk result (λ pair. pair.0 ≡ found_in worked.now.call) }
+    ensures few { IfOk result (λ pair. length pair.0.unmet < 2 ^ 32) }
+{
+    thread::scope(
+        thread::scope_env(),
+        rt,
+        |scope| -> Result<(Findings, Looks), AllocError>
+            ensures found { IfOk result (λ pair. pair.0 ≡ found_in worked.entry.now.call) }
+            ensures few { IfOk result (λ pair. length pair.0.unmet < 2 ^ 32) }
+        {
+            let looks = start_looks(scope, alloc, texts, &worked.call, marks)?;
+            let case = worked.call.case();
+            let findings = found_in(rt, alloc, gate, workers, case, &worked.cuts, &worked.sums);
+            let looks = looks.join(rt);
+            Ok((findings?, looks?))
+        },
+    )
+}
+
+/// What is found of a port call, with what is odd of it, one beside the other.
+fn look_beside<G: Gate, R: Threads + Wait + Sync>(
+    rt: &R,
+    alloc: Global,
+    gate: &G,
+    workers: Workers,
+    texts: &Texts,
+    worked: Worked,
+    marks: Result<Marks, AllocError>,
+) -> Result<Looked, Stop>
+    ensures made { IfOk result (λ l. l.0.worked.call ≡ worked.call) }
+    ensures stopped { IfErr result (λ stop. stop ≡ Stop.NoMemory) }
+{
+    let marks = match marks {
+        Ok(marks) => marks,
+        Err(AllocError) => return Err(Stop::NoMemory),
+    };
+    match found_with_looks(rt, alloc, gate, workers, texts, &worked, &marks) {
+        Ok((findings, looks)) => Ok((Seen { worked, findings }, marks, looks)),
+        Err(AllocError) => Err(Stop::NoMemory),
+    }
+}
+
+/// The same of what was read, if it was.
+fn look_at<G: Gate, R: Threads + Wait + Sync>(
+    rt: &R,
+    alloc: Global,
+    gate: &G,
+    workers: Workers,
+    texts: &Texts,
+    worked: Result<Worked, Stop>,
+    marks: Result<Marks, AllocError>,
+) -> Result<Looked, Stop>
+    ensures made { (inputs : Inputs)
+        → IfOk worked (λ w. outcome_of inputs ≡ Ok (outcome_in w.call))
+        → IfOk result (λ l. outcome_of inputs ≡ Ok (outcome_in l.0.worked.call)) }
+    ensures stopped { (inputs : Inputs)
+        → IfErr worked (IsStopOn inputs) → IfErr result (IsStopOn inputs) }
+{
+    match worked {
+        Ok(worked) => look_beside(rt, alloc, gate, workers, texts, worked, marks),
         Err(stop) => Err(stop),
     }
 }
@@ -258,11 +398,12 @@ fn see_beside<G: Gate, R: Threads + Wait + Sync>(
                 drop(sources.join(rt));
                 return Err(Stop::NoMemory);
             };
-            let seen = see(rt, alloc, gate, workers, &inputs, chunk);
-            let sources = sources.join(rt);
+            let worked = work(rt, alloc, gate, workers, &inputs, chunk);
             let marks = marks.join(rt);
-            match seen {
-                Ok(seen) => with_sources(seen, sources, marks),
+            let looked = look_at(rt, alloc, gate, workers, texts, worked, marks);
+            let sources = sources.join(rt);
+            match looked {
+                Ok(looked) => with_sources(looked, sources),
                 Err(stop) => Err(stop),
             }
         },

@@ -1,5 +1,5 @@
 //! What the ship has in place of a cell or a tank that isn't hers.
-use plain_text::many;
+use plain_text::{count_of, many};
 use std::alloc::{AllocError, Global};
 use units_core::Cell;
 use view_inputs::{CellRow, TankRows};
@@ -106,7 +106,7 @@ fn is_blank(byte: u8) -> bool {
 }
 
 /// A name without its blanks, in capital letters.
-fn plain_name(alloc: Global, name: &[u8]) -> Result<Vec<u8>, AllocError> {
+fn without_blanks(alloc: Global, name: &[u8]) -> Result<Vec<u8>, AllocError> {
     let mut plain = Vec::new(alloc);
     for byte in name {
         if !is_blank(*byte) {
@@ -119,10 +119,10 @@ fn plain_name(alloc: Global, name: &[u8]) -> Result<Vec<u8>, AllocError> {
 /// How many tanks a table has, and which of them has nearly this name: the same but for blanks and
 /// capital letters.
 pub fn tank_words(alloc: Global, tanks: &[TankRows], name: &[u8]) -> Result<String, AllocError> {
-    let wanted = plain_name(alloc, name)?;
+    let wanted = without_blanks(alloc, name)?;
     let mut nearest: Option<&TankRows> = None;
     for tank in tanks {
-        if plain_name(alloc, tank.name.as_slice())?.as_slice() == wanted.as_slice() {
+        if without_blanks(alloc, tank.name.as_slice())?.as_slice() == wanted.as_slice() {
             let is_less = match nearest {
                 Some(other) => tank.name.as_slice() < other.name.as_slice(),
                 None => true,
@@ -132,11 +132,7 @@ pub fn tank_words(alloc: Global, tanks: &[TankRows], name: &[u8]) -> Result<Stri
             }
         }
     }
-    let count = many(
-        alloc,
-        u32::try_from(tanks.len()).unwrap_or(u32::MAX),
-        "tank",
-    )?;
+    let count = many(alloc, count_of(tanks.len()), "tank")?;
     let Some(tank) = nearest else {
         return Ok(format!(in alloc; "tanks.csv has {count}.")?);
     };

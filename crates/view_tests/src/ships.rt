@@ -6,7 +6,7 @@ use ship_profile::{File, Profile, ProfileBytes, ProfileFault};
 use std::process::Abort;
 use std::test::Fail;
 use stow_messages::{StepsCode, StepsFault};
-use view_inputs::Names;
+use view_inputs::{Names, cells_in};
 use view_profile::{Parts, profile_text, warnings_on};
 use view_refusals::{profile_refusal_of, refusal_of, unread_file};
 
@@ -19,7 +19,8 @@ impl<R: AllocGlobal + Abort> Check<R> for ReadBack {
     // degrees is given too small, and her tank begins without a free surface.
     fn check(&self, rt: &R, profile: &Profile) -> Result<(), Fail> {
         let alloc = rt.alloc();
-        let parts = Parts::new(alloc, files(), profile)?;
+        let cells = cells_in(alloc, files().cells)?;
+        let parts = Parts::new(alloc, files(), profile, cells.as_slice())?;
         let mut codes = String::new(alloc);
         for warning in &warnings_on(alloc, &parts)? {
             codes.push_str(warning.code)?;
