@@ -3,8 +3,7 @@
 
    The program is run again and again, in a process of its own each time, where REFUSED says "growths" or "starts": once with ample memory, and then with
    its first growth of all threads together, or start of a thread, refused, with its second, and so on, until none is. Each run in which one was refused has
-   to end with status 4 and the line "no memory", and may have written nothing but answers to edits, or the front of a table. One that doesn't is told, with
-   status 70. If all do, what the run with ample memory wrote is written, and its status is given; and to descriptor 9 how many were refused. The last run,
+   to end with status 4 and the line "no memory", and may have written nothing but answers to edits. One that doesn't is told, with status 70. If all do, what the run with ample memory wrote is written, and its status is given; and to descriptor 9 how many were refused. The last run,
    in which none was refused, has to write the same.
 
    For memory_trials requests of two kinds of sizes, which no heap can meet, are messages. ARM + (thread << 24) + growth: from now on this growth of this thread is refused,
@@ -144,12 +143,12 @@ static char *text_in(int file, size_t *size) {
     return text;
 }
 
-/* Whether a text is the front of another, and one that the command may leave: lines of answers to edits, or any of a table. */
+/* Whether a text is the front of another, and one that the command may leave: none, or lines of answers to edits. */
 static int is_front(const char *command, const char *text, size_t size, const char *whole, size_t all) {
     if (size > all || memcmp(text, whole, size) != 0)
         return 0;
     if (strcmp(command, "whatif") != 0)
-        return size == 0 || strcmp(command, "table") == 0;
+        return size == 0;
     for (const char *line = text; *line != 0; line = strchr(line, '\n') + 1)
         if (strncmp(line, "EDIT ", 5) != 0 || strchr(line, '\n') == NULL)
             return 0;
