@@ -4,13 +4,20 @@ use Rattle.std.proofs.Math.ListN.{get_or-map}
 use Rattle.std.proofs.lemmas.Grind.{flat_map-append}
 use Rattle.std.proofs.lemmas.List.{append_assoc, append-nil, replicate-append-replicate, take_more}
 use Rattle.worst_values.specs.declared.stretches.Stretch.{Stretch}
-use Rattle.worst_values.specs.declared.values.Value.{Value}
+use Rattle.worst_values.specs.declared.row.Row.{Row}
 use Rattle.worst_values.specs.Rows.{row_of}
 use Rattle.worst_values.specs.Stretches.{lines_of, lines_of_all}
-use Rattle.worst_values.specs.Worst.{candidate_of}
+use Rattle.worst_values.specs.Worst.{Candidate, candidate_of}
 
-pub row_of_values : (xs : List (Option Value)) (j : ℕ) → row_of (map (option_map candidate_of) xs) j ≡ option_map candidate_of (get_or xs j None)
-row_of_values xs j = get_or-map (option_map candidate_of) xs j None
+-- what a row shows, and a row without a value
+abbrev pub shown : Row → Option Candidate
+shown row = option_map candidate_of row.worst
+
+abbrev pub empty : Row
+empty = record { worst = None; mark = None; marked = refl }
+
+pub row_of_values : (xs : List Row) (j : ℕ) → row_of (map shown xs) j ≡ shown (get_or xs j empty)
+row_of_values xs j = get_or-map shown xs j empty
 
 -- inside of a list the default counts for nothing
 pub any_default : {A : Type 0} (xs : List A) (i : ℕ) (a b : A) → i < length xs → get_or xs i a ≡ get_or xs i b

@@ -1,7 +1,20 @@
--- Bookkeeping: the worst value of each row of a table.
-use Rattle.std.specs.Prelude.{ℕ, List, slice_index_or, Option, None}
-use Rattle.worst_values.specs.Worst.{Candidate}
+-- Bookkeeping: the worst value of each row of a table, and a mark that it is worse than.
+use Rattle.std.specs.Prelude.{ℕ, ℤ, pos, Bool, true, false, List, slice_index_or, Option, None}
+use Rattle.std.specs.Prelude.{Some}
+use Rattle.units_core.specs.Ratio.{◌over◌}
+use Rattle.worst_values.specs.Lowest.{lowest}
+use Rattle.worst_values.specs.Worst.{Candidate, Safety, is_worse}
 
 -- that of row j; none where there is no such row
 abbrev pub row_of : List (Option Candidate) → ℕ → Option Candidate
 row_of rows j = slice_index_or rows j None
+
+-- a mark, in parts of which there are 4096 to one
+abbrev pub mark_of : ℤ → Safety
+mark_of m = record { beyond = false; by = lowest (m over pos 4096) }
+
+-- the value of a row is worse than its mark, if it has one
+abbrev pub is_marked : Option Candidate → Option ℤ → Bool
+is_marked worst None = true
+is_marked None (Some m) = false
+is_marked (Some w) (Some m) = is_worse w.safety (mark_of m)

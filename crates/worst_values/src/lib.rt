@@ -14,11 +14,14 @@ mod jobs;
 mod joining;
 mod limits;
 mod loads;
+mod marks;
+mod row;
 mod rows;
 mod stretches;
 mod unmet;
 mod values;
 mod walks;
+mod within;
 
 pub use candidates::value_of;
 pub use findings::Findings;

@@ -17,7 +17,7 @@ pub fn size_below(n: i128) -> i128
 }
 
 /// How safe a load is by a limit.
-fn part_of(load: i128, limit: i64, step: u32, place: u32) -> Value
+pub fn part_of(load: i128, limit: i64, step: u32, place: u32) -> Value
     ensures { candidate_of result
         ≡ record { step = step; place = place; safety = part_of load limit } }
 {
@@ -68,7 +68,7 @@ pub fn worst_shear(frames: &[Frame], shear: &[i128; 16], step: u32) -> Option<Va
 }
 
 /// The limit of a bending moment, by its sign.
-fn limit_for(frame: &Frame, load: i128) -> i64
+pub fn limit_for(frame: &Frame, load: i128) -> i64
     ensures { result ≡ bending_limit frame.now load }
 {
     if 0 <= load {

@@ -1,8 +1,8 @@
-ghost use Rattle.std.specs.Prelude.{◌≡◌, ◌≢◌, ℕ, ◌<◌, length, option_map, None};
-ghost use Rattle.worst_values.specs.Rows.{row_of};
+ghost use Rattle.std.specs.Prelude.{◌≡◌, ◌≢◌, ℕ, ◌<◌, length, option_map, None, true};
+ghost use Rattle.worst_values.specs.Rows.{is_marked, row_of};
 ghost use Rattle.worst_values.specs.Worst.{candidate_of, joined};
 
-use crate::joining::joined;
+use crate::row::Row;
 use crate::values::Value;
 use std::marker::Model;
 
@@ -12,7 +12,7 @@ const ROWS: usize = 14;
 /// The worst value of each row of the table of limits, where one was found.
 #[derive(Debug, Drop)]
 pub struct Rows {
-    rows: [Option<Value>; ROWS],
+    rows: [Row; ROWS],
 }
 
 impl Model for Rows {
@@ -21,7 +21,7 @@ impl Model for Rows {
 
     ghost Value = { List (Option Candidate) };
 
-    ghost view = { λ r. map (option_map candidate_of) r.rows };
+    ghost view = { λ r. map (λ row. option_map candidate_of row.worst) r.rows };
 }
 
 impl Rows {
@@ -30,7 +30,9 @@ impl Rows {
         ensures length { length result ≡ 14 }
         ensures none { (j : ℕ) → row_of result j ≡ None }
     {
-        Rows { rows: [None; ROWS] }
+        Rows {
+            rows: [Row::new(); ROWS],
+        }
     }
 
     /// The worst value of a row.
@@ -38,7 +40,15 @@ impl Rows {
         requires { row < 14 }
         ensures { option_map candidate_of result ≡ row_of self.now row }
     {
-        self.rows[row]
+        self.rows[row].worst
+    }
+
+    /// A mark that the value of a row is worse than, where there's one.
+    pub(crate) fn mark(&self, row: usize) -> Option<i32>
+        requires { row < 14 }
+        ensures { is_marked (row_of self.now row) result ≡ true }
+    {
+        self.rows[row].mark
     }
 
     /// Joins to a row what is found behind.
@@ -49,7 +59,12 @@ impl Rows {
             ≡ joined (row_of self.old row) (option_map candidate_of found) }
         ensures others { (j : ℕ) → j ≢ row → row_of self.new j ≡ row_of self.old j }
     {
-        self.rows[row] = joined(self.rows[row], found);
+        let Some(found) = found else {
+            return;
+        };
+        if !self.rows[row].is_below(&found) {
+            self.rows[row] = self.rows[row].joined(found);
+        }
     }
 
     /// Joins to each row that of the lines behind.

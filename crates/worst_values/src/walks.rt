@@ -1,5 +1,5 @@
 //! What is found over the lines of a chunk.
-ghost use Rattle.std.specs.Prelude.{◌≡◌, ℕ, ◌<◌, ◌++◌, ◌∷◌, [], length, IfOk, OnOk};
+ghost use Rattle.std.specs.Prelude.{◌≡◌, ◌≢◌, ℕ, ◌<◌, ◌++◌, ◌∷◌, [], length, IfOk, OnOk};
 ghost use Rattle.units_core.specs.Ratio.{Ratio};
 ghost use Rattle.moment_sums.specs.Bounded.{IsBounded};
 ghost use Rattle.moment_sums.specs.Kept.{values};
@@ -19,6 +19,7 @@ use crate::findings::Findings;
 use crate::limits::limit_at;
 use crate::rows::Rows;
 use crate::unmet::{unmet_of, unmet_outside};
+use crate::within::are_loads_within;
 use criteria::{Exact, Nearby, exact_into};
 use moment_sums::Totals;
 use port_call::Case;
@@ -27,6 +28,31 @@ use seq_report::Chunk;
 use ship_profile::Profile;
 use std::alloc::{AllocError, Global};
 use strength::{Hull, Strains};
+
+/// Joins the condition of a step to a row.
+fn note_limit(
+    profile: &Profile,
+    exact: &Exact,
+    strains: &Strains,
+    row: usize,
+    step: u32,
+    rows: &mut Rows,
+)
+    requires inside { row < 14 }
+    requires length { exact.now.afloat.lbp ≡ profile.now.ship.lbp }
+    requires least { IsLeast exact.now.least }
+    ensures length { length rows.new ≡ length rows.old }
+    ensures here { (y : ℕ → Ratio) → AreMeasures exact.now.curve y
+        → row_of rows.new row ≡ joined (row_of rows.old row) (worst_of
+        (candidates_of profile.now.ship (condition_by exact.now y strains.now) (limit_of row)
+        step)) }
+    ensures others { (j : ℕ) → j ≢ row → row_of rows.new j ≡ row_of rows.old j }
+{
+    let limit = limit_at(row);
+    if !are_loads_within(profile, strains, limit, rows.mark(row)) {
+        rows.note(row, value_of(profile, exact, strains, limit, step));
+    }
+}
 
 /// Joins the condition of a step to each row.
 fn note_condition(profile: &Profile, exact: &Exact, strains: &Strains, step: u32, rows: &mut Rows)
@@ -39,7 +65,7 @@ fn note_condition(profile: &Profile, exact: &Exact, strains: &Strains, step: u32
         step)) }
 {
     for row in 0..14usize {
-        rows.note(row, value_of(profile, exact, strains, limit_at(row), step));
+        note_limit(profile, exact, strains, row, step, rows);
     }
 }
 

@@ -1,9 +1,8 @@
-use Rattle.std.proofs.Common.{◌≡◌, ◌∙◌, ◌<◌, ◌≤◌, ℕ, ap, arith}
+use Rattle.std.proofs.Common.{◌≡◌, ◌∙◌, ◌≤◌, ℕ, arith}
 use Rattle.criteria.specs.Exact.{condition_by}
 use Rattle.worst_values.specs.Limits.{candidates_of, limit_of}
 use Rattle.worst_values.specs.Rows.{row_of}
 use Rattle.worst_values.specs.Worst.{joined, worst_of}
-use Rattle.worst_values.specs.declared.limits.Limit.{Limit}
 use borrow.Author.Count.{below_more}
 use Rattle.worst_values.proofs.walks.note_condition.Goals as goal
 
@@ -15,12 +14,12 @@ loop-row-preserved c =
     let ship = c.args.profile.now.ship in
     let own : row ≤ row = omega arith in
     record {
-      length = c.note.ensures.length ∙ inv.length;
+      length = c.note_limit.ensures.length ∙ inv.length;
       done = λ y are.
-          below_more (λ (j : ℕ). row_of c.note.new.self j ≡ joined (row_of old j) (worst_of (candidates_of ship (condition_by c.args.exact.now y c.args.strains.now) (limit_of j) c.args.step))) row
-          (λ j low. c.note.ensures.others j (λ e. (omega (arith, low, e))) ∙ inv.done y are j low)
-          (c.note.ensures.here ∙ (λ i. joined (inv.rest row own i) ((c.value_of.ensures y are ∙ ap (λ (l : Limit). worst_of (candidates_of ship (condition_by c.args.exact.now y c.args.strains.now) l c.args.step)) c.limit_at.ensures) i)));
-      rest = λ j high. c.note.ensures.others j (λ e. (omega (arith, high, e))) ∙ inv.rest j (omega (arith, high));
+          below_more (λ (j : ℕ). row_of c.note_limit.new.rows j ≡ joined (row_of old j) (worst_of (candidates_of ship (condition_by c.args.exact.now y c.args.strains.now) (limit_of j) c.args.step))) row
+          (λ j low. c.note_limit.ensures.others j (λ e. (omega (arith, low, e))) ∙ inv.done y are j low)
+          (c.note_limit.ensures.here y are ∙ (λ i. joined (inv.rest row own i) (worst_of (candidates_of ship (condition_by c.args.exact.now y c.args.strains.now) (limit_of row) c.args.step))));
+      rest = λ j high. c.note_limit.ensures.others j (λ e. (omega (arith, high, e))) ∙ inv.rest j (omega (arith, high));
     }
 
 pub returns-clause-each : goal.returns-clause-each
