@@ -3,7 +3,7 @@ _loadseq() {
     local word="${COMP_WORDS[COMP_CWORD]}" before="${COMP_WORDS[COMP_CWORD - 1]}" options
     COMPREPLY=()
     if [ "$COMP_CWORD" = 1 ]; then
-        mapfile -t COMPREPLY < <(compgen -W "check first whatif summary explain table profile --help --version" -- "$word")
+        mapfile -t COMPREPLY < <(compgen -W "check first whatif summary explain page table profile --help --version" -- "$word")
     elif [ "$before" = --workers ] || [ "$before" = --chunk ] || [ "$before" = --step ]; then
         return
     elif [ "$before" = --format ]; then

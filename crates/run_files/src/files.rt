@@ -48,6 +48,11 @@ impl<'a, R: Files> Disk<'a, R> {
     pub fn new(rt: &'a R) -> Disk<'a, R> {
         Disk { rt }
     }
+
+    /// The system's handle.
+    pub(crate) fn system(&self) -> &'a R {
+        self.rt
+    }
 }
 
 impl<'a, R: Files> Readers for Disk<'a, R> {

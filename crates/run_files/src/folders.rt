@@ -14,7 +14,7 @@ use std::alloc::{AllocError, Global};
 use std::marker::Model;
 
 /// The bytes of the file of this name, or why it can't be read.
-fn read_file<R: Readers>(alloc: Global, files: &mut R, name: &str) -> Result<Vec<u8>, Unopened>
+pub fn read_file<R: Readers>(alloc: Global, files: &mut R, name: &str) -> Result<Vec<u8>, Unopened>
     ensures text { IfOk result (λ v. IsTextOf (R.known files.old name.now) v.items) }
     ensures missing { IfErr result
         (λ e. e ≡ Unopened.Missing → R.known files.old name.now ≡ Nothing) }

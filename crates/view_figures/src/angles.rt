@@ -117,3 +117,10 @@ pub fn list_reading(list: Frac, most: i64) -> ListReading
         limit: hundredths_up(limit),
     }
 }
+
+/// The list of so many whole degrees, up to 45, as the report prints a list: in ten-thousandths of
+/// its tangent, rounded down.
+pub fn list_of_degrees(degrees: usize) -> i128 {
+    let halves = degrees.min(45) * 2;
+    i128::from(TANGENTS[halves]) / 100_000
+}

@@ -34,7 +34,7 @@ pub struct Inside {
     /// What the condition doesn't meet.
     pub unmet: Unmet,
     pub floating: Floating,
-    /// The righting levers at 0, 5, .., 60 degrees in hundredths of a metre, rounded down.
+    /// The righting levers at 0, 5, .., 60 degrees in mm, rounded down.
     pub levers: [i128; 13],
     pub frames: FrameRows,
     /// What is missing to her limits.
@@ -69,16 +69,16 @@ fn rows_of(
     rows
 }
 
-/// The levers in hundredths of a metre.
+/// The levers in mm, rounded down.
 fn levers_in_print(levers: &Levers) -> [i128; 13] {
-    let mut hundredths = [0; 13];
+    let mut lengths = [0; 13];
     for at in 0..13usize {
-        hundredths[at] = floor(Frac {
+        lengths[at] = floor(Frac {
             num: levers.num[at],
-            den: 10 * levers.den,
+            den: levers.den,
         });
     }
-    hundredths
+    lengths
 }
 
 /// What is told of a condition within the tables.

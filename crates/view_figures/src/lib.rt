@@ -20,11 +20,11 @@ mod rows;
 mod shares;
 
 pub use afloat::{Floating, Missing};
-pub use angles::{ListReading, list_reading};
+pub use angles::{ListReading, list_of_degrees, list_reading};
 pub use areas::area_reading;
 pub use conditions::{Condition, Inside, condition_at};
-pub use frames::{FrameRow, FrameRows};
+pub use frames::{FrameRow, FrameRows, frame_rows};
 pub use outside::{Missed, Station};
 pub use readings::{Reading, at_least, at_most};
-pub use rows::{Figures, Row};
+pub use rows::{Figures, Row, row_of};
 pub use shares::{Used, used_of};

@@ -1,9 +1,10 @@
 //! Where the inputs order a step.
 use crate::entries::entries_of;
+use crate::readings::rows_read;
 use edifact_text::Kind;
 use plain_text::count_of;
 use std::alloc::{AllocError, Global};
-use stow_messages::{StepRow, steps};
+use stow_messages::StepRow;
 
 /// Where a step is ordered.
 #[derive(Clone, Copy, Debug)]
@@ -43,8 +44,7 @@ pub fn lifts_among(
         }
         return Ok(lifts);
     };
-    let there = u32::try_from(there).unwrap_or(u32::MAX);
-    let Ok(rows) = steps(alloc, text, there) else {
+    let Some(rows) = rows_read(alloc, text, count_of(there))? else {
         return Ok(lifts);
     };
     for row in &rows {
@@ -57,11 +57,18 @@ pub fn lifts_among(
 }
 
 /// The lift that a record of a steps file orders.
-fn lift_in_file(alloc: Global, text: &[u8], lifts: u32, step: u32) -> Option<u32> {
-    let rows = steps(alloc, text, lifts).ok()?;
-    match rows.get((step as usize).checked_sub(1)?)? {
-        StepRow::Lift(number) => Some(*number),
-        _ => None,
+fn lift_in_file(
+    alloc: Global,
+    text: &[u8],
+    lifts: u32,
+    step: u32,
+) -> Result<Option<u32>, AllocError> {
+    let Some(rows) = rows_read(alloc, text, lifts)? else {
+        return Ok(None);
+    };
+    match rows.get((step as usize).wrapping_sub(1)) {
+        Some(StepRow::Lift(number)) => Ok(Some(*number)),
+        _ => Ok(None),
     }
 }
 
@@ -77,7 +84,7 @@ pub fn place_of(
         Some(text) => {
             let lifts = count_of(entries.len());
             (
-                lift_in_file(alloc, text, lifts, step),
+                lift_in_file(alloc, text, lifts, step)?,
                 Some(step.saturating_add(1)),
             )
         }

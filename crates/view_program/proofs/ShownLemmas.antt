@@ -26,7 +26,7 @@ use Rattle.command_line.specs.declared.lines.LineFault.{LineFault}
 use Rattle.command_line.specs.declared.lines.LineFault.TheVariants as line
 use Rattle.run_files.specs.Statuses.{IsUnread, status_of, status_on, stop_of_line, stop_of_run}
 use Rattle.view_program.specs.declared.words.View.{View}
-use Rattle.view_program.specs.declared.words.View.TheVariants.{Summary, Explain, Table}
+use Rattle.view_program.specs.declared.words.View.TheVariants.{Summary, Explain, Page, Table}
 use Rattle.view_program.specs.declared.words.ViewLine.{ViewLine}
 use Rattle.view_program.specs.Answers.{IsAnswerBy, IsAnswerOf, IsAnswerOn, IsProfileAnswer, IsProfileAnswerOn, IsRefusalTold, IsRefusedBy, IsShownBy, IsUnrefused, IsUntouched, Taken}
 use Rattle.view_program.specs.Shown.{IsShown, IsStopOn, IsTable, IsTextOf, OfTexts, OnFiles, files_of, first_in, report_lines}
@@ -90,6 +90,7 @@ unrefused_other texts Write other h = tt
 pub told_beside : (view : View) (fault : RunFault) (taken : Taken) → view ≢ Explain → IsRefusalTold view fault taken taken
 told_beside Summary fault taken other = refl
 told_beside Explain fault taken other = absurd (other refl)
+told_beside Page fault taken other = refl
 told_beside Table fault taken other = refl
 
 -- a refusal of some texts, of which nothing was written

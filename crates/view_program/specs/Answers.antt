@@ -11,7 +11,7 @@ use Rattle.run_files.specs.declared.stops.Stop.TheVariants.{Refused, Edits, Usag
 use Rattle.run_files.specs.declared.stops.Stop.TheVariants.{Write}
 use Rattle.run_files.specs.Files.{AreShipTexts, Known, RunTexts}
 use Rattle.run_files.specs.Statuses.{stop_text}
-use Rattle.view_program.specs.declared.words.View.TheVariants.{Summary, Explain, Table}
+use Rattle.view_program.specs.declared.words.View.TheVariants.{Summary, Explain, Page, Table}
 use Rattle.view_program.specs.declared.words.View.{View}
 use Rattle.view_program.specs.declared.words.ViewLine.{ViewLine}
 use Rattle.view_program.specs.Shown.{IsShown, IsTextOf, OfTexts, OnFiles}
@@ -41,6 +41,7 @@ IsToldOf fault text =
 abbrev pub IsRefusalTold : View → RunFault → Taken → Taken → Type 0
 IsRefusalTold Explain fault old new = HasWritten old new (IsToldOf fault)
 IsRefusalTold Summary fault old new = new ≡ old
+IsRefusalTold Page fault old new = new ≡ old
 IsRefusalTold Table fault old new = new ≡ old
 
 -- how a run on some texts ends that isn't stopped otherwise: the report is refused, and that is

@@ -16,7 +16,7 @@ use Rattle.run_files.specs.Files.{AreTexts, Known, RunTexts, texts_in}
 use Rattle.run_files.specs.Statuses.{status_on}
 use Rattle.view_table.specs.declared.forms.Form.{Form}
 use Rattle.view_table.specs.Tables.{AreLines}
-use Rattle.view_program.specs.declared.words.View.TheVariants.{Summary, Explain, Table}
+use Rattle.view_program.specs.declared.words.View.TheVariants.{Summary, Explain, Page, Table}
 use Rattle.view_program.specs.declared.words.View.{View}
 use Rattle.view_program.specs.declared.words.ViewLine.{ViewLine}
 
@@ -36,6 +36,10 @@ abbrev pub IsExplanation : Option ℕ → CaseRecord → List ℕ → Type 0
 IsExplanation None case text = (behind : List ℕ) × (text ≡ last_line (first_in case) ++ behind)
 IsExplanation (Some step) case text = Unit {0}
 
+-- of a page nothing is said but its exit status
+abbrev pub IsPage : CaseRecord → List ℕ → Type 0
+IsPage case text = Unit {0}
+
 -- a table has a line for each line of the report
 abbrev pub IsTable : Form → CaseRecord → List ℕ → Type 0
 IsTable form case text =
@@ -45,6 +49,7 @@ IsTable form case text =
 abbrev pub IsTextBy : View → Option ℕ → Form → CaseRecord → List ℕ → Type 0
 IsTextBy Summary condition form = IsSummary
 IsTextBy Explain condition form = IsExplanation condition
+IsTextBy Page condition form = IsPage
 IsTextBy Table condition form = IsTable form
 
 abbrev pub IsTextOf : ViewLine → CaseRecord → List ℕ → Type 0

@@ -3,6 +3,7 @@
 //! [`serve_view`] with the system's words, files and streams.
 #![tactic(auto)]
 
+mod refusing;
 mod serving;
 mod words;
 mod working;

@@ -1,19 +1,17 @@
 ghost use Rattle.std.specs.Prelude.{◌≡◌, ◌≤◌, ◌++◌, IfOk, IfErr, OnOk, string_bytes};
 ghost use Rattle.std.specs.Io.KnownBytes.{Appends};
 ghost use Rattle.port_call.specs.Views.{case_in_view};
-ghost use Rattle.run_files.specs.declared.stops.Stop.TheVariants.{Write as WriteStop};
 ghost use Rattle.seq_report.specs.Written.{HasWritten};
-ghost use Rattle.run_files.specs.Statuses.{IsUnread};
 ghost use Rattle.ship_profile.specs.Record.{texts_of};
-ghost use Rattle.view_program.specs.Answers.{IsAnswerBy, IsAnswerOf, IsAnswerOn, IsRefusalTold};
+ghost use Rattle.view_program.specs.Answers.{IsAnswerBy, IsAnswerOf, IsAnswerOn};
 ghost use Rattle.view_program.specs.Answers.{IsProfileAnswer, IsProfileAnswerOn, IsRefusedBy};
-ghost use Rattle.view_program.specs.Answers.{IsToldOf, IsUnrefused, IsUntouched};
-ghost use Rattle.view_program.specs.Answers.{IsShownBy};
-ghost use Rattle.view_program.specs.Shown.{IsExplanation, IsShown, IsStopOn, IsSummary};
+ghost use Rattle.view_program.specs.Answers.{IsShownBy, IsUnrefused, IsUntouched};
+ghost use Rattle.view_program.specs.Shown.{IsExplanation, IsPage, IsShown, IsStopOn, IsSummary};
 ghost use Rattle.view_program.specs.Shown.{IsTable, IsTextOf, OfTexts, files_of, first_in};
 
-use crate::words::{Command, View, ViewLine, read_command};
-use crate::working::{Beside, Looks, Seen, see, see_with_sources, work};
+use crate::refusing::{REFUSED, put, tell_refusal, tell_unread};
+use crate::words::{Command, View, ViewLine, names_of, read_command};
+use crate::working::{Beside, Looks, Seen, see, see_beside, work};
 use claim_run::{Gate, Workers};
 use command_line::{Line, Task};
 use criteria::Criterion;
@@ -27,18 +25,14 @@ use std::io::Write;
 use std::sync::Wait;
 use std::thread::Threads;
 use view_figures::condition_at;
-use view_inputs::{Names, Notice, cells_in, lifts_of, notices_on};
+use view_inputs::{Notice, cells_in, lifts_of, notices_on};
+use view_page::{ReadInputs, page_of};
 use view_profile::{Parts, profile_text};
-use view_refusals::{profile_refusal_of, refusal_of, unread_file};
+use view_refusals::profile_refusal_of;
 use view_table::{Form, TableFault, csv_heading, write_lines};
 use view_texts::{
     Odd, add_sheet, end_line, explanation_of, profile_source, run_line, sources_of, summary_front,
 };
-
-/// The exit status where an input is refused, and where a file can't be read.
-const REFUSED: u8 = 2;
-
-const UNREAD: u8 = 5;
 
 /// The words by which the files are read.
 fn files_of<'a>(line: ViewLine<'a>) -> Line<'a>
@@ -53,16 +47,6 @@ fn files_of<'a>(line: ViewLine<'a>) -> Line<'a>
         steps: line.steps,
         workers: line.workers,
         chunk: line.chunk,
-    }
-}
-
-/// The paths of a line's files.
-fn names_of<'a>(line: ViewLine<'a>) -> Names<'a> {
-    Names {
-        folder: line.folder,
-        baplie: line.baplie,
-        movins: line.movins,
-        steps: line.steps,
     }
 }
 
@@ -124,6 +108,48 @@ fn summary_text(
     Ok(text)
 }
 
+/// The page of what is seen of a port call, with all that is odd of it.
+fn page_text<G: Gate, T: Threads + Wait + Sync>(
+    rt: &T,
+    alloc: Global,
+    gate: &G,
+    workers: Workers,
+    seen: &Seen,
+    beside: Beside,
+    inputs: &Inputs<'_>,
+    line: ViewLine<'_>,
+) -> Result<String, AllocError> {
+    let Beside {
+        sources,
+        marks,
+        looks,
+    } = beside;
+    let Looks { warnings, cargo } = looks;
+    let name = sources.name.as_str();
+    let mut notices = notices_on(alloc, marks, cargo, inputs.steps, name)?;
+    for warning in warnings {
+        notices.push(warning)?;
+    }
+    let names = names_of(line);
+    let read = ReadInputs {
+        names: &names,
+        sources: &sources,
+        notices: notices.as_slice(),
+    };
+    let lines = seen.worked.lines();
+    let first = seen.first();
+    page_of(
+        rt,
+        alloc,
+        gate,
+        workers,
+        &lines,
+        &seen.findings,
+        first,
+        &read,
+    )
+}
+
 /// The explanation of the first condition that fails.
 fn explanation_text(
     alloc: Global,
@@ -180,17 +206,6 @@ fn explained(
     }
 }
 
-/// Writes a text.
-fn put<O: Write>(out: &mut O, text: &str) -> Result<(), Stop>
-    ensures put { OnOk result (Appends (O.contents out.old) (O.contents out.new) text.now) }
-    ensures stopped { IfErr result (λ stop. stop ≡ WriteStop) }
-{
-    match out.write_all(text.as_bytes()) {
-        Ok(()) => Ok(()),
-        Err(_) => Err(Stop::Write),
-    }
-}
-
 /// Writes the summary, and gives the exit status.
 #[tactic(auto, using(crate::proofs::ShownLemmas::untouched_same, crate::proofs::ShownLemmas::untouched_write))]
 fn summary_to<G: Gate, T: Threads + Wait + Sync, O: Write>(
@@ -209,13 +224,45 @@ fn summary_to<G: Gate, T: Threads + Wait + Sync, O: Write>(
     ensures untouched { IfErr result
         (λ stop. IsUntouched stop (O.contents out.old) (O.contents out.new)) }
 {
-    let (seen, beside) = match see_with_sources(rt, alloc, gate, workers, texts, line.chunk) {
+    let (seen, beside) = match see_beside(rt, alloc, gate, workers, texts, line.chunk) {
         Ok(both) => both,
         Err(stop) => return Err(stop),
     };
     let inputs = texts.inputs();
     let lines = seen.worked.lines();
     let Ok(text) = summary_text(alloc, &lines, &seen, beside, &inputs, line) else {
+        return Err(Stop::NoMemory);
+    };
+    match put(out, text.as_str()) {
+        Ok(()) => Ok(status_on(seen.first())),
+        Err(stop) => Err(stop),
+    }
+}
+
+/// Writes the page, and gives the exit status.
+#[tactic(auto, using(crate::proofs::ShownLemmas::untouched_same, crate::proofs::ShownLemmas::untouched_write))]
+fn page_to<G: Gate, T: Threads + Wait + Sync, O: Write>(
+    rt: &T,
+    alloc: Global,
+    gate: &G,
+    workers: Workers,
+    texts: &Texts,
+    line: ViewLine<'_>,
+    out: &mut O,
+) -> Result<u8, Stop>
+    ensures shown { IfOk result (λ status. HasWritten (O.contents out.old) (O.contents out.new)
+        (λ text. OfTexts texts.now (λ inputs. IsShown IsPage inputs status text))) }
+    ensures status { IfOk result (λ status. status ≤ 1) }
+    ensures stopped { IfErr result (λ stop. OfTexts texts.now (λ inputs. IsStopOn inputs stop)) }
+    ensures untouched { IfErr result
+        (λ stop. IsUntouched stop (O.contents out.old) (O.contents out.new)) }
+{
+    let (seen, beside) = match see_beside(rt, alloc, gate, workers, texts, line.chunk) {
+        Ok(both) => both,
+        Err(stop) => return Err(stop),
+    };
+    let inputs = texts.inputs();
+    let Ok(text) = page_text(rt, alloc, gate, workers, &seen, beside, &inputs, line) else {
         return Err(Stop::NoMemory);
     };
     match put(out, text.as_str()) {
@@ -381,52 +428,9 @@ fn texts_to<G: Gate, T: Threads + Wait + Sync, O: Write>(
     match line.view {
         View::Summary => summary_to(rt, alloc, gate, workers, texts, line, out),
         View::Explain => explanation_to(rt, alloc, gate, workers, &inputs, line, out),
+        View::Page => page_to(rt, alloc, gate, workers, texts, line, out),
         View::Table => table_to(rt, alloc, gate, workers, &inputs, line, out),
     }
-}
-
-/// What is printed of a refusal: its line, and its explanation.
-fn refusal_text(
-    alloc: Global,
-    fault: RunFault,
-    inputs: &Inputs<'_>,
-    line: ViewLine<'_>,
-) -> Result<String, AllocError>
-    ensures { IfOk result (λ text. IsToldOf fault (string_bytes text)) }
-{
-    let behind = refusal_of(alloc, fault, inputs, &names_of(line))?;
-    let stop = Stop::Refused(fault);
-    let text = format!(in alloc; "{stop}\n{behind}")?;
-    Ok(text)
-}
-
-/// Tells of a refusal, and gives its exit status: an explanation is what was asked for, and goes to
-/// `out`; beside anything else it is a fault, and goes to `err`.
-#[tactic(auto, using(crate::proofs::ShownLemmas::told_beside, crate::proofs::ShownLemmas::unrefused_write))]
-fn tell_refusal<O: Write, E: Write>(
-    alloc: Global,
-    fault: RunFault,
-    inputs: &Inputs<'_>,
-    line: ViewLine<'_>,
-    out: &mut O,
-    err: &mut E,
-) -> Result<u8, Stop>
-    ensures told { IfOk result (λ status. (status ≡ 2)
-        × IsRefusalTold line.entry.view fault (O.contents out.old) (O.contents out.new)) }
-    ensures stopped { IfErr result IsUnrefused }
-{
-    let Ok(text) = refusal_text(alloc, fault, inputs, line) else {
-        return Err(Stop::NoMemory);
-    };
-    if line.view == View::Explain {
-        return match put(out, text.as_str()) {
-            Ok(()) => Ok(REFUSED),
-            Err(stop) => Err(stop),
-        };
-    }
-    // What `err` takes of it changes nothing.
-    let _ = err.write_all(text.as_bytes());
-    Ok(REFUSED)
 }
 
 /// Writes what a line asks for on the texts of its files, or tells of their refusal, and gives the
@@ -456,40 +460,6 @@ fn answer_to<G: Gate, T: Threads + Wait + Sync, O: Write, E: Write>(
         Stop::Refused(fault) => tell_refusal(alloc, fault, &texts.inputs(), line, out, err),
         stop => Err(stop),
     }
-}
-
-/// Tells of a file that can't be read, and gives its exit status: on `out` where an explanation was
-/// asked for, and else on `err`.
-#[tactic(auto, using(crate::proofs::ShownLemmas::unrefused_unread, crate::proofs::ShownLemmas::unrefused_write))]
-fn tell_unread<O: Write, E: Write>(
-    alloc: Global,
-    stop: Stop,
-    is_asked: bool,
-    out: &mut O,
-    err: &mut E,
-) -> Result<u8, Stop>
-    requires { IsUnread stop }
-    ensures status { IfOk result (λ status. status ≡ 5) }
-    ensures stopped { IfErr result IsUnrefused }
-{
-    let Stop::Read(_) = &stop else {
-        return Err(stop);
-    };
-    let Ok(behind) = unread_file(alloc) else {
-        return Err(Stop::NoMemory);
-    };
-    let Ok(text) = format!(in alloc; "{stop}\n{behind}") else {
-        return Err(Stop::NoMemory);
-    };
-    if is_asked {
-        return match put(out, text.as_str()) {
-            Ok(()) => Ok(UNREAD),
-            Err(stop) => Err(stop),
-        };
-    }
-    // What `err` takes of it changes nothing.
-    let _ = err.write_all(text.as_bytes());
-    Ok(UNREAD)
 }
 
 /// Writes what a line asks for, or tells why there is no such text, and gives the exit status.

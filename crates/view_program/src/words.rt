@@ -3,6 +3,7 @@ use clap::error::ErrorKind;
 use clap::{Arg, ArgAction, ArgMatches, Command as Words, value_parser};
 use command_line::LineFault;
 use std::alloc::{AllocError, Global};
+use view_inputs::Names;
 use view_table::Form;
 
 /// What a run is asked to print.
@@ -12,6 +13,8 @@ pub enum View {
     Summary,
     /// The first condition that fails, in words.
     Explain,
+    /// One file of HTML, for the papers of the port call.
+    Page,
     /// Every figure of every condition, for other programs.
     Table,
 }
@@ -48,8 +51,18 @@ pub struct ViewLine<'a> {
     pub chunk: u32,
 }
 
+/// The paths of a line's files.
+pub fn names_of<'a>(line: ViewLine<'a>) -> Names<'a> {
+    Names {
+        folder: line.folder,
+        baplie: line.baplie,
+        movins: line.movins,
+        steps: line.steps,
+    }
+}
+
 /// The usage text where the first word is no command.
-const USAGE: &str = "usage: loadseq summary|explain|table|profile";
+const USAGE: &str = "usage: loadseq summary|explain|page|table|profile";
 
 /// What help says of the commands, of each of their words, and of their options.
 const ABOUT_SUMMARY: &str =
@@ -57,6 +70,9 @@ const ABOUT_SUMMARY: &str =
 
 const ABOUT_EXPLAIN: &str =
     "Says of the first step that fails what fails, by how much and what to do, with all its figures";
+
+const ABOUT_PAGE: &str =
+    "Writes one file of HTML with the verdict, the worst value of every limit and charts of all steps";
 
 const ABOUT_TABLE: &str =
     "Writes every figure of every condition for other programs, as CSV or as lines of JSON";
@@ -124,6 +140,7 @@ fn with_words<'a>(alloc: Global, view: View) -> Result<Words<'a>, AllocError> {
     let (name, about) = match view {
         View::Summary => ("loadseq summary", ABOUT_SUMMARY),
         View::Explain => ("loadseq explain", ABOUT_EXPLAIN),
+        View::Page => ("loadseq page", ABOUT_PAGE),
         View::Table => ("loadseq table", ABOUT_TABLE),
     };
     Words::new(alloc, name)
@@ -139,7 +156,7 @@ fn with_words<'a>(alloc: Global, view: View) -> Result<Words<'a>, AllocError> {
 fn with_own<'a>(alloc: Global, view: View) -> Result<Words<'a>, AllocError> {
     let command = with_words(alloc, view)?;
     match view {
-        View::Summary => Ok(command),
+        View::Summary | View::Page => Ok(command),
         View::Table => command.arg(number(alloc, "format", "FORM", ABOUT_FORMAT)),
         View::Explain => command.arg(number(alloc, "step", "K", ABOUT_CONDITION).value_parser(
             value_parser!(u32).range(0..=LAST_CONDITION),
@@ -147,15 +164,21 @@ fn with_own<'a>(alloc: Global, view: View) -> Result<Words<'a>, AllocError> {
     }
 }
 
-/// The command with all its words and options.
-fn command_for<'a>(alloc: Global, view: View) -> Result<Words<'a>, AllocError> {
-    with_own(alloc, view)?
+/// A command with the options of every one that judges.
+fn with_numbers<'a>(alloc: Global, command: Words<'a>) -> Result<Words<'a>, AllocError> {
+    command
         .arg(number(alloc, "workers", "N", ABOUT_WORKERS).value_parser(value_parser!(u32).range(
             1..=16,
         )))?
         .arg(number(alloc, "chunk", "N", ABOUT_CHUNK).value_parser(value_parser!(u32).range(
             1..=200_000,
         )))
+}
+
+/// The command with all its words and options.
+fn command_for<'a>(alloc: Global, view: View) -> Result<Words<'a>, AllocError> {
+    let command = with_own(alloc, view)?;
+    with_numbers(alloc, command)
 }
 
 /// What `clap` makes of the words behind the command's name.
@@ -202,11 +225,11 @@ fn line_of<'a>(view: View, matches: &ArgMatches<'a>) -> Option<ViewLine<'a>> {
     let baplie = matches.get_str("BAPLIE")?;
     let movins = matches.get_str("MOVINS")?;
     let condition = match view {
-        View::Summary | View::Table => None,
+        View::Summary | View::Page | View::Table => None,
         View::Explain => matches.get_one::<u32>("step"),
     };
     let form = match view {
-        View::Summary | View::Explain => Form::Csv,
+        View::Summary | View::Explain | View::Page => Form::Csv,
         View::Table => form_named(matches.get_str("format").unwrap_or("csv"))?,
     };
     Some(ViewLine {
@@ -280,6 +303,7 @@ pub fn read_command<'a>(alloc: Global, words: &'a [&'a str]) -> Result<Command<'
     match *first {
         "summary" => call_for(alloc, View::Summary, behind),
         "explain" => call_for(alloc, View::Explain, behind),
+        "page" => call_for(alloc, View::Page, behind),
         "table" => call_for(alloc, View::Table, behind),
         "profile" => profile_for(alloc, behind),
         _ => Err(usage(alloc, USAGE)),

@@ -251,46 +251,6 @@ fn with_sources(looked: Looked, sources: Result<Sources, AllocError>) -> Result<
     }
 }
 
-/// What is found, with what is odd of the inputs, one after the other.
-fn look_in_turn(alloc: Global, texts: &Texts, seen: Seen) -> Result<Looked, Stop>
-    ensures made { IfOk result (λ l. l.0 ≡ seen) }
-    ensures stopped { IfErr result (λ stop. stop ≡ Stop.NoMemory) }
-{
-    let inputs = texts.inputs();
-    let marks = match marks_of(alloc, &inputs) {
-        Ok(marks) => marks,
-        Err(AllocError) => return Err(Stop::NoMemory),
-    };
-    match looks_of(alloc, &inputs, &seen.worked.call, &marks) {
-        Ok(looks) => Ok((seen, marks, looks)),
-        Err(AllocError) => Err(Stop::NoMemory),
-    }
-}
-
-/// What is found of the inputs, and what they are, one after the other.
-fn see_in_turn<G: Gate, R: Threads + Wait + Sync>(
-    rt: &R,
-    alloc: Global,
-    gate: &G,
-    workers: Workers,
-    texts: &Texts,
-    chunk: u32,
-) -> Result<Both, Stop>
-    ensures made { IfOk result (λ b. OfTexts texts.now
-        (λ inputs. outcome_of inputs ≡ Ok (outcome_in b.0.worked.call))) }
-    ensures stopped { IfErr result (λ stop. OfTexts texts.now
-        (λ inputs. IsStopOn inputs stop)) }
-{
-    let inputs = texts.inputs();
-    match see(rt, alloc, gate, workers, &inputs, chunk) {
-        Ok(seen) => match look_in_turn(alloc, texts, seen) {
-            Ok(looked) => with_sources(looked, sources_of(alloc, &inputs)),
-            Err(stop) => Err(stop),
-        },
-        Err(stop) => Err(stop),
-    }
-}
-
 /// What is found of a port call, and beside it, in a thread of its own, what is odd of it.
 fn found_with_looks<G: Gate, R: Threads + Wait + Sync>(
     rt: &R,
@@ -365,9 +325,10 @@ fn look_at<G: Gate, R: Threads + Wait + Sync>(
     }
 }
 
-/// What is found of the inputs, and beside it, in a thread of its own, what they are: their digests
-/// take about as long as all else together.
-fn see_beside<G: Gate, R: Threads + Wait + Sync>(
+/// What is found of the inputs of some texts; and beside it, in threads of their own, what these
+/// are and what is odd of them. For one worker too: it is the conditions that workers share, and
+/// the digests alone take about half as long as they do by one.
+pub fn see_beside<G: Gate, R: Threads + Wait + Sync>(
     rt: &R,
     alloc: Global,
     gate: &G,
@@ -408,25 +369,4 @@ fn see_beside<G: Gate, R: Threads + Wait + Sync>(
             }
         },
     )
-}
-
-/// What is found of the inputs of some texts, and what these are.
-pub fn see_with_sources<G: Gate, R: Threads + Wait + Sync>(
-    rt: &R,
-    alloc: Global,
-    gate: &G,
-    workers: Workers,
-    texts: &Texts,
-    chunk: u32,
-) -> Result<Both, Stop>
-    ensures made { IfOk result (λ b. OfTexts texts.now
-        (λ inputs. outcome_of inputs ≡ Ok (outcome_in b.0.worked.call))) }
-    ensures stopped { IfErr result (λ stop. OfTexts texts.now
-        (λ inputs. IsStopOn inputs stop)) }
-{
-    if workers.get() < 2 {
-        see_in_turn(rt, alloc, gate, workers, texts, chunk)
-    } else {
-        see_beside(rt, alloc, gate, workers, texts, chunk)
-    }
 }

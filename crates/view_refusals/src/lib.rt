@@ -11,6 +11,7 @@ mod columns;
 mod neighbours;
 mod refusals;
 mod refused_cargo;
+mod refused_edits;
 mod refused_messages;
 mod refused_profile;
 mod refused_records;
@@ -20,3 +21,4 @@ mod ship_limits;
 mod told;
 
 pub use refusals::{profile_refusal_of, refusal_of, unread_file};
+pub use refused_edits::{edit_refusal, first_named};

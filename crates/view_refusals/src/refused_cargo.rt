@@ -8,12 +8,12 @@ use lift_sequence::{Op, SeqCode, SeqFault, ops};
 use plain_text::{count_of, in_thousandths, many, shown, shown_line};
 use port_call::Inputs;
 use std::alloc::{AllocError, Global};
-use stow_messages::{Item, Lift, baplie, movins, steps};
+use stow_messages::{Item, Lift};
 use units_core::Cell;
 use view_inputs::{
     Cargo, CellRow, Entry, NOBODY, Names, StepPlace, arrive, cell_text, cells_in, do_step,
-    document, entries_of, item_of, line_at, messages_of, number_in, place_of, stands, table_at,
-    tanks_in, text_in,
+    document, entries_of, item_of, items_read, lifts_read, line_at, messages_of, number_in,
+    place_of, rows_read, stands, table_at, tanks_in, text_in,
 };
 
 /// The identification of a container, in words where it has none.
@@ -149,7 +149,7 @@ pub fn told_of_arrival<'a>(
         tell_fill(alloc, &mut told, inputs, fault.at)?;
         return Ok(told);
     }
-    let Ok(items) = baplie(alloc, inputs.baplie) else {
+    let Some(items) = items_read(alloc, inputs.baplie)? else {
         return Ok(told);
     };
     let entries = entries_of(alloc, inputs.baplie, Kind::Baplie, None)?;
@@ -171,14 +171,14 @@ pub fn told_of_arrival<'a>(
 
 /// The steps that the inputs order; none where they are refused.
 fn steps_in(alloc: Global, inputs: &Inputs<'_>) -> Result<Vec<Op>, AllocError> {
-    let Ok(lifts) = movins(alloc, inputs.movins) else {
+    let Some(lifts) = lifts_read(alloc, inputs.movins)? else {
         return Ok(Vec::new(alloc));
     };
     let rows = match inputs.steps {
         None => None,
-        Some(text) => match steps(alloc, text, count_of(lifts.len())) {
-            Ok(rows) => Some(rows),
-            Err(_) => return Ok(Vec::new(alloc)),
+        Some(text) => match rows_read(alloc, text, count_of(lifts.len()))? {
+            Some(rows) => Some(rows),
+            None => return Ok(Vec::new(alloc)),
         },
     };
     ops(alloc, lifts, rows)
@@ -195,7 +195,7 @@ struct Before<'b> {
 }
 
 /// When a container was put where it stands.
-fn since_words(alloc: Global, step: u32) -> Result<String, AllocError> {
+pub fn since_words(alloc: Global, step: u32) -> Result<String, AllocError> {
     if step == 0 {
         String::from_str(alloc, "since arrival")
     } else {
@@ -282,16 +282,16 @@ fn add_meant(
     }
 }
 
-/// The cell and the identification of which a step is refused: of a restow the cell to which it
-/// goes, where it can be taken out of that from which it comes.
-fn refused_place<'b>(before: &Before<'_>, op: &'b Op) -> Option<(Cell, &'b [u8])> {
+/// The cell and the identification of which a step is refused behind others: of a restow the cell
+/// to which it goes, where it can be taken out of that from which it comes.
+pub fn refused_place<'b>(items: &[Item], before: &[Op], op: &'b Op) -> Option<(Cell, &'b [u8])> {
     match op {
         Op::Lift(Lift::Load(item)) => Some((item.cell, item.id.as_slice())),
         Op::Lift(Lift::Discharge { cell, id }) => Some((*cell, id.as_slice())),
         Op::Fill { .. } => None,
         Op::Restow { from, to, id } => {
             let id = id.as_slice();
-            let is_taken = match stands(before.items, before.ops, *from) {
+            let is_taken = match stands(items, before, *from) {
                 Some(standing) => {
                     let other = standing.item.id.as_slice();
                     id.is_empty() || other.is_empty() || other == id
@@ -333,7 +333,7 @@ fn tell_here(
     behind: &[Op],
     code: SeqCode,
 ) -> Result<(), AllocError> {
-    let Some((cell, id)) = refused_place(before, op) else {
+    let Some((cell, id)) = refused_place(before.items, before.ops, op) else {
         return Ok(());
     };
     told.here = match code {
@@ -368,7 +368,7 @@ fn tell_aboard(
     let (Some(op), Some(ops)) = (all.get(place), all.get(..place)) else {
         return Ok(());
     };
-    let Ok(items) = baplie(alloc, inputs.baplie) else {
+    let Some(items) = items_read(alloc, inputs.baplie)? else {
         return Ok(());
     };
     let rows = cells_in(alloc, inputs.profile.cells)?;

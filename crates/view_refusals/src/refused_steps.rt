@@ -7,8 +7,8 @@ use edifact_text::Kind;
 use plain_text::{Runs, many_of, path, shown};
 use port_call::Inputs;
 use std::alloc::{AllocError, Global};
-use stow_messages::{Lift, StepsCode, StepsFault, movins};
-use view_inputs::{Names, entries_of, field, number_at, record_at};
+use stow_messages::{Lift, StepsCode, StepsFault};
+use view_inputs::{Names, entries_of, field, lifts_read, number_at, record_at};
 
 /// The record before one that orders the same lift, and the number of the lift.
 fn earlier_record(
@@ -98,7 +98,7 @@ fn tell_missing(
     let place = (number as usize).wrapping_sub(1);
     let name = path(alloc, name, 30)?;
     told.place = format!(in alloc; "steps file {name}; lift {number}")?;
-    let Ok(lifts) = movins(alloc, inputs.movins) else {
+    let Some(lifts) = lifts_read(alloc, inputs.movins)? else {
         return Ok(());
     };
     let entries = entries_of(alloc, inputs.movins, Kind::Movins, None)?;

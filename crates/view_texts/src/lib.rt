@@ -7,7 +7,9 @@
 #![tactic(auto)]
 
 mod advice;
+mod differences;
 mod explanations;
+mod listings;
 mod records;
 mod rows;
 mod sheets;
@@ -16,8 +18,16 @@ mod steps;
 mod summaries;
 mod unmet;
 
+pub use differences::changes;
 pub use explanations::explanation_of;
+pub use listings::listing;
 pub use records::{end_line, run_line};
-pub use sheets::add_sheet;
-pub use sources::{Sources, profile_source, sources_of};
-pub use summaries::{Odd, VERSION, summary_front};
+pub use rows::{RowText, is_more, percent_text, row_text, tightest};
+pub use sheets::{add_sheet, condition_rows, load_texts, row_by};
+pub use sources::{Message, Sources, digest_of, profile_source, sources_of};
+pub use steps::{deed_by, lift_at};
+pub use summaries::{
+    Odd, VERSION, add_worst_table, fails_words, summary_front, tightest_line, verdict_line,
+    worst_rows,
+};
+pub use unmet::{Run, failing_runs};

@@ -10,9 +10,35 @@ use units_core::Frac;
 use view_figures::{Figures, ListReading, Reading, Row, Used};
 use worst_values::Limit;
 
+/// How many places the table of limits has: that of the first condition outside of the ship's
+/// tables, and one for each limit.
+pub const PLACES: usize = 15;
+
+/// The place of a limit in the table; the first is that of a condition outside.
+fn place_of(limit: Limit) -> usize {
+    match limit {
+        Limit::Closing => 1,
+        Limit::Gm => 2,
+        Limit::AreaTo30 => 3,
+        Limit::AreaTo40 => 4,
+        Limit::Area30To40 => 5,
+        Limit::Lever => 6,
+        Limit::PeakAngle => 7,
+        Limit::List => 8,
+        Limit::DraughtAft => 9,
+        Limit::DraughtForward => 10,
+        Limit::Trim => 11,
+        Limit::Shear => 12,
+        Limit::Bending => 13,
+        Limit::LeastGm => 14,
+    }
+}
+
 /// A row of the table, as it is printed.
 #[derive(Debug, Drop)]
 pub struct RowText {
+    /// Its place in the table.
+    pub place: usize,
     pub criterion: Criterion,
     pub name: String,
     pub unit: &'static str,
@@ -189,6 +215,7 @@ pub fn row_text(alloc: Global, row: &Row, step: u32) -> Result<RowText, AllocErr
         _ => unit_of(row.limit),
     };
     Ok(RowText {
+        place: place_of(row.limit),
         criterion: criterion_of(row.limit),
         name,
         unit,
@@ -211,6 +238,7 @@ pub fn outside_row(alloc: Global, cause: Outside, step: u32) -> Result<RowText, 
     let margin = String::from_str(alloc, "-")?;
     let used = String::from_str(alloc, "-")?;
     Ok(RowText {
+        place: 0,
         criterion: Criterion::C0,
         name,
         unit: "",
@@ -267,9 +295,9 @@ pub fn add_worst_row(
 /// The row that stands where a ship has no least metacentric heights of her own.
 pub const NO_LEAST_GM: &str = "C11 GM, gm.csv, m   not judged: the ship has no gm.csv";
 
-/// Whether one row uses more of its limit than another.
-fn is_tighter(one: &RowText, other: &RowText) -> bool {
-    match (one.share, other.share) {
+/// Whether one part of a limit is more than another; one that no number tells is more than any.
+pub fn is_more(one: Option<Frac>, other: Option<Frac>) -> bool {
+    match (one, other) {
         (_, None) => false,
         (None, Some(_)) => true,
         (Some(more), Some(less)) => is_less(less, more),
@@ -280,7 +308,7 @@ fn is_tighter(one: &RowText, other: &RowText) -> bool {
 pub fn tightest(rows: &[RowText]) -> Option<&RowText> {
     let mut found = rows.first()?;
     for row in rows {
-        if is_tighter(row, found) {
+        if is_more(row.share, found.share) {
             found = row;
         }
     }

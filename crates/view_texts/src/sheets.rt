@@ -2,6 +2,7 @@
 //! and the loads at each frame.
 use crate::rows::{NO_LEAST_GM, RowText, add_row, outside_row, percent_text, row_text};
 use crate::steps::{deed, lift_at};
+use criteria::Criterion;
 use hydrostat::Outside;
 use plain_text::{add_line, add_wrapped, in_hundredths, in_tenths, in_thousandths};
 use port_call::Case;
@@ -132,7 +133,7 @@ fn add_floating(
     )
 }
 
-/// Adds the righting levers.
+/// Adds the righting levers, in hundredths of a metre.
 fn add_levers(alloc: Global, text: &mut String, levers: &[i128; 13]) -> Result<(), AllocError> {
     text.push_str("righting levers, m, at degrees of heel:\n  ")?;
     for at in 0..13u32 {
@@ -141,7 +142,7 @@ fn add_levers(alloc: Global, text: &mut String, levers: &[i128; 13]) -> Result<(
     }
     text.push_str("\n  ")?;
     for lever in levers {
-        let lever = in_hundredths(alloc, *lever)?;
+        let lever = in_hundredths(alloc, lever.div_euclid(10))?;
         let lever = lever.as_str();
         write!(text, "{lever:>6}")?;
     }
@@ -149,7 +150,7 @@ fn add_levers(alloc: Global, text: &mut String, levers: &[i128; 13]) -> Result<(
 }
 
 /// A load with its sign and its limit, in tenths.
-fn load_texts(alloc: Global, row: &Row) -> Result<(String, String), AllocError> {
+pub fn load_texts(alloc: Global, row: &Row) -> Result<(String, String), AllocError> {
     let Figures::Reading(reading) = row.figures else {
         return Ok((String::new(alloc), String::new(alloc)));
     };
@@ -188,6 +189,16 @@ fn add_frame(
         text.push_str(" !")?;
     }
     text.push_str("\n")
+}
+
+/// The first criterion that a condition doesn't meet.
+pub fn first_unmet(unmet: &Unmet) -> Option<Criterion> {
+    for at in 0..12usize {
+        if unmet[at] {
+            return Some(criterion_at(at));
+        }
+    }
+    None
 }
 
 /// The codes of the criteria that a condition doesn't meet, parted by commas.

@@ -5,7 +5,7 @@ use port_call::Inputs;
 use sha2::{Digest, Sha256};
 use ship_profile::ProfileBytes;
 use std::alloc::{AllocError, Global};
-use view_inputs::{Identity, identity_in};
+use view_inputs::{Identity, document, identity_in};
 
 /// A message: what it says, and the SHA-256 of its text in hexadecimal.
 #[derive(Debug, Drop)]
@@ -28,7 +28,7 @@ pub struct Sources {
 }
 
 /// The SHA-256 of a text, in hexadecimal.
-fn digest_of(alloc: Global, text: &[u8]) -> Result<String, AllocError> {
+pub fn digest_of(alloc: Global, text: &[u8]) -> Result<String, AllocError> {
     let bytes: [u8; 32] = Sha256::digest(text);
     let mut hex = String::new(alloc);
     for byte in &bytes {
@@ -69,7 +69,7 @@ fn message_of(alloc: Global, text: &[u8], kind: Kind) -> Result<Message, AllocEr
 
 /// The name that `ship.toml` gives the ship, on one line; empty where it gives none.
 fn name_in(alloc: Global, text: &[u8]) -> Result<String, AllocError> {
-    let Ok(table) = toml::table_from_slice(alloc, text) else {
+    let Some(table) = document(alloc, text)? else {
         return Ok(String::new(alloc));
     };
     match table.get("name") {

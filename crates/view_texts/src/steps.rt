@@ -35,7 +35,7 @@ pub fn lift_text(alloc: Global, op: Option<&Op>) -> Result<String, AllocError> {
 }
 
 /// The step of a number; `None` of 0, which is the arrival, and behind the last.
-fn op_at<'a>(case: Case<'a>, step: u32) -> Option<&'a Op> {
+pub fn op_at<'a>(case: Case<'a>, step: u32) -> Option<&'a Op> {
     case.sequence.ops().get((step as usize).checked_sub(1)?)
 }
 
@@ -52,8 +52,12 @@ fn cell_words(alloc: Global, cell: Cell) -> Result<String, AllocError> {
 }
 
 /// The container that a step moves in words, with its mass.
-fn container_words(alloc: Global, case: Case<'_>, step: u32) -> Result<String, AllocError> {
-    let moved = MovedBy::new(alloc, case)?;
+fn container_words(
+    alloc: Global,
+    case: Case<'_>,
+    moved: &MovedBy,
+    step: u32,
+) -> Result<String, AllocError> {
     let Some(item) = moved.item(case, step as usize) else {
         return String::from_str(alloc, "a container");
     };
@@ -96,23 +100,33 @@ pub fn mass_out(case: Case<'_>, step: u32) -> u32 {
 
 /// What the step of a number does, 0 being the condition on arrival.
 pub fn deed(alloc: Global, case: Case<'_>, step: u32) -> Result<String, AllocError> {
+    deed_by(alloc, case, &MovedBy::new(alloc, case)?, step)
+}
+
+/// What the step of a number does, where it is known which container each step moves.
+pub fn deed_by(
+    alloc: Global,
+    case: Case<'_>,
+    moved: &MovedBy,
+    step: u32,
+) -> Result<String, AllocError> {
     let Some(op) = op_at(case, step) else {
         return String::from_str(alloc, "the condition on arrival");
     };
     match op {
         Op::Fill { name, kg } => fill_words(alloc, case, step, name.as_slice(), *kg),
         Op::Lift(Lift::Load(item)) => {
-            let what = container_words(alloc, case, step)?;
+            let what = container_words(alloc, case, moved, step)?;
             let into = cell_words(alloc, item.cell)?;
             Ok(format!(in alloc; "loads {what}, into {into}")?)
         }
         Op::Lift(Lift::Discharge { cell, .. }) => {
-            let what = container_words(alloc, case, step)?;
+            let what = container_words(alloc, case, moved, step)?;
             let from = cell_words(alloc, *cell)?;
             Ok(format!(in alloc; "discharges {what}, from {from}")?)
         }
         Op::Restow { from, to, .. } => {
-            let what = container_words(alloc, case, step)?;
+            let what = container_words(alloc, case, moved, step)?;
             let from = cell_words(alloc, *from)?;
             let to = cell_words(alloc, *to)?;
             Ok(format!(in alloc; "restows {what}, from {from} to {to}")?)

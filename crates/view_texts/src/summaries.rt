@@ -120,7 +120,7 @@ fn at_step(alloc: Global, case: Case<'_>, step: u32, arrival: &str) -> Result<St
 }
 
 /// The line that says whether all conditions pass.
-fn verdict_line(
+pub fn verdict_line(
     alloc: Global,
     case: Case<'_>,
     findings: &Findings,
@@ -145,7 +145,7 @@ fn verdict_line(
 }
 
 /// The line of the row that uses most of its limit.
-fn tightest_line(alloc: Global, case: Case<'_>, row: &RowText) -> Result<String, AllocError> {
+pub fn tightest_line(alloc: Global, case: Case<'_>, row: &RowText) -> Result<String, AllocError> {
     let code = row.criterion.code();
     let name = row.name.as_str();
     let at = at_step(alloc, case, row.step, "on arrival")?;
@@ -418,6 +418,26 @@ fn cause_counts(alloc: Global, unmet: &Stretches) -> Result<String, AllocError> 
     Ok(text)
 }
 
+/// Where a criterion, by its mark, fails: `fails at 18 of 81: 11 to 28`; empty where it fails
+/// nowhere.
+pub fn fails_words(
+    alloc: Global,
+    unmet: &Stretches,
+    conditions: u32,
+    mark: usize,
+) -> Result<String, AllocError> {
+    let mut text = String::new(alloc);
+    let count = lines_with(unmet, mark);
+    if count > 0 {
+        let runs = runs_with(alloc, unmet, mark)?;
+        write!(text, "fails at {count} of {conditions}: {runs}")?;
+        if mark == 0 {
+            text.push_str(cause_counts(alloc, unmet)?.as_str())?;
+        }
+    }
+    Ok(text)
+}
+
 /// Adds where each criterion fails.
 fn add_fails(
     alloc: Global,
@@ -426,16 +446,10 @@ fn add_fails(
     conditions: u32,
 ) -> Result<(), AllocError> {
     for mark in 0..12usize {
-        let count = lines_with(unmet, mark);
-        if count > 0 {
+        let words = fails_words(alloc, unmet, conditions, mark)?;
+        if !words.is_empty() {
             let code = criterion_at(mark).code();
-            let runs = runs_with(alloc, unmet, mark)?;
-            write!(text, "{code:<3} fails at {count} of {conditions}: {runs}")?;
-            if mark == 0 {
-                let causes = cause_counts(alloc, unmet)?;
-                text.push_str(causes.as_str())?;
-            }
-            text.push_str("\n")?;
+            write!(text, "{code:<3} {words}\n")?;
         }
     }
     let outside = lines_with(unmet, 0);
@@ -449,6 +463,24 @@ fn add_fails(
     Ok(())
 }
 
+/// Adds the table of all conditions of a case: each limit at its worst.
+pub fn add_worst_table(
+    alloc: Global,
+    text: &mut String,
+    case: Case<'_>,
+    rows: &[RowText],
+) -> Result<(), AllocError> {
+    add_line(text, HEADING)?;
+    for row in rows {
+        let lift = lift_at(alloc, case, row.step)?;
+        add_worst_row(alloc, text, row, lift.as_str())?;
+    }
+    if case.profile.least_gm().is_none() {
+        add_line(text, NO_LEAST_GM)?;
+    }
+    Ok(())
+}
+
 /// Adds the table of all conditions, and where each criterion fails.
 fn add_table(
     alloc: Global,
@@ -458,14 +490,7 @@ fn add_table(
     unmet: &Stretches,
 ) -> Result<(), AllocError> {
     text.push_str("\n")?;
-    add_line(text, HEADING)?;
-    for row in rows {
-        let lift = lift_at(alloc, case, row.step)?;
-        add_worst_row(alloc, text, row, lift.as_str())?;
-    }
-    if case.profile.least_gm().is_none() {
-        add_line(text, NO_LEAST_GM)?;
-    }
+    add_worst_table(alloc, text, case, rows)?;
     add_fails(alloc, text, unmet, case.lines())
 }
 

@@ -110,3 +110,45 @@ pub fn runs_with(alloc: Global, stretches: &Stretches, mark: usize) -> Result<St
     }
     runs.into_text()
 }
+
+/// Lines that follow each other.
+#[derive(Clone, Copy, Debug, PartialEq, Eq)]
+pub struct Run {
+    pub first: u32,
+    pub last: u32,
+}
+
+/// A run behind others, the last of which may still go on: what goes on now.
+fn next_open(runs: &mut Vec<Run>, open: Option<Run>, run: Run) -> Result<Run, AllocError> {
+    let Some(before) = open else {
+        return Ok(run);
+    };
+    if before.last.saturating_add(1) == run.first {
+        return Ok(Run {
+            first: before.first,
+            last: run.last,
+        });
+    }
+    runs.push(before)?;
+    Ok(run)
+}
+
+/// The lines that don't meet some criterion, in runs.
+pub fn failing_runs(alloc: Global, stretches: &Stretches) -> Result<Vec<Run>, AllocError> {
+    let mut runs = Vec::new(alloc);
+    let mut open = None;
+    let mut line = 0u32;
+    for number in 0..count_of(stretches) {
+        let stretch = stretch_at(stretches, number);
+        let behind = line.saturating_add(stretch.lines);
+        if first_mark(stretch).is_some() && line < behind {
+            let last = behind.saturating_sub(1);
+            open = Some(next_open(&mut runs, open, Run { first: line, last })?);
+        }
+        line = behind;
+    }
+    if let Some(run) = open {
+        runs.push(run)?;
+    }
+    Ok(runs)
+}

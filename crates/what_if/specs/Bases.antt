@@ -5,10 +5,15 @@ use Rattle.lift_sequence.specs.declared.operations.Op.{Op}
 use Rattle.criteria.specs.Assessment.{Assessment, assessment_of}
 use Rattle.criteria.specs.Figures.{IsVerdict}
 use Rattle.criteria.specs.declared.verdicts.Verdict.{Verdict}
-use Rattle.port_call.specs.Grounds.{GroundRecord, aboard_first}
+use Rattle.port_call.specs.Cases.{CaseRecord, on_ground}
+use Rattle.port_call.specs.Grounds.{GroundRecord, aboard_first, steps_on}
 use Rattle.port_call.specs.Sums.{sum_at}
 use Rattle.seq_report.specs.Refusal.{Outcome, outcome_on}
 use Rattle.seq_report.specs.Report.{failure_of, lines_of, step_line}
+
+-- the case of a list that can be done from there
+abbrev pub case_of : GroundRecord → List Op → CaseRecord
+case_of base ops = on_ground base (record { ops = ops; steps = steps_on base ops })
 
 -- the report on a list, as a fresh run makes it
 unfoldable pub report_on : GroundRecord → List Op → Outcome

@@ -1,13 +1,16 @@
-ghost use Rattle.std.specs.Prelude.{◌≡◌, ◌≢◌, ◌≤◌, [], ◌∷◌, length, take, false, true};
+ghost use Rattle.std.specs.Prelude.{◌≡◌, ◌≢◌, ◌≤◌, ◌+◌, [], ◌∷◌, length, take, false, true};
 ghost use Rattle.std.specs.Prelude.{OnOk, OnErr, IfOk, IfErr, Ok, Err, Some, None};
 ghost use Rattle.std.specs.Arc.{arc_value};
+ghost use Rattle.prefix_scan.specs.Cut.{Divides};
 ghost use Rattle.lift_sequence.specs.Arrival.{TellsAt};
-ghost use Rattle.port_call.specs.Grounds.{list_fault};
+ghost use Rattle.port_call.specs.Grounds.{list_fault, steps_on};
 ghost use Rattle.port_call.specs.Refusals.{TellsMemory, is_refusal, is_write};
+ghost use Rattle.port_call.specs.Views.{case_in_view};
+ghost use Rattle.running_sums.specs.Lines.{AreFirstSums};
 ghost use Rattle.seq_report.specs.Delivery.{Delivers, IsByPlan};
 ghost use Rattle.seq_report.specs.Refusal.{outcome_of};
 ghost use Rattle.step_edits.specs.Edits.{TellsMemory as TellsEditMemory, edited};
-ghost use Rattle.what_if.specs.Bases.{IsJudgedAt, report_on};
+ghost use Rattle.what_if.specs.Bases.{IsJudgedAt, case_of, report_on};
 ghost use Rattle.running_sums.specs.Fours.{CostsUpTo};
 ghost use Rattle.what_if.specs.Sessions.{AreTold, CostsLittle, refusal};
 
@@ -17,7 +20,9 @@ use circular_buffer::HeapCircularBuffer;
 use claim_run::Gate;
 use criteria::Verdict;
 use lift_sequence::{Op, SeqCode, SeqFault};
-use port_call::{Ground, PortCall};
+use moment_sums::Totals;
+use port_call::{Case, Ground, PortCall};
+use prefix_scan::Cuts;
 use seq_report::{Criterion, Inputs, Options, RunFault, Sink, Summary};
 use std::alloc::{AllocError, Global};
 use std::marker::Model;
@@ -138,6 +143,23 @@ impl Session {
         ensures { result.now ≡ self.now.ops }
     {
         self.list.ops()
+    }
+
+    /// The case of its list, of which a view of the report is made.
+    pub fn case(&self) -> Case<'_>
+        ensures { case_in_view result ≡ case_of self.now.base self.now.ops }
+    {
+        self.list.case()
+    }
+
+    /// Everything that is aboard at the first line of each chunk of its report, added up.
+    pub fn first_sums(&self, cuts: &Cuts) -> Result<Vec<Totals>, AllocError>
+        requires { Divides cuts.now (length self.now.ops + 1) }
+        ensures { IfOk result (λ sums. AreFirstSums self.now.base.ship.ship.frames
+            self.now.base.arrival.bodies (steps_on self.now.base self.now.ops) cuts.now
+            sums.items) }
+    {
+        self.list.first_sums(cuts)
     }
 
     /// Makes an edit. It is refused where the list hasn't a step that it names (X1), where it

@@ -7,7 +7,8 @@ ghost use Rattle.port_call.specs.Refusals.{TellsMemory, is_refusal};
 ghost use Rattle.running_sums.specs.Lines.{AreFirstSums};
 ghost use Rattle.seq_report.specs.Delivery.{Delivers, IsByPlan};
 ghost use Rattle.seq_report.specs.Plans.{Fits, IsUncut};
-ghost use Rattle.what_if.specs.Bases.{IsJudgedAt, Pass, report_on};
+ghost use Rattle.port_call.specs.Views.{case_in_view};
+ghost use Rattle.what_if.specs.Bases.{IsJudgedAt, Pass, case_of, report_on};
 ghost use Rattle.running_sums.specs.Fours.{CostsUpTo};
 
 use crate::passing::{Passed, count_before, count_passing, keep};
@@ -15,7 +16,7 @@ use claim_run::Gate;
 use criteria::{Verdict, judge};
 use lift_sequence::{Op, SeqCode, SeqFault, Sequence};
 use moment_sums::Totals;
-use port_call::{Ground, cuts_refusal};
+use port_call::{Case, Ground, cuts_refusal};
 use prefix_scan::{Cuts, Monoid};
 use running_sums::{Fours, join_to_arrival};
 use seq_report::{
@@ -176,8 +177,15 @@ impl SummedList {
         first_fail_behind(case, passing as u32, self.base.total())
     }
 
+    /// The case of the list.
+    pub fn case(&self) -> Case<'_>
+        ensures { case_in_view result ≡ case_of self.now.base self.now.ops }
+    {
+        self.base.case(&self.sequence)
+    }
+
     /// The sum at the first line of each chunk of the report.
-    fn first_sums(&self, cuts: &Cuts) -> Result<Vec<Totals>, AllocError>
+    pub fn first_sums(&self, cuts: &Cuts) -> Result<Vec<Totals>, AllocError>
         requires { Divides cuts.now (length self.now.ops + 1) }
         ensures { IfOk result (λ sums. AreFirstSums self.now.base.ship.ship.frames
             self.now.base.arrival.bodies (steps_on self.now.base self.now.ops) cuts.now

@@ -1,0 +1,25 @@
+use Rattle.std.proofs.Common.{rules, ◌∙◌, ap, refl, get_or, ℕ, ℤ, pos, FitsSigned, to_z-of_z}
+use Rattle.std.specs.Int.{int_max, w64, w128}
+use Rattle.units_core.specs.Interpolation.{at}
+use Rattle.units_core.specs.declared.frames.Frame.{Frame}
+use Rattle.worst_values.specs.Limits.{bending_limit}
+use Rattle.view_page.specs.Series.{bending_percent, bending_percents, percent_of}
+use Rattle.view_page.proofs.PercentLemmas.{frame_more}
+use Rattle.view_page.proofs.walks.bending_percent.Goals as goal
+
+pub loop-i-preserved : goal.loop-i-preserved
+loop-i-preserved c =
+    let bending : ℕ → ℤ = λ i. at c.args.bending.now i in
+    let frames = c.args.frames.now in
+    let load = get_or c.args.bending.now c.loop-i.i (pos 0) in
+    let r : FitsSigned w128 c.max-most.result = search rules in
+    let p : FitsSigned w128 c.percent_of.result = search rules in
+    let f : FitsSigned w128 load = search rules in
+    let g : FitsSigned w64 c.limit_for.result = search rules in
+    let limit = simp (to_z-of_z f) at c.limit_for.ensures in
+    let percent = (simp (to_z-of_z f, to_z-of_z g) at c.percent_of.ensures) ∙ ap (λ (m : ℤ). percent_of load m) limit in
+    let step = (simp (to_z-of_z p) at c.max-most.ensures.value) in
+    simp (to_z-of_z r)
+    (frame_more (λ (i : ℕ) (fr : Frame). percent_of (bending i) (bending_limit fr (bending i))) (bending_percents bending) (λ i fr more. refl) frames c.loop-i.i c.index-frames-i.result
+    _ c.max-most.result (bending_percent bending frames) c.loop-i-test.true c.index-frames-i.is c.loop-i.invariant
+    (step ∙ ap (int_max _) percent))

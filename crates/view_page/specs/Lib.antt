@@ -1,0 +1,3 @@
+pub mod Decimation
+pub mod Scales
+pub mod Series

@@ -1,0 +1,31 @@
+//! The page of a port call: one file of HTML that holds all that it shows, for the papers of the
+//! port call. It reads without its script, which adds the figures under the pointer alone.
+//!
+//! [`page_of`] makes it. Workers judge each condition once more for the figures that are drawn
+//! ([`Series`]), and of a long list of conditions the curves show the first, the last, the least
+//! and the greatest of each stretch ([`drawn`]).
+//!
+//! The definitions are `Series`, `Drawn` and `Scales` of `specs/`.
+#![tactic(auto)]
+
+mod charts;
+mod decimation;
+mod envelopes;
+mod escaping;
+mod levers;
+mod loads;
+mod pages;
+mod percents;
+mod rows;
+mod scales;
+mod series;
+mod steps;
+mod style;
+mod tables;
+mod walks;
+
+pub use decimation::drawn;
+pub use pages::{ReadInputs, page_of};
+pub use percents::percent_of;
+pub use scales::{Height, Scale, Tenths, tick_step, x_of};
+pub use series::{Plotted, Series, series_of};

@@ -1,0 +1,212 @@
+ghost use Rattle.std.specs.Prelude.{◌≡◌, ◌++◌, [], IfOk, OnOk};
+ghost use Rattle.port_call.specs.Views.{case_in_view};
+ghost use Rattle.view_page.specs.Series.{all_plotted, figure_of};
+
+use crate::loads::Reaches;
+use crate::walks::series_in_chunk;
+use claim_run::{Gate, Job, Workers, run};
+use seq_report::Lines;
+use ship_profile::Frames;
+use std::alloc::{AllocError, Global};
+use std::marker::Model;
+use std::sync::Wait;
+use std::thread::Threads;
+use strength::Strains;
+use units_core::Frac;
+
+/// What is drawn of a condition within the ship's tables, as the report prints it: lengths in mm,
+/// the list in ten-thousandths, loads in percent of their limits.
+#[derive(Clone, Copy, Debug, PartialEq, Eq)]
+pub struct Plotted {
+    pub gm: i128,
+    /// The list, which there is where the metacentric height is positive.
+    pub list: Option<i128>,
+    pub aft: i128,
+    pub fwd: i128,
+    pub trim: i128,
+    /// The greatest part that is used at any frame, as [`percent_of`](crate::percent_of) has it.
+    pub shear: i128,
+    pub bending: i128,
+}
+
+/// A figure that is drawn.
+#[derive(Clone, Copy, Debug, PartialEq, Eq)]
+pub enum Figure {
+    Gm,
+    List,
+    Aft,
+    Fwd,
+    Trim,
+    Shear,
+    Bending,
+}
+
+/// What is told of each condition beside the figures of the report.
+#[derive(Drop)]
+pub struct Beside {
+    /// The least metacentric height at its displacement, in mm and rounded down; none where the
+    /// ship has no such limits.
+    pub least_gm: Vec<Option<i128>>,
+    /// How much of a limit it uses at most; none where no number tells.
+    pub shares: Vec<Option<Frac>>,
+    /// The loads at each frame over all of them.
+    pub reaches: Reaches,
+    /// The loads on arrival, if that condition is among them and within the tables.
+    pub arrival: Option<Strains>,
+}
+
+/// The figures that are drawn of each condition, in their order; none of one outside of the ship's
+/// tables.
+#[derive(Drop)]
+pub struct Series {
+    pub(crate) plotted: Vec<Option<Plotted>>,
+    pub(crate) beside: Beside,
+}
+
+impl Model for Series {
+    ghost use Rattle.std.specs.Prelude.{List, Option};
+    ghost use Rattle.view_page.specs.declared.series.Plotted.{Plotted};
+
+    ghost Value = { List (Option Plotted) };
+
+    ghost view = { λ s. s.plotted.items };
+}
+
+impl Plotted {
+    /// A figure of a condition, if it has one.
+    pub fn figure(&self, figure: Figure) -> Option<i128>
+        ensures { result ≡ figure_of figure self.now }
+    {
+        match figure {
+            Figure::Gm => Some(self.gm),
+            Figure::List => self.list,
+            Figure::Aft => Some(self.aft),
+            Figure::Fwd => Some(self.fwd),
+            Figure::Trim => Some(self.trim),
+            Figure::Shear => Some(self.shear),
+            Figure::Bending => Some(self.bending),
+        }
+    }
+}
+
+impl Series {
+    /// No condition.
+    fn new(alloc: Global) -> Series
+        ensures { result ≡ [] }
+    {
+        Series {
+            plotted: Vec::new(alloc),
+            beside: Beside::new(alloc),
+        }
+    }
+
+    /// The figures of the conditions.
+    pub fn plotted(&self) -> &[Option<Plotted>]
+        ensures { result.now ≡ self.now }
+    {
+        &self.plotted
+    }
+
+    /// What is told beside the figures.
+    pub fn beside(&self) -> &Beside {
+        &self.beside
+    }
+
+    /// Adds the conditions of others behind.
+    fn append(&mut self, behind: &Series, frames: &Frames) -> Result<(), AllocError>
+        ensures { OnOk result (self.new ≡ self.old ++ behind.now) }
+    {
+        self.plotted.extend_from_slice(&behind.plotted)?;
+        self.beside.append(&behind.beside, frames)
+    }
+}
+
+impl Beside {
+    /// No condition.
+    pub(crate) fn new(alloc: Global) -> Beside {
+        Beside {
+            least_gm: Vec::new(alloc),
+            shares: Vec::new(alloc),
+            reaches: Reaches::default(),
+            arrival: None,
+        }
+    }
+
+    /// Adds what is told of others behind.
+    fn append(&mut self, behind: &Beside, frames: &Frames) -> Result<(), AllocError> {
+        self.least_gm.extend_from_slice(&behind.least_gm)?;
+        self.shares.extend_from_slice(&behind.shares)?;
+        self.reaches.join(&behind.reaches, frames);
+        if self.arrival.is_none() {
+            self.arrival = behind.arrival;
+        }
+        Ok(())
+    }
+}
+
+/// The figures of each chunk of lines, as a job for workers.
+#[derive(Drop)]
+struct Plotting<'a> {
+    lines: &'a Lines<'a>,
+}
+
+impl<'a> Job for Plotting<'a> {
+    ghost use Rattle.std.specs.Prelude.{length, map};
+    ghost use Rattle.port_call.specs.Views.{case_in_view};
+    ghost use Rattle.running_sums.specs.Lines.{chunk_of};
+    ghost use Rattle.view_page.specs.Series.{plotted_in};
+
+    type Out = Series;
+
+    ghost value = { λ s k. map (plotted_in (case_in_view s.lines.now.case))
+        (chunk_of s.lines.now.cuts.now k) };
+
+    ghost pieces = { λ s. length s.lines.now.cuts.now };
+
+    fn piece(&self, alloc: Global, k: u32) -> Result<Series, AllocError> {
+        let lines = self.lines;
+        series_in_chunk(alloc, lines.case, &lines.hull, &lines.chunk(k))
+    }
+}
+
+/// The figures that are drawn of each condition of a case: workers judge them chunk by chunk, and
+/// what they make is joined in the order of the chunks.
+pub fn series_of<G: Gate, R: Threads + Wait + Sync>(
+    rt: &R,
+    alloc: Global,
+    gate: &G,
+    workers: Workers,
+    lines: &Lines<'_>,
+) -> Result<Series, AllocError>
+    ensures { IfOk result (λ s. s ≡ all_plotted (case_in_view lines.now.case)) }
+{
+    let parts = run(
+        rt,
+        alloc,
+        gate,
+        workers,
+        lines.chunks(),
+        &Plotting { lines: &*lines },
+    )?;
+    let mut all = Series::new(alloc);
+    for part in &parts {
+        all.append(part, lines.case.profile.frames())?;
+    }
+    Ok(all)
+}
+
+/// A figure of each condition, none where it has none.
+pub fn curve_of(
+    alloc: Global,
+    series: &Series,
+    figure: Figure,
+) -> Result<Vec<Option<i128>>, AllocError> {
+    let mut curve = Vec::with_capacity(alloc, series.plotted().len())?;
+    for plotted in series.plotted() {
+        curve.push(match plotted {
+            Some(plotted) => plotted.figure(figure),
+            None => None,
+        })?;
+    }
+    Ok(curve)
+}
