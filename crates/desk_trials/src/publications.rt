@@ -1,4 +1,4 @@
-//! A thousand lists at one desk.
+//! Two thousand lists at one desk.
 ghost use Rattle.what_if.specs.Desks.{IsOf};
 
 use crate::findings::holds;
@@ -118,7 +118,7 @@ fn only_given_are_found<W: Write>(
     right
 }
 
-/// Eight threads publish 125 lists each. Whether each of them is found and opened, and nothing else
+/// Eight threads publish 260 lists each. Whether each of them is found and opened, and nothing else
 /// is found.
 pub fn try_publications<R: AllocGlobal + Threads + Wait + Sync, W: Write>(
     rt: &R,

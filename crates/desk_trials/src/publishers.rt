@@ -12,8 +12,11 @@ use what_if::{Desk, Edit, Session, Ticket};
 /// How many threads publish.
 pub const THREADS: u32 = 8;
 
-/// How many lists each of them publishes.
-pub const EACH: u32 = 125;
+/// How many lists each of them publishes. A desk keeps its lists in parts that it makes one after
+/// another: of 32 lists, of 64 and so on, each of twice as many as the one before, so that the
+/// first six hold 2,016. All threads together publish so many more than these that the seventh is
+/// made.
+pub const EACH: u32 = 260;
 
 /// The weight of the first container in the first list that is published. Each other list has
 /// another weight.

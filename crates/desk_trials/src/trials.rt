@@ -58,7 +58,7 @@ fn session_with(
     }
 }
 
-/// A thousand lists at a desk, to which the first list is published here.
+/// Two thousand lists at a desk, to which the first list is published here.
 fn publications<R: AllocGlobal + Threads + Wait + Sync, W: Write>(
     rt: &R,
     out: &mut W,

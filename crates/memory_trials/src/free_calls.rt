@@ -1,19 +1,16 @@
-//! Calls that ask for no memory: the first growth is refused while they are made, and none is.
+//! Calls that ask for no memory: the first growth is refused while they are made, and none is. Here
+//! are those of sessions, desks, boards and scans.
 ghost use Rattle.std.specs.Prelude.{◌≡◌};
 ghost use Rattle.what_if.specs.Desks.{IsOf};
 
 use crate::sessions::reweigh;
-use crate::texts::TWO_LOADS;
 use crate::trials::Told;
 use crate::watch::{refuse, was_refused};
-use arrayvec::ArrayVec;
 use claim_board::{Event, World};
-use claim_run::{Board, Open, Workers};
+use claim_run::{Board, Gate, Open, Workers};
 use criteria::Verdict;
-use edifact_text::{Kind, open};
 use parallel_tests::three_chunks;
-use prefix_scan::{Cuts, Last, Prefixes, Running, TotalsTree, fold};
-use seq_report::{Sink, Through};
+use prefix_scan::{Cuts, Flat, Last, Monoid, Prefixes, Running, TotalsTree, fold};
 use std::alloc::{AllocError, Global};
 use what_if::{Desk, Session, Ticket};
 
@@ -32,12 +29,22 @@ impl<'a> Readers<'a> {
         right &= matches!(self.session.judge(2), Some(Verdict::Passes(_)));
         right &= self.session.judge(3).is_none();
         right &= self.session.first_fail().is_none();
+        right &= self.session.case().lines() == 3;
         right &= self.session.base().same(self.session.base());
         right &= reweigh(self.session, 1, 65) && self.session.undo() == Ok(true);
         right &= self.ticket.place() == 0;
         right &= matches!(self.desk.find(0), Some(ticket) if ticket.place() == 0);
         if right { Told::Right } else { Told::Wrong }
     }
+}
+
+/// Numbers of workers, and the gate that holds none.
+fn workers_are_free(alloc: Global) -> bool {
+    refuse(alloc, 0, 1);
+    let two = matches!(Workers::new(2), Some(two) if two.get() == 2);
+    let none = Workers::new(17).is_none();
+    Open.pass(0, 0);
+    !was_refused(alloc) && two && none
 }
 
 /// The turns of two hands on one thread.
@@ -63,6 +70,36 @@ fn board_is_free(alloc: Global) -> Result<bool, AllocError> {
     Ok(free && next == 4 && least == Some(3))
 }
 
+/// The events of a worker that finds a step in the first of two chunks, skips the second and stops.
+static TO_ITS_END: [Event; 9] = [
+    Event::Draw(0),
+    Event::Look(0),
+    Event::Work(0),
+    Event::Post(0),
+    Event::Draw(0),
+    Event::Look(0),
+    Event::Skip(0),
+    Event::Draw(0),
+    Event::Stop(0),
+];
+
+/// Those of one that is refused.
+static REFUSED: [Event; 2] = [Event::Draw(0), Event::Refuse(0)];
+
+/// Whether all of these events happen, and no memory is asked for; and how many numbers are drawn
+/// then, and how many entries there are.
+fn events_are_free(alloc: Global, events: &[Event], numbers: u32) -> Result<bool, AllocError> {
+    let mut world = World::new(alloc, 1, &[0, 5], &[Some(3), None])?;
+    refuse(alloc, 0, 1);
+    let mut enabled = true;
+    for event in events {
+        enabled &= world.apply(*event);
+    }
+    let drawn = world.next() == numbers && world.entries(0).len() == numbers as usize;
+    let free = !was_refused(alloc);
+    Ok(free && enabled && drawn)
+}
+
 /// The events of a board without threads.
 fn world_is_free(alloc: Global) -> Result<bool, AllocError> {
     let mut world = World::new(alloc, 1, &[0, 5], &[Some(3), None])?;
@@ -73,7 +110,8 @@ fn world_is_free(alloc: Global) -> Result<bool, AllocError> {
     enabled &= world.apply(Event::Post(0));
     let read = world.next() == 1 && world.least() == Some(3) && world.entries(0).len() == 1;
     let free = !was_refused(alloc);
-    Ok(free && enabled && read)
+    let ends = events_are_free(alloc, &TO_ITS_END, 3)?;
+    Ok(free && enabled && read && ends && events_are_free(alloc, &REFUSED, 1)?)
 }
 
 /// The value that running joins begin with, and the one that takes a place.
@@ -103,52 +141,56 @@ static VALUES: [Last; 3] = [
     },
 ];
 
-/// Folds, running joins and a tree over three values, and the readers of cuts.
-fn scans_are_free(alloc: Global) -> Result<bool, AllocError> {
+/// Folds and running joins of three values, and joins of two.
+fn folds_are_free(alloc: Global) -> bool {
+    refuse(alloc, 0, 1);
+    let whole = fold(&VALUES);
+    let first = Running::new(SEVEN, &VALUES).next();
+    let both = SEVEN.join(&FIVE);
+    let none = Last::unit();
+    !was_refused(alloc)
+        && whole.value == Some(3)
+        && matches!(first, Some(Last { value: Some(1), .. }))
+        && both.value == Some(5)
+        && both.size() == 2
+        && none.parts == 0
+}
+
+/// A tree over three values, of which the second is replaced.
+fn tree_is_free(alloc: Global) -> Result<bool, AllocError> {
     let mut tree = TotalsTree::build(alloc, &VALUES)?;
+    refuse(alloc, 0, 1);
+    let length = tree.len();
+    tree.set(1, FIVE);
+    let so_far = tree.prefix(2);
+    let joins = tree.joins();
+    let same = tree.peek(2);
+    let free = !was_refused(alloc);
+    Ok(free && length == 3 && so_far.value == Some(5) && joins > 0 && same.value == Some(5))
+}
+
+/// The prefixes of three values, all of which are kept, and chunks of two.
+fn lists_are_free(alloc: Global) -> Result<bool, AllocError> {
+    let flat = Flat::build(alloc, &VALUES)?;
     let Ok(cuts) = Cuts::every(alloc, 2, 3) else {
         return Err(AllocError);
     };
     refuse(alloc, 0, 1);
-    let whole = fold(&VALUES);
-    let mut running = Running::new(SEVEN, &VALUES);
-    let first = running.next();
-    tree.set(1, FIVE);
-    let so_far = tree.prefix(2);
-    let chunks = cuts.chunks();
+    let so_far = flat.prefix(3);
+    let length = flat.len();
+    let last = cuts.range(cuts.chunks() - 1);
     let free = !was_refused(alloc);
-    Ok(
-        free && whole.value == Some(3)
-            && matches!(first, Some(Last { value: Some(1), .. }))
-            && so_far.value == Some(5)
-            && chunks == 2,
-    )
-}
-
-/// The segments of a message, and a sink over an array.
-fn texts_are_free(alloc: Global) -> bool {
-    refuse(alloc, 0, 1);
-    let Ok(message) = open(TWO_LOADS, Kind::Movins) else {
-        return false;
-    };
-    let mut literal: ArrayVec<u8, 35> = ArrayVec::new();
-    let mut count = 0u32;
-    for segment in message.segments() {
-        if segment.component(2, 0).literal_into(&mut literal) {
-            count = count.saturating_add(1);
-        }
-    }
-    let mut room = [0u8; 8];
-    let put = Through::new(room.as_mut_slice()).put(b"STEP");
-    !was_refused(alloc) && count == 8 && put == Ok(4)
+    Ok(free && so_far.value == Some(3) && length == 3 && last.start == 2 && last.end == 3)
 }
 
 /// Whether none of them asks for memory.
 pub fn are_free(alloc: Global) -> Result<bool, AllocError> {
     Ok(
-        board_is_free(alloc)?
+        workers_are_free(alloc)
+            && board_is_free(alloc)?
             && world_is_free(alloc)?
-            && scans_are_free(alloc)?
-            && texts_are_free(alloc),
+            && folds_are_free(alloc)
+            && tree_is_free(alloc)?
+            && lists_are_free(alloc)?,
     )
 }

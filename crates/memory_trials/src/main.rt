@@ -5,7 +5,14 @@
 #![tactic(auto)]
 
 mod desks;
+mod edit_rows;
+mod edits;
 mod free_calls;
+mod free_figures;
+mod free_numbers;
+mod free_ships;
+mod free_texts;
+mod notes;
 mod reports;
 mod rows;
 mod sessions;

@@ -1,16 +1,18 @@
-//! Reports, first failing steps and runs of which growths are refused.
+//! Reports, also of a session, first failing steps and runs of which growths are refused.
 use crate::texts::NO_STEPS;
 use crate::trials::Told;
 use box_ship::EMPTY_PLAN;
 use claim_run::{Gate, Open, Workers, run_least};
+use lift_sequence::Op;
 use parallel_tests::three_chunks;
-use seq_report::{CutPlan, Inputs, Options, RunFault, Through, first_fail, report};
+use seq_report::{CutPlan, Inputs, Options, RunFault, Summary, Through, first_fail, report};
 use ship_profile::ProfileBytes;
 use std::sync::Wait;
 use std::sync::atomic::AtomicU64;
 use std::sync::atomic::Ordering::SeqCst;
 use std::thread;
 use std::thread::Threads;
+use what_if::Session;
 
 /// How often a worker looks at most whether the others have a chunk too.
 const TURNS: u32 = 20_000;
@@ -48,6 +50,32 @@ fn options() -> Options<'static> {
     }
 }
 
+/// The gate of one call, which no worker has passed.
+fn gate_of_call() -> Together {
+    Together {
+        drawn: AtomicU64::new(0),
+    }
+}
+
+/// Whether nothing was written into an array that was all zero.
+fn is_empty(room: &[u8]) -> bool {
+    for byte in room {
+        if *byte != 0 {
+            return false;
+        }
+    }
+    true
+}
+
+/// How a report was answered that was to be written into such an array, and begins with this text.
+fn told_of(outcome: Result<Summary, RunFault>, room: &[u8], text: &[u8]) -> Told {
+    match outcome {
+        Ok(_) if room.starts_with(text) => Told::Right,
+        Err(RunFault::NoMemory) if is_empty(room) => Told::Short,
+        _ => Told::Wrong,
+    }
+}
+
 /// The report on some steps of a ship with nothing aboard, into an array.
 #[derive(Drop)]
 pub struct Report<'a> {
@@ -74,35 +102,52 @@ impl<'a> Report<'a> {
 
     /// Makes the report.
     pub fn call<R: AllocGlobal + Threads + Wait + Sync>(&self, rt: &R) -> Told {
-        let gate = Together {
-            drawn: AtomicU64::new(0),
-        };
         let mut room = [0u8; 2048];
         let outcome = report(
             rt,
             rt.alloc(),
-            &gate,
+            &gate_of_call(),
             &self.inputs(),
             &options(),
             &mut Through::new(room.as_mut_slice()),
         );
-        match outcome {
-            Ok(_) if room.as_slice().starts_with(self.text) => Told::Right,
-            Err(RunFault::NoMemory) if room[0] == 0 => Told::Short,
-            _ => Told::Wrong,
-        }
+        told_of(outcome, room.as_slice(), self.text)
     }
 
     /// Looks for its first failing step, of which there is none.
     pub fn first<R: AllocGlobal + Threads + Wait + Sync>(&self, rt: &R) -> Told {
-        let gate = Together {
-            drawn: AtomicU64::new(0),
-        };
-        match first_fail(rt, rt.alloc(), &gate, &self.inputs(), &options()) {
+        match first_fail(rt, rt.alloc(), &gate_of_call(), &self.inputs(), &options()) {
             Ok(None) => Told::Right,
             Err(RunFault::NoMemory) => Told::Short,
             _ => Told::Wrong,
         }
+    }
+}
+
+/// The report of a session on its list, into an array.
+#[derive(Drop)]
+pub struct SessionReport<'a> {
+    pub session: &'a Session,
+    pub list: &'a [Op],
+    pub text: &'a [u8],
+}
+
+impl<'a> SessionReport<'a> {
+    /// Makes the report.
+    pub fn call<R: AllocGlobal + Threads + Wait + Sync>(&self, rt: &R) -> Told {
+        let mut room = [0u8; 2048];
+        let outcome = self.session.report(
+            rt,
+            &gate_of_call(),
+            &options(),
+            &mut Through::new(room.as_mut_slice()),
+        );
+        told_of(outcome, room.as_slice(), self.text)
+    }
+
+    /// Whether the session has its list.
+    pub fn stands(&self) -> bool {
+        self.session.lifts() == self.list
     }
 }
 

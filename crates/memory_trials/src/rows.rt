@@ -3,16 +3,21 @@ ghost use Rattle.std.specs.Prelude.{◌≡◌, IfOk};
 ghost use Rattle.what_if.specs.Desks.{IsOf};
 
 use crate::desks::Publishing;
+use crate::edit_rows::{long_lists, short_lists, swaps, undos};
+use crate::edits::{Kind, edit_of};
 use crate::free_calls::{Readers, are_free};
-use crate::reports::Report;
-use crate::sessions::{
-    Editing, Kind, LONG, Reading, edit_of, inputs, list_of, with_fillings, with_long_list,
-};
+use crate::free_figures::figures_are_free;
+use crate::free_numbers::numbers_are_free;
+use crate::free_ships::ships_are_free;
+use crate::free_texts::texts_are_free;
+use crate::notes::{is_free, note_caught, note_free, try_with};
+use crate::reports::{Report, SessionReport};
+use crate::sessions::{LONG, Reading, inputs, list_of, with_long_list};
 use crate::texts::{
     FILLED_LINES, NO_STEPS, RESTOW, RESTOW_LINES, TWO_LINES, TWO_LOADS, fill_text, long_steps,
 };
 use crate::trials::Trial;
-use crate::watch::{Tally, watch};
+use crate::watch::watch;
 use crate::wrong_bodies::LeavesHalf;
 use box_ship::{LOAD_TO_STARBOARD, NO_MOVES, files};
 use lift_sequence::Op;
@@ -23,52 +28,6 @@ use std::io::Write;
 use std::sync::{Arc, Wait};
 use std::thread::Threads;
 use what_if::{Desk, Session, Ticket};
-
-/// Says how many growths of a row were refused. Whether nothing was wrong.
-fn note<W: Write>(out: &mut W, name: &str, tally: Tally) -> bool {
-    let refused = tally.refused;
-    let said = writeln!(out, "{name}: {refused} growths refused").is_ok();
-    if tally.wrong > 0 {
-        let _ = writeln!(out, "{name}: WRONG at the last of them");
-    }
-    said && tally.wrong == 0
-}
-
-/// Whether nothing was asked for, and all was right.
-fn is_free(tally: Tally) -> bool {
-    tally.refused == 0 && tally.wrong == 0
-}
-
-/// The same of a row that asks for none.
-fn note_free<W: Write>(out: &mut W, name: &str, free: bool) -> bool {
-    let said = if free {
-        "asks for none"
-    } else {
-        "WRONG: it asks for memory"
-    };
-    writeln!(out, "{name}: {said}").is_ok() && free
-}
-
-/// The same of a wrong body, which has to be caught where a growth was refused.
-fn note_caught<W: Write>(out: &mut W, name: &str, tally: Tally) -> bool {
-    let caught = tally.wrong > 0 || tally.refused == 0;
-    let said = if caught {
-        "would be caught"
-    } else {
-        "NOT CAUGHT"
-    };
-    writeln!(out, "{name}: {said}").is_ok() && caught
-}
-
-/// Tries a call, and says how many of its growths were refused.
-fn try_with<R: AllocGlobal + Threads + Wait + Sync, W: Write>(
-    rt: &R,
-    out: &mut W,
-    name: &str,
-    mut trial: Trial<'_>,
-) -> bool {
-    note(out, name, watch(rt, &mut trial))
-}
 
 /// The report on two loads.
 fn two_loads() -> Report<'static> {
@@ -122,97 +81,6 @@ fn reports<R: AllocGlobal + Threads + Wait + Sync, W: Write>(
     );
     right &= try_with(rt, out, "early_stop", Trial::EarlyStop);
     Ok(right)
-}
-
-/// An edit.
-fn try_apply<'a, R: AllocGlobal + Threads + Wait + Sync, W: Write>(
-    rt: &R,
-    out: &mut W,
-    session: &'a mut Session,
-    kind: Kind,
-    before: &'a [Op],
-    after: &'a [Op],
-) -> bool {
-    let editing = Editing {
-        session,
-        kind,
-        before,
-        after,
-    };
-    try_with(rt, out, "session_edits, apply", Trial::Apply(editing))
-}
-
-/// The same taken back.
-fn try_undo<'a, R: AllocGlobal + Threads + Wait + Sync, W: Write>(
-    rt: &R,
-    out: &mut W,
-    session: &'a mut Session,
-    kind: Kind,
-    before: &'a [Op],
-    after: &'a [Op],
-) -> bool {
-    let editing = Editing {
-        session,
-        kind,
-        before,
-        after,
-    };
-    try_with(rt, out, "session_edits, undo", Trial::Undo(editing))
-}
-
-/// Both.
-fn edits_by<R: AllocGlobal + Threads + Wait + Sync, W: Write>(
-    rt: &R,
-    out: &mut W,
-    session: &mut Session,
-    kind: Kind,
-    before: &[Op],
-    after: &[Op],
-) -> bool {
-    let right = try_apply(rt, out, session, kind, before, after);
-    let made = session.apply(edit_of(kind)).is_ok();
-    let taken = try_undo(rt, out, session, kind, before, after);
-    right && made && taken && session.undo() == Ok(true)
-}
-
-/// The same of a session on a list, with the lists before and after the edit.
-fn edits<R: AllocGlobal + Threads + Wait + Sync, W: Write>(
-    rt: &R,
-    out: &mut W,
-    session: &mut Session,
-    kind: Kind,
-) -> Result<bool, RunFault> {
-    let before = list_of(rt.alloc(), session)?;
-    let done = session.apply(edit_of(kind)).is_ok();
-    let after = list_of(rt.alloc(), session)?;
-    let back = session.undo() == Ok(true);
-    Ok(done && back && edits_by(rt, out, session, kind, &before, &after))
-}
-
-/// A call of a session that asks for none.
-fn undos<R: AllocGlobal + Threads + Wait + Sync, W: Write>(
-    rt: &R,
-    out: &mut W,
-    session: &mut Session,
-) -> bool {
-    let free = is_free(watch(rt, &mut Trial::SixtyFourUndos(session)));
-    note_free(out, "sixty_four_undos", free)
-}
-
-/// Exchanges of independent steps, for which there is a third.
-fn swaps<R: AllocGlobal + Threads + Wait + Sync, W: Write>(
-    rt: &R,
-    out: &mut W,
-    session: &mut Session,
-) -> bool {
-    let inserted = session.apply(edit_of(Kind::Insert)).is_ok();
-    let free = is_free(watch(rt, &mut Trial::Swaps(session)));
-    let back = session.undo() == Ok(true);
-    note_free(
-        out,
-        "exchanges of independent steps",
-        inserted && back && free,
-    )
 }
 
 /// A session that is read.
@@ -271,33 +139,30 @@ fn long_sessions<R: AllocGlobal + Threads + Wait + Sync, W: Write>(
     }
 }
 
-/// Searches and edits of a long list, and an edit that makes a list so long that room is asked for
-/// what searches keep of it.
-fn long_lists<R: AllocGlobal + Threads + Wait + Sync, W: Write>(
+/// The report of a session that has the steps of two loads.
+fn session_report<R: AllocGlobal + Threads + Wait + Sync, W: Write>(
     rt: &R,
     out: &mut W,
     session: &Session,
 ) -> Result<bool, RunFault> {
-    let mut long = with_long_list(rt.alloc(), session, LONG)?;
-    let free = is_free(watch(rt, &mut Trial::Searches(&mut long)));
-    let mut right = note_free(out, "searches of a long list", free);
-    right &= edits(rt, out, &mut long, Kind::Insert)?;
-    right &= edits(rt, out, &mut long, Kind::Remove)?;
-    let mut shorter = with_long_list(rt.alloc(), session, LONG - 1)?;
-    Ok(right & edits(rt, out, &mut shorter, Kind::Lengthen)?)
+    let list = list_of(rt.alloc(), session)?;
+    let report = Trial::SessionReport(SessionReport {
+        session,
+        list: &list,
+        text: TWO_LINES,
+    });
+    Ok(try_with(rt, out, "session_edits, report", report))
 }
 
-/// Edits of a session.
+/// Sessions, their reports and edits.
 fn sessions<R: AllocGlobal + Threads + Wait + Sync, W: Write>(
     rt: &R,
     out: &mut W,
     session: &mut Session,
 ) -> Result<bool, RunFault> {
     let mut right = reads(rt, out, "session_edits, read", inputs(), 2);
-    right &= edits(rt, out, session, Kind::Remove)?;
-    let mut longer = with_fillings(rt.alloc(), session)?;
-    right &= edits(rt, out, &mut longer, Kind::Move)?;
-    right &= edits(rt, out, &mut longer, Kind::MoveFilling)?;
+    right &= session_report(rt, out, session)?;
+    right &= short_lists(rt, out, session)?;
     right &= long_lists(rt, out, session)?;
     right &= long_sessions(rt, out, session)?;
     right &= undos(rt, out, session);
@@ -441,6 +306,26 @@ fn wrong<R: AllocGlobal + Threads + Wait + Sync, W: Write>(rt: &R, out: &mut W) 
     right & note_caught(out, "a body that leaves half of an edit", half)
 }
 
+/// Calls that ask for none.
+fn free_calls<W: Write>(alloc: Global, out: &mut W, session: &Session) -> Result<bool, RunFault> {
+    let figures = figures_are_free(alloc, session.base());
+    let right = note_free(out, "figures of a condition", figures);
+    let rows = [
+        ("boards and scans", are_free(alloc)),
+        ("numbers, cells and bodies", numbers_are_free(alloc)),
+        ("messages, copies and sinks", texts_are_free(alloc)),
+        ("ships and steps", ships_are_free(alloc)),
+    ];
+    let mut all = right;
+    for (name, free) in rows {
+        match free {
+            Ok(free) => all &= note_free(out, name, free),
+            Err(_) => return Err(RunFault::NoMemory),
+        }
+    }
+    Ok(all)
+}
+
 /// All rows. Whether nothing was wrong.
 pub fn all<R: AllocGlobal + Threads + Wait + Sync, W: Write>(
     rt: &R,
@@ -450,10 +335,7 @@ pub fn all<R: AllocGlobal + Threads + Wait + Sync, W: Write>(
     let mut session = Session::read(rt.alloc(), &inputs())?;
     right &= sessions(rt, out, &mut session)?;
     right &= desks(rt, out, &mut session)?;
-    match are_free(rt.alloc()) {
-        Ok(free) => right &= note_free(out, "boards, scans and texts", free),
-        Err(_) => return Err(RunFault::NoMemory),
-    }
+    right &= free_calls(rt.alloc(), out, &session)?;
     right &= wrong(rt, out);
     Ok(right)
 }

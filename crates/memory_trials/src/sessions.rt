@@ -1,4 +1,4 @@
-//! Edits of a session, and edits that are taken back, of which growths are refused.
+//! Sessions that are read, made and searched while growths are refused, and their lists.
 use crate::texts::TWO_LOADS;
 use crate::trials::Told;
 use arrayvec::ArrayVec;
@@ -7,7 +7,7 @@ use lift_sequence::{Op, SeqCode};
 use seq_report::{Inputs, RunFault};
 use std::alloc::{AllocError, Global};
 use std::sync::Arc;
-use step_edits::{Edit, EditFault, copies};
+use step_edits::{Edit, copies};
 use units_core::Kg;
 use what_if::Session;
 
@@ -37,28 +37,15 @@ pub fn read(alloc: Global, reading: &Reading<'_>) -> Told {
     }
 }
 
-/// Which edit is made: of a list of two loads, or of the same with two fillings of one tank.
-#[derive(Clone, Copy)]
-pub enum Kind {
-    Remove,
-    /// A load is moved past the other, of which it is independent.
-    Move,
-    Insert,
-    /// A filling is moved past that of the same tank.
-    MoveFilling,
-    /// A filling is put into a list that is one step too short for searches to keep anything.
-    Lengthen,
-}
-
 /// The tank is filled.
-fn filling(kg: u32) -> Op {
+pub fn filling(kg: u32) -> Op {
     let mut name = ArrayVec::new();
     let _ = name.try_extend_from_slice(b"DB1".as_slice());
     Op::Fill { name, kg }
 }
 
 /// A session on a list, from the base of another.
-fn session_on(alloc: Global, other: &Session, list: Vec<Op>) -> Result<Session, RunFault> {
+pub fn session_on(alloc: Global, other: &Session, list: Vec<Op>) -> Result<Session, RunFault> {
     let Ok(base) = Arc::try_clone(other.base()) else {
         return Err(RunFault::NoMemory);
     };
@@ -128,89 +115,6 @@ pub fn searches(session: &mut Session) -> Told {
     right &= session.undo() == Ok(true);
     right &= session.first_fail().is_none();
     if right { Told::Right } else { Told::Wrong }
-}
-
-/// The edit.
-pub fn edit_of(kind: Kind) -> Edit {
-    match kind {
-        Kind::Remove => Edit::Remove { at: 2 },
-        Kind::Move => Edit::Move { from: 1, to: 2 },
-        Kind::Insert | Kind::Lengthen => Edit::Insert {
-            at: 2,
-            lift: filling(500_000),
-        },
-        Kind::MoveFilling => Edit::Move { from: 3, to: 4 },
-    }
-}
-
-/// An edit of a session that has nothing to take back, and the lists before and after it.
-#[derive(Drop)]
-pub struct Editing<'a> {
-    pub session: &'a mut Session,
-    pub kind: Kind,
-    pub before: &'a [Op],
-    pub after: &'a [Op],
-}
-
-impl<'a> Editing<'a> {
-    fn has(&self, list: &[Op]) -> bool {
-        self.session.lifts() == list
-    }
-
-    /// Makes the edit.
-    pub fn apply(&mut self) -> Told {
-        match self.session.apply(edit_of(self.kind)) {
-            Ok(()) => Told::Right,
-            Err(EditFault::NoMemory) => Told::Short,
-            Err(_) => Told::Wrong,
-        }
-    }
-
-    /// Whether the list is the one before the edit.
-    pub fn is_before(&self) -> bool {
-        self.has(self.before)
-    }
-
-    /// Whether it is the one after it.
-    pub fn is_after(&self) -> bool {
-        self.has(self.after)
-    }
-
-    /// Whether the edit was made, and nothing else was kept to be taken back. It is taken back
-    /// then.
-    pub fn is_edited(&mut self) -> bool {
-        let edited = self.is_after();
-        let back = self.session.undo() == Ok(true) && self.session.undo() == Ok(false);
-        edited && back && self.gives_back() && self.is_before()
-    }
-
-    /// Gives back the room that an edit got for what searches keep, so that it asks for it the next
-    /// time too: a shorter list needs none, and an undo leaves it so.
-    fn gives_back(&mut self) -> bool {
-        match self.kind {
-            Kind::Lengthen => {
-                let shortened = self.session.apply(edit_of(Kind::Remove)).is_ok();
-                shortened && self.session.undo() == Ok(true)
-            }
-            _ => true,
-        }
-    }
-
-    /// Takes the edit back.
-    pub fn undo(&mut self) -> Told {
-        match self.session.undo() {
-            Ok(true) => Told::Right,
-            Ok(false) => Told::Wrong,
-            Err(_) => Told::Short,
-        }
-    }
-
-    /// Whether it was taken back, and nothing is left to be. It is made again then.
-    pub fn is_taken_back(&mut self) -> bool {
-        let back = self.is_before() && self.session.undo() == Ok(false);
-        let again = self.session.apply(edit_of(self.kind)).is_ok();
-        back && again && self.is_after()
-    }
 }
 
 /// Gives the load at a step another weight.

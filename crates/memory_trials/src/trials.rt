@@ -1,9 +1,10 @@
 //! Calls that are tried while growths are refused. They are the cases of an enum, since what a
 //! thread is sent isn't known in a method of a trait.
 use crate::desks::Publishing;
+use crate::edits::Editing;
 use crate::free_calls::Readers;
-use crate::reports::{Report, stop_early};
-use crate::sessions::{Editing, Reading, make_long, read, searches, sixty_four_undos, swaps};
+use crate::reports::{Report, SessionReport, stop_early};
+use crate::sessions::{Reading, make_long, read, searches, sixty_four_undos, swaps};
 use crate::wrong_bodies::{LeavesHalf, retry, swallow};
 use std::alloc::Global;
 use std::sync::Wait;
@@ -26,6 +27,7 @@ pub enum Told {
 pub enum Trial<'a> {
     Report(Report<'a>),
     First(Report<'a>),
+    SessionReport(SessionReport<'a>),
     EarlyStop,
     Read(Reading<'a>),
     MakeLong(&'a Session),
@@ -48,6 +50,7 @@ impl<'a> Trial<'a> {
         match self {
             Trial::Report(of) => of.call(rt),
             Trial::First(of) => of.first(rt),
+            Trial::SessionReport(of) => of.call(rt),
             Trial::EarlyStop => stop_early(rt),
             Trial::Read(of) => read(rt.alloc(), of),
             Trial::MakeLong(other) => make_long(rt.alloc(), other),
@@ -65,21 +68,30 @@ impl<'a> Trial<'a> {
         }
     }
 
-    /// Whether all that can be seen is as it was before a call that ran out of memory.
-    pub fn is_as_before(&self) -> bool {
+    /// Whether what a call only reads is as it was.
+    fn stands(&self) -> bool {
         match self {
-            Trial::Apply(of) => of.is_before(),
-            Trial::Undo(of) => of.is_after(),
+            Trial::SessionReport(of) => of.stands(),
             Trial::Publish(of) | Trial::Open(of) => of.stand(),
-            Trial::LeaveHalf(of) => of.is_empty(),
             _ => true,
+        }
+    }
+
+    /// Whether all that can be seen is as it was before a call that ran out of memory.
+    pub fn is_as_before(&mut self) -> bool {
+        let stands = self.stands();
+        match self {
+            Trial::Apply(of) => of.is_not_made(),
+            Trial::Undo(of) => of.is_after(),
+            Trial::LeaveHalf(of) => of.is_empty(),
+            _ => stands,
         }
     }
 
     /// Whether all that can be seen is as it should be after the call. It then leads back to where
     /// the call can be made again.
     pub fn is_done(&mut self, alloc: Global) -> bool {
-        let stands = self.is_as_before();
+        let stands = self.stands();
         match self {
             Trial::Apply(of) => of.is_edited(),
             Trial::Undo(of) => of.is_taken_back(),

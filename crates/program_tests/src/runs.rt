@@ -134,7 +134,7 @@ impl<'a> Readers for Memory<'a> {
     }
 }
 
-/// A writer that takes no byte.
+/// A writer that takes no byte, and can't be flushed.
 #[derive(Drop)]
 struct Full;
 
@@ -144,7 +144,7 @@ impl Write for Full {
     }
 
     fn flush(&mut self) -> io::Result<()> {
-        Ok(())
+        Err(io::Error::from(ErrorKind::PermissionDenied))
     }
 }
 
@@ -495,7 +495,8 @@ fn failing_outputs(rt: HostRuntime) {
     holds(&rt, out.is_empty());
 }
 
-/// A writer that takes `left` bytes, `most` of them a call, and then fails.
+/// A writer that takes `left` bytes, `most` of them a call, and then fails. It always fails where
+/// it is flushed: the program writes all without, and leaves it to whoever owns the writer.
 #[derive(Drop)]
 struct Failing {
     taken: Vec<u8>,
@@ -515,7 +516,7 @@ impl Write for Failing {
     }
 
     fn flush(&mut self) -> io::Result<()> {
-        Ok(())
+        Err(io::Error::from(ErrorKind::PermissionDenied))
     }
 }
 
@@ -555,7 +556,8 @@ static WRITTEN: [(&[&str], &str); 3] = [
 ];
 
 // An output that fails behind any number of bytes, whether it takes one a call or all that it is
-// given: what it took is the front of the text.
+// given: what it took is the front of the text, and all of it where it takes so many, though it
+// can't be flushed.
 #[test]
 fn outputs_that_fail_later(rt: HostRuntime) {
     for (words, text) in &WRITTEN {

@@ -1,8 +1,9 @@
 // That the gate is called: once for each chunk that a worker takes, before its look and its work,
-// by as many workers as asked for.
+// by as many workers as asked for, whether the chunk is worked or skipped.
 use crate::checks::holds;
+use crate::chunks::three_chunks;
 use crate::notes::{Notes, notes_of};
-use crate::runs::waits::Squares;
+use crate::runs::waits::{HoldsUntil, Squares, holds_until};
 use claim_run::{FindsNothing, Gate, Job, Scout, Workers, run, run_least};
 use std::alloc::{AllocError, Global};
 use std::sync::atomic::Ordering::SeqCst;
@@ -98,6 +99,14 @@ struct Sums {
     numbers: AtomicU64,
 }
 
+/// One that wasn't called yet.
+fn no_sums() -> Sums {
+    Sums {
+        passed: AtomicU64::new(0),
+        numbers: AtomicU64::new(0),
+    }
+}
+
 impl Sums {
     /// Whether the gate was called so often, and the numbers of the chunks are so many together.
     fn are(&self, passed: u64, numbers: u64) -> bool {
@@ -119,13 +128,57 @@ fn calls_for_many_chunks(rt: HostRuntime) -> Result<(), Fail> {
     let Some(workers) = Workers::new(3) else {
         unreachable!()
     };
-    let gate = Sums {
-        passed: AtomicU64::new(0),
-        numbers: AtomicU64::new(0),
-    };
+    let gate = no_sums();
     run(&rt, rt.alloc(), &gate, workers, 70_000, &Squares)?;
     holds(&rt, gate.are(70_000, 2_449_965_000));
     let least = run_least(&rt, rt.alloc(), &gate, workers, 70_000, &FindsNothing)?;
     holds(&rt, least.is_none() && gate.are(140_000, 4_899_930_000));
+    Ok(())
+}
+
+/// A gate that counts its calls so, and holds a chunk until another has passed.
+#[derive(Drop)]
+struct SumsAndHolds {
+    sums: Sums,
+    holds: HoldsUntil,
+}
+
+impl Gate for SumsAndHolds {
+    fn pass(&self, worker: u8, chunk: u32) {
+        self.sums.pass(worker, chunk);
+        self.holds.pass(worker, chunk);
+    }
+}
+
+// One worker finds step 3 in the first chunk, and so skips both others. The gate was called once
+// for each of the three, whose numbers are 3 together.
+#[test]
+fn calls_for_skipped_chunks(rt: HostRuntime) -> Result<(), Fail> {
+    let Some(one) = Workers::new(1) else {
+        unreachable!()
+    };
+    let gate = no_sums();
+    let scout = three_chunks();
+    let least = run_least(&rt, rt.alloc(), &gate, one, 3, &scout)?;
+    holds(&rt, least == Some(3) && gate.are(3, 3));
+    holds(&rt, !scout.second.load(SeqCst) && !scout.third.load(SeqCst));
+    Ok(())
+}
+
+// Of two workers one is held with the first chunk until the other has come to the third, which that
+// one skips, since it found step 9 in the second.
+#[test]
+fn calls_for_a_chunk_that_one_of_two_skips(rt: HostRuntime) -> Result<(), Fail> {
+    let Some(two) = Workers::new(2) else {
+        unreachable!()
+    };
+    let gate = SumsAndHolds {
+        sums: no_sums(),
+        holds: holds_until(0, 2),
+    };
+    let scout = three_chunks();
+    let least = run_least(&rt, rt.alloc(), &gate, two, 3, &scout)?;
+    holds(&rt, least == Some(3) && gate.sums.are(3, 3));
+    holds(&rt, gate.holds.has_held() && !scout.third.load(SeqCst));
     Ok(())
 }

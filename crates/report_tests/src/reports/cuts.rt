@@ -1,8 +1,8 @@
 use super::{bytes_by, check_refusal, inputs, options};
 use crate::checks::{holds, same};
 use claim_run::Gate;
-use parallel_tests::notes_of;
-use seq_report::{CutPlan, Summary, Through, first_fail, report};
+use parallel_tests::{Counts, notes_of};
+use seq_report::{Criterion, CutPlan, Summary, Through, first_fail, report};
 use std::alloc::{AllocError, Global};
 use std::sync::atomic::Ordering::SeqCst;
 use std::sync::atomic::{AtomicBool, AtomicU64};
@@ -143,6 +143,25 @@ fn calls_of_the_gate(rt: HostRuntime) -> Result<(), Fail> {
         holds(&rt, first == Ok(None) && gate.each_passed(2));
     }
     Ok(())
+}
+
+/// A container of 999,999 kg comes aboard to starboard, by which the ship lists beyond her limit,
+/// and then two more come aboard: four lines, of which the second fails.
+const HEAVY_FIRST: &[u8] =
+    b"UNB+UNOA:2+PLAN+SHIP+250101:1200+8'UNH+1+MOVINS:D:95B:UN'HAN+LOA'LOC+147+0030782'MEA+WT++KGM:999999'EQD+CN'LOC+147+0050082'MEA+WT++KGM:20500'EQD+CN'LOC+147+0030082'MEA+WT++KGM:20500'EQD+CN'UNT+12+1'UNZ+1+8'";
+
+// A search for the first step that fails skips what comes behind it: by one worker, with a line a
+// chunk, the last two lines. The gate is called for these too, and once, as for the others, in both
+// runs; so it is by any number of workers, whatever they skip.
+#[test]
+fn calls_for_skipped_lines(rt: HostRuntime) {
+    for workers in [1, 2, 3, 16] {
+        let gate = Counts::new();
+        let options = options(workers, CutPlan::Every(1));
+        let first = first_fail(&rt, rt.alloc(), &gate, &inputs(HEAVY_FIRST), &options);
+        same(&rt, first, Ok(Some((1, Criterion::C7))));
+        same(&rt, gate.calls(), 8);
+    }
 }
 
 /// Plans that don't fit three lines, and the refusal of each.

@@ -13,7 +13,8 @@ use std::sync::Wait;
 use std::test::Fail;
 use std::thread::Threads;
 
-/// A writer that takes `left` bytes, `most` of them a call, and then fails.
+/// A writer that takes `left` bytes, `most` of them a call, and then fails. It always fails where
+/// it is flushed: a report has to be whole without.
 #[derive(Drop)]
 struct Failing<'a> {
     taken: &'a mut Vec<u8>,
@@ -33,7 +34,7 @@ impl<'a> Write for Failing<'a> {
     }
 
     fn flush(&mut self) -> io::Result<()> {
-        Ok(())
+        Err(io::Error::from(ErrorKind::PermissionDenied))
     }
 }
 
@@ -71,7 +72,8 @@ fn writer_fails_after_seven(rt: HostRuntime) {
     same(&rt, taken.as_slice(), b"STEP LI".as_slice());
 }
 
-// Wherever a writer fails, it holds a prefix of the report, of the length that is said.
+// Wherever a writer fails, it holds a prefix of the report, of the length that is said; and the
+// whole of it where it takes so much, though it can't be flushed.
 #[test]
 fn failing_writers(rt: HostRuntime) {
     let whole =

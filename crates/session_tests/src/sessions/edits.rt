@@ -1,12 +1,14 @@
 //! Edits of a short list of the box ship, with every figure from the worked reports of the same
 //! loads. What else edits do, and which are refused, is tested by runs of the program
 //! (`tests/program.d/trials`).
+use super::searches::turns;
 use super::{AFT, BOTH, STARBOARD, TWO_LOADS, check_report, report_of, session};
 use crate::checks::{holds, same};
 use criteria::{Figures, Verdict};
-use lift_sequence::{SeqCode, SeqFault};
+use lift_sequence::{Op, SeqCode, SeqFault};
+use std::alloc::{AllocError, Global};
 use std::process::Abort;
-use std::sync::Wait;
+use std::sync::{Arc, Wait};
 use std::test::Fail;
 use std::thread::Threads;
 use step_edits::{EditFault, copies};
@@ -79,6 +81,59 @@ fn refused_edits(rt: HostRuntime) -> Result<(), Fail> {
     check_refused(&rt, &mut session, reweigh, EditFault::NotLoad)?;
     check_refused(&rt, &mut session, Edit::Remove { at: 1 }, empty)?;
     Ok(())
+}
+
+/// The steps of these numbers of a session, the first being 0, in this order.
+fn steps_of(alloc: Global, session: &Session, numbers: &[usize]) -> Result<Vec<Op>, AllocError> {
+    let mut list = Vec::new(alloc);
+    for number in numbers {
+        if let Some(op) = session.lifts().get(*number) {
+            list.push(op.copy())?;
+        }
+    }
+    Ok(list)
+}
+
+/// No session on the base of another has this list: it answers this fault.
+fn check_unmade(
+    rt: &(impl Abort + AllocGlobal),
+    other: &Session,
+    list: Vec<Op>,
+    fault: SeqFault,
+) -> Result<(), Fail> {
+    let base = Arc::try_clone(other.base())?;
+    match Session::new(rt.alloc(), base, list) {
+        Ok(_) => holds(rt, false),
+        Err(found) => same(rt, found, fault),
+    }
+    Ok(())
+}
+
+/// Lists that can't be done, of a load and the discharge of its container, and the first step of
+/// each that can't, with why.
+static UNMADE: [(&[usize], SeqCode, u32); 4] = [
+    (&[1], SeqCode::CellEmpty, 1),
+    (&[1, 0], SeqCode::CellEmpty, 1),
+    (&[0, 0, 1], SeqCode::CellTaken, 2),
+    (&[0, 1, 0, 1, 1], SeqCode::CellEmpty, 5),
+];
+
+#[test]
+fn sessions_on_lists_that_can_not_be_done(rt: HostRuntime) -> Result<(), Fail> {
+    let session = session(rt.alloc(), IN_AND_ASHORE)?;
+    for (numbers, code, at) in &UNMADE {
+        let list = steps_of(rt.alloc(), &session, numbers)?;
+        let fault = SeqFault {
+            code: *code,
+            at: *at,
+        };
+        check_unmade(&rt, &session, list, fault)?;
+    }
+    let many = SeqFault {
+        code: SeqCode::TooManySteps,
+        at: 120_001,
+    };
+    check_unmade(&rt, &session, turns(rt.alloc(), 60_001)?, many)
 }
 
 /// Compares the loads with those of the worked report of both loads, at the second frame and over

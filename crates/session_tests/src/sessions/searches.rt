@@ -53,8 +53,15 @@ fn discharge() -> Op {
     })
 }
 
+/// The tank amidships is filled.
+fn filling(kg: u32) -> Op {
+    let mut name = ArrayVec::new();
+    let _ = name.try_extend_from_slice(b"DB1".as_slice());
+    Op::Fill { name, kg }
+}
+
 /// So many containers of 1 t come aboard and go ashore in turn.
-fn turns(alloc: Global, count: u32) -> Result<Vec<Op>, AllocError> {
+pub fn turns(alloc: Global, count: u32) -> Result<Vec<Op>, AllocError> {
     let mut list = Vec::new(alloc);
     for _ in 0..count {
         list.push(load(1_000))?;
@@ -86,6 +93,17 @@ fn check_first(
     Ok(())
 }
 
+/// An edit is made, and then this step fails first.
+fn check_edited(
+    rt: &(impl Abort + AllocGlobal),
+    session: &mut Session,
+    edit: Edit,
+    step: Option<u32>,
+) -> Result<(), Fail> {
+    same(rt, session.apply(edit), Ok(()));
+    check_first(rt, session, step)
+}
+
 /// A load is given another weight, and then this step fails first.
 fn check_reweighed(
     rt: &(impl Abort + AllocGlobal),
@@ -95,8 +113,7 @@ fn check_reweighed(
     step: Option<u32>,
 ) -> Result<(), Fail> {
     let edit = Edit::Reweigh { at, kg: mass(kg) };
-    same(rt, session.apply(edit), Ok(()));
-    check_first(rt, session, step)
+    check_edited(rt, session, edit, step)
 }
 
 /// The last edit is taken back, and then this step fails first.
@@ -119,8 +136,24 @@ fn check_lengthened(
         at,
         lift: load(HEAVY),
     };
-    same(rt, session.apply(insert), Ok(()));
-    check_first(rt, session, Some(at))?;
+    check_edited(rt, session, insert, Some(at))?;
+    check_undone(rt, session, None)
+}
+
+/// A tank is filled with 1 t before all steps, and the filling is moved behind all of them, past
+/// each of which it may be; both are taken back. No step fails.
+fn check_filled(
+    rt: &(impl Abort + AllocGlobal),
+    session: &mut Session,
+    last: u32,
+) -> Result<(), Fail> {
+    let insert = Edit::Insert {
+        at: 1,
+        lift: filling(1_000),
+    };
+    check_edited(rt, session, insert, None)?;
+    check_edited(rt, session, Edit::Move { from: 1, to: last }, None)?;
+    check_undone(rt, session, None)?;
     check_undone(rt, session, None)
 }
 
@@ -147,6 +180,22 @@ fn shorten(rt: &(impl Abort + AllocGlobal), session: &mut Session) -> Result<(),
     check_undone(rt, session, None)?;
     check_lengthened(rt, session, 2_001)?;
     check_lengthened(rt, session, 2_001)
+}
+
+/// Edits of a list of 30,000 steps, with a search behind each. It is made longer than the room that
+/// is kept for its searches, and once more where there is enough of it; a step is moved past all
+/// others; the last step is left out. Each of these is taken back.
+fn edit_long_list(rt: &(impl Abort + AllocGlobal), session: &mut Session) -> Result<(), Fail> {
+    check_first(rt, session, None)?;
+    check_reweighed(rt, session, 29_801, HEAVY, Some(29_801))?;
+    check_undone(rt, session, None)?;
+    check_lengthened(rt, session, 30_001)?;
+    check_lengthened(rt, session, 30_001)?;
+    check_filled(rt, session, 30_001)?;
+    check_edited(rt, session, Edit::Remove { at: 30_000 }, None)?;
+    check_reweighed(rt, session, 29_999, HEAVY, Some(29_999))?;
+    check_undone(rt, session, None)?;
+    check_undone(rt, session, None)
 }
 
 /// Two threads ask at once what fails first, twenty times. One of them may find that the other has
@@ -181,4 +230,11 @@ fn searched_after_a_removal(rt: HostRuntime) -> Result<(), Fail> {
     let read = session(rt.alloc(), NO_MOVES)?;
     let mut long = session_on(rt.alloc(), &read, turns(rt.alloc(), 1_000)?)?;
     shorten(&rt, &mut long)
+}
+
+#[test]
+fn searched_in_a_long_list(rt: HostRuntime) -> Result<(), Fail> {
+    let read = session(rt.alloc(), NO_MOVES)?;
+    let mut long = session_on(rt.alloc(), &read, turns(rt.alloc(), 15_000)?)?;
+    edit_long_list(&rt, &mut long)
 }
