@@ -13,6 +13,8 @@ pub const NOBODY: u32 = u32::MAX;
 #[derive(Clone, Copy, Debug)]
 pub struct Berth {
     pub cell: Cell,
+    /// Where the cell stands in the order of the list.
+    rank: u32,
     /// The number of the item of the bay plan that the container came as, or of its load, behind
     /// these.
     pub who: u32,
@@ -23,8 +25,8 @@ pub struct Berth {
     pub taken_at: u32,
     /// From where to where the cells beside it stand in the list: those in the same row, and on the
     /// same side of the deck, of the bays that may overlap with its own.
-    first: usize,
-    last: usize,
+    first: u32,
+    last: u32,
 }
 
 /// The cells of a ship in the order of row, hold or deck, bay and tier, with who stands in each.
@@ -33,22 +35,32 @@ pub struct Cargo {
     berths: Vec<Berth>,
 }
 
-/// Where a cell stands in that order.
-fn rank(cell: Cell) -> u64 {
-    let deck = u64::from(cell.tier >= DECK);
-    let side = u64::from(cell.row).wrapping_mul(2).wrapping_add(deck);
-    let bay = side.wrapping_mul(2_000).wrapping_add(u64::from(cell.bay));
-    bay.wrapping_mul(256).wrapping_add(u64::from(cell.tier))
+/// Where a cell stands in that order. It is less than 2^32.
+fn rank(cell: Cell) -> u32 {
+    let deck = u32::from(cell.tier >= DECK);
+    let side = u32::from(cell.row).wrapping_mul(2).wrapping_add(deck);
+    let bay = side.wrapping_mul(2_000).wrapping_add(u32::from(cell.bay));
+    bay.wrapping_mul(256).wrapping_add(u32::from(cell.tier))
 }
 
 /// Where the first cell of a bay stands in it, in the row and on the side of the deck of a cell.
-fn rank_of_bay(cell: Cell, bay: u16) -> u64 {
+fn rank_of_bay(cell: Cell, bay: u16) -> u32 {
     let tier = if cell.tier >= DECK { DECK } else { 0 };
     rank(Cell {
         bay,
         row: cell.row,
         tier,
     })
+}
+
+/// The first bay that may overlap with that of a cell, and the one behind the last: an even bay
+/// covers both odd ones beside it.
+fn bays_beside(cell: Cell) -> (u16, u16) {
+    if cell.bay % 2 == 0 {
+        (cell.bay.saturating_sub(2), cell.bay.saturating_add(3))
+    } else {
+        (cell.bay.saturating_sub(1), cell.bay.saturating_add(2))
+    }
 }
 
 impl Cargo {
@@ -58,6 +70,7 @@ impl Cargo {
         for row in rows {
             berths.push(Berth {
                 cell: row.cell,
+                rank: rank(row.cell),
                 who: NOBODY,
                 since: 0,
                 taken: NOBODY,
@@ -66,7 +79,7 @@ impl Cargo {
                 last: 0,
             })?;
         }
-        berths.sort_unstable_by_key(|berth| rank(berth.cell));
+        berths.sort_unstable_by_key(|berth| berth.rank);
         let mut cargo = Cargo { berths };
         cargo.find_sides();
         Ok(cargo)
@@ -80,20 +93,21 @@ impl Cargo {
                 return;
             };
             let cell = berth.cell;
-            first = self.next_from(first, rank_of_bay(cell, cell.bay.saturating_sub(2)));
-            last = self.next_from(last, rank_of_bay(cell, cell.bay.saturating_add(3)));
+            let (low, high) = bays_beside(cell);
+            first = self.next_from(first, rank_of_bay(cell, low));
+            last = self.next_from(last, rank_of_bay(cell, high));
             if let Some(berth) = self.berths.get_mut(place) {
-                berth.first = first;
-                berth.last = last;
+                berth.first = count_of(first);
+                berth.last = count_of(last);
             }
         }
     }
 
     /// The first place, from one on, of those that are at least of a rank.
-    fn next_from(&self, from: usize, least: u64) -> usize {
+    fn next_from(&self, from: usize, least: u32) -> usize {
         let mut place = from;
         for berth in self.berths.get(from..).unwrap_or(&[]) {
-            if rank(berth.cell) >= least {
+            if berth.rank >= least {
                 break;
             }
             place = place.saturating_add(1);
@@ -107,10 +121,10 @@ impl Cargo {
     }
 
     /// The first place of those that are at least of a rank.
-    fn place_from(&self, least: u64) -> usize {
+    fn place_from(&self, least: u32) -> usize {
         self.berths
             .as_slice()
-            .partition_point(|berth| rank(berth.cell) < least)
+            .partition_point(|berth| berth.rank < least)
     }
 
     /// The place of a cell.
@@ -158,29 +172,27 @@ impl Cargo {
 
     /// The cells beside a cell.
     fn beside(&self, berth: &Berth) -> &[Berth] {
-        self.berths.get(berth.first..berth.last).unwrap_or(&[])
+        self.berths
+            .get(berth.first as usize..berth.last as usize)
+            .unwrap_or(&[])
     }
 
-    /// The least cell above a cell in which a container stands.
+    /// The least cell, by bay and tier, above a cell in which a container stands: those beside it
+    /// are in that order.
     pub fn above(&self, cell: Cell) -> Option<Cell> {
-        let mut found: Option<Cell> = None;
         for berth in self.beside(self.berth(cell)?) {
             let other = berth.cell;
-            let level = Cell {
-                tier: cell.tier,
-                ..other
-            };
-            if berth.who != NOBODY && other.tier > cell.tier && conflicts(level, cell) {
-                let is_least = match found {
-                    Some(least) => (other.bay, other.tier) < (least.bay, least.tier),
-                    None => true,
+            if berth.who != NOBODY && other.tier > cell.tier {
+                let level = Cell {
+                    tier: cell.tier,
+                    ..other
                 };
-                if is_least {
-                    found = Some(other);
+                if conflicts(level, cell) {
+                    return Some(other);
                 }
             }
         }
-        found
+        None
     }
 
     /// Whether the ship has a cell below a cell, on its side of the deck, and nobody stands in it

@@ -6,7 +6,7 @@ use crate::identity::{Identity, identity_of};
 use crate::messages::{MessageText, messages_of};
 use crate::notices::{Notice, Notices, add_notices_on};
 use crate::occurs::Occurs;
-use crate::places::lifts_among;
+use crate::places::lifts_in_call;
 use crate::records::{field, record_at};
 use indexmap::IndexMap;
 use lift_sequence::Op;
@@ -128,10 +128,27 @@ struct Known {
     is_for_port: bool,
 }
 
+impl Known {
+    /// What is known of one more container, whose identification was known before.
+    fn behind(&self, before: &Known) -> Known {
+        Known {
+            aboard: before.aboard.saturating_add(1),
+            first: before.first,
+            second: if before.aboard == 1 {
+                self.first
+            } else {
+                before.second
+            },
+            is_for_port: before.is_for_port || self.is_for_port,
+        }
+    }
+}
+
 /// The identifications, in the order in which they come.
 type Identifications = IndexMap<arrayvec::ArrayVec<u8, 17>, Known>;
 
-/// One more container of an identification; `true` where one is aboard already.
+/// One more container of an identification; `true` where one is aboard already. Most are new, so
+/// that each is put in first, and what was known before is looked at where there was something.
 fn add_name(
     names: &mut Identifications,
     item: &Item,
@@ -140,15 +157,6 @@ fn add_name(
     if item.id.is_empty() {
         return Ok(false);
     }
-    if let Some(known) = names.get_mut(&item.id) {
-        let was_aboard = known.aboard > 0;
-        if known.aboard == 1 {
-            known.second = item.cell;
-        }
-        known.aboard = known.aboard.saturating_add(1);
-        known.is_for_port = known.is_for_port || is_for_port;
-        return Ok(was_aboard);
-    }
     let known = Known {
         aboard: 1,
         first: item.cell,
@@ -156,7 +164,13 @@ fn add_name(
         is_for_port,
     };
     match names.insert(copy_text(&item.id), known) {
-        Ok(_) => Ok(false),
+        Ok(None) => Ok(false),
+        Ok(Some(before)) => {
+            if let Some(known) = names.get_mut(&item.id) {
+                *known = known.behind(&before);
+            }
+            Ok(before.aboard > 0)
+        }
         Err(_) => Err(AllocError),
     }
 }
@@ -185,6 +199,8 @@ struct Walk<'a> {
     entries: &'a [Entry],
     cargo: Cargo,
     names: Identifications,
+    /// Whether some item of the bay plan is for the port.
+    has_some_for_port: bool,
     odd: OddSteps,
 }
 
@@ -368,6 +384,9 @@ fn left_in<'a>(walk: &Walk<'a>) -> Left<'a> {
         count: 0,
         least: None,
     };
+    if !walk.has_some_for_port {
+        return left;
+    }
     for berth in walk.cargo.berths() {
         if berth.who == NOBODY {
             continue;
@@ -452,13 +471,14 @@ fn add_cargo(
     let items = case.arrival.items();
     let ops = case.sequence.ops();
     let steps = case.lines().saturating_sub(1);
-    let lifts = lifts_among(alloc, told.lifts.len(), file, steps)?;
+    let lifts = lifts_in_call(alloc, told.lifts.len(), file, steps)?;
     let mut walk = Walk {
         items,
         ops,
         entries: told.lifts,
         cargo: arrive(alloc, told.cells, items)?,
         names: names_of(alloc, items, told.items)?,
+        has_some_for_port: told.items.iter().any(|entry| entry.is_for_port),
         odd: OddSteps {
             loaded_twice: Occurs::never(),
             other_mass: Occurs::never(),

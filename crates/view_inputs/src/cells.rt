@@ -1,7 +1,7 @@
 //! The cells of a ship, as the records of her cells.csv have them.
-use crate::records::{field, number_at};
+use crate::records::{PlainLines, field, number_at, split_field};
 use csv::ByteRecord;
-use csv_text::{next_record, open_records};
+use csv_text::{next_record, number, open_records};
 use std::alloc::{AllocError, Global};
 use units_core::Cell;
 
@@ -20,8 +20,68 @@ pub struct CellRow {
     pub record: u32,
 }
 
+/// The number that the first field of what is left of a line writes, 0 where it writes none, and
+/// what is behind it.
+fn split_number(line: &[u8]) -> (i64, &[u8]) {
+    let (field, rest) = split_field(line);
+    (number(field).unwrap_or(0), rest)
+}
+
+/// The row of a line without quotes, where it names a cell.
+fn row_of_line(line: &[u8], record: u32) -> Option<CellRow> {
+    let (name, rest) = split_field(line);
+    let cell = cell_named(name)?;
+    let (x, rest) = split_number(rest);
+    let (y, rest) = split_number(rest);
+    let (z, rest) = split_number(rest);
+    let (half, _) = split_number(rest);
+    Some(CellRow {
+        cell,
+        x,
+        y,
+        z,
+        half,
+        record,
+    })
+}
+
+/// The cells of the records of a table without quotes.
+fn plain_cells(
+    alloc: Global,
+    most: usize,
+    lines: PlainLines<'_>,
+) -> Result<Vec<CellRow>, AllocError> {
+    let mut rows = Vec::new(alloc);
+    let mut lines = lines;
+    let mut record = 0u32;
+    for _ in 0..=most {
+        let Some(line) = lines.next_line() else {
+            break;
+        };
+        if line.is_empty() {
+            continue;
+        }
+        record = record.saturating_add(1);
+        if record < 2 {
+            continue;
+        }
+        if let Some(row) = row_of_line(line, record) {
+            rows.push(row)?;
+        }
+    }
+    Ok(rows)
+}
+
 /// The cells of the records that name one, in their order.
 pub fn cells_in(alloc: Global, text: &[u8]) -> Result<Vec<CellRow>, AllocError> {
+    match PlainLines::of(text) {
+        Some(lines) => plain_cells(alloc, text.len(), lines),
+        None => quoted_cells(alloc, text),
+    }
+}
+
+/// The cells of the records of any table.
+fn quoted_cells(alloc: Global, text: &[u8]) -> Result<Vec<CellRow>, AllocError> {
     let mut rows = Vec::new(alloc);
     let mut reader = open_records(alloc, text);
     let mut fields = ByteRecord::new(alloc);

@@ -1,9 +1,10 @@
 //! The entries of a message: the items of a bay plan, the lifts of a movement instruction, in their
 //! order, each with what is told of it beyond the item or the lift.
-use crate::groups::{Gathering, Located};
+use crate::groups::{Gathering, Located, Weighed};
 use crate::messages::MessageText;
 use edifact_text::{Kind, Message};
 use std::alloc::{AllocError, Global};
+use stow_messages::kind_of;
 
 /// An entry of a message.
 #[derive(Clone, Copy, Debug)]
@@ -27,11 +28,11 @@ fn is_for(group: &Located<'_>, port: Option<&[u8]>) -> bool {
     }
 }
 
-/// Adds the entry of a group, if it is one.
+/// Adds the entry of a group, if it is one, by what its measurement writes.
 pub fn add_entry(
     entries: &mut Vec<Entry>,
     group: &Located<'_>,
-    mark: u8,
+    weighed: Option<Weighed<'_>>,
     port: Option<&[u8]>,
 ) -> Result<(), AllocError> {
     if !group.names_container() {
@@ -39,7 +40,10 @@ pub fn add_entry(
     }
     entries.push(Entry {
         segment: group.location.number(),
-        kg: group.mass(mark),
+        kg: match weighed {
+            Some(weighed) if weighed.is_in_kg => weighed.kg,
+            _ => None,
+        },
         is_for_port: is_for(group, port),
     })?;
     Ok(())
@@ -69,12 +73,14 @@ fn entries_in(
     let mark = message.decimal_mark();
     let mut gathering = Gathering::new(kind == Kind::Movins);
     for segment in message.segments() {
-        if let Some(group) = gathering.take(&segment) {
-            add_entry(&mut entries, &group, mark, port)?;
+        let kind = kind_of(&segment);
+        if let Some(group) = gathering.ended_by(kind) {
+            add_entry(&mut entries, group, group.weighed(mark), port)?;
         }
+        gathering.add(kind, &segment);
     }
     if let Some(group) = gathering.last() {
-        add_entry(&mut entries, &group, mark, port)?;
+        add_entry(&mut entries, &group, group.weighed(mark), port)?;
     }
     Ok(entries)
 }

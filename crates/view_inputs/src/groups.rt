@@ -1,8 +1,38 @@
 //! The groups of a message's segments: a location of a cell, and what is behind it.
 use crate::occurs::Occurs;
-use edifact_text::Segment;
+use edifact_text::{Raw, Segment};
 use stow_messages::{SegmentKind, kilograms, kind_of};
-use units_core::Cell;
+use units_core::{Cell, Kg};
+
+/// What the measurement of a group writes.
+#[derive(Clone, Copy)]
+pub struct Weighed<'a> {
+    /// The mass in kg, by the number alone.
+    pub kg: Option<u32>,
+    /// Whether it is in kilograms.
+    pub is_in_kg: bool,
+    /// The value, where it wasn't seen to be of digits alone.
+    pub spelt: Option<Raw<'a>>,
+}
+
+/// The mass in kg of a measurement in kilograms, where it is written in digits alone, none of which
+/// is the decimal mark. Nothing is said of another.
+fn kilograms_in_digits(measure: &Segment<'_>, mark: u8) -> Option<u32> {
+    if mark.is_ascii_digit() {
+        return None;
+    }
+    let number = measure.measure(3, b'K', b'G', b'M')?;
+    let kg = Kg::new(u32::try_from(number).ok()?)?;
+    Some(kg.get())
+}
+
+/// Whether a segment has the tag of a location.
+fn is_location(segment: &Segment<'_>) -> bool {
+    match segment.plain_tag() {
+        Some(tag) => tag.is(b'L', b'O', b'C'),
+        None => segment.tag().is(b"LOC"),
+    }
+}
 
 /// A location of a cell, with what is behind it up to the next, or to a handling of a movement
 /// instruction.
@@ -51,7 +81,7 @@ impl<'a> Located<'a> {
 
     /// Takes a port into the group.
     fn note_port(&mut self, segment: &Segment<'a>) {
-        if !segment.tag().is(b"LOC") {
+        if !is_location(segment) {
             return;
         }
         if self.discharge_port.is_none() && segment.has_qualifier(b"11") {
@@ -89,6 +119,9 @@ impl<'a> Located<'a> {
 
     /// The cell that it names.
     pub fn cell(&self) -> Option<Cell> {
+        if let Some(digits) = self.location.seven_digits(2) {
+            return Cell::read(digits);
+        }
         let mut digits = arrayvec::ArrayVec::<u8, 7>::new();
         if !self.location.component(2, 0).literal_into(&mut digits) {
             return None;
@@ -96,14 +129,26 @@ impl<'a> Located<'a> {
         Cell::read(digits.as_slice())
     }
 
-    /// The mass in kg that its measurement gives in kilograms.
-    pub fn mass(&self, mark: u8) -> Option<u32> {
+    /// What its measurement writes, if it has one.
+    pub fn weighed(&self, mark: u8) -> Option<Weighed<'a>> {
         let measure = self.measure()?;
-        if !measure.component(3, 0).is(b"KGM") {
-            return None;
+        if let Some(kg) = kilograms_in_digits(&measure, mark) {
+            return Some(Weighed {
+                kg: Some(kg),
+                is_in_kg: true,
+                spelt: None,
+            });
         }
-        let kg = kilograms(measure.component(3, 1), mark)?;
-        Some(kg.get())
+        let (unit, value) = measure.first_two(3);
+        let kg = match kilograms(value, mark) {
+            Some(kg) => Some(kg.get()),
+            None => None,
+        };
+        Some(Weighed {
+            kg,
+            is_in_kg: unit.is(b"KGM"),
+            spelt: Some(value),
+        })
     }
 }
 
@@ -126,28 +171,42 @@ impl<'a> Gathering<'a> {
         }
     }
 
-    /// Takes the next segment of the message, and gives the group that ends before it, if one
-    /// does.
-    pub fn take(&mut self, segment: &Segment<'a>) -> Option<Located<'a>> {
-        match kind_of(segment) {
-            SegmentKind::Location => {
-                let ended = self.open;
-                self.open = Some(Located::at(segment, self.handling));
-                ended
-            }
+    /// The group that ends before a segment of a kind, if one does.
+    pub fn ended_by(&self, kind: SegmentKind) -> Option<&Located<'a>> {
+        let ends = match kind {
+            SegmentKind::Location => true,
+            SegmentKind::Handling => self.handles,
+            _ => false,
+        };
+        if ends { self.open.as_ref() } else { None }
+    }
+
+    /// Takes the next segment of the message, which is of a kind.
+    pub fn add(&mut self, kind: SegmentKind, segment: &Segment<'a>) {
+        match kind {
+            SegmentKind::Location => self.open = Some(Located::at(segment, self.handling)),
             SegmentKind::Handling if self.handles => {
-                let ended = self.open;
                 self.open = None;
                 self.handling = Some(*segment);
-                ended
             }
             kind => {
                 if let Some(group) = &mut self.open {
                     group.note(kind, segment);
                 }
-                None
             }
         }
+    }
+
+    /// Takes the next segment of the message, and gives the group that ends before it, if one
+    /// does.
+    pub fn take(&mut self, segment: &Segment<'a>) -> Option<Located<'a>> {
+        let kind = kind_of(segment);
+        let ended = match self.ended_by(kind) {
+            Some(group) => Some(*group),
+            None => None,
+        };
+        self.add(kind, segment);
+        ended
     }
 
     /// Whether a group is open.

@@ -23,13 +23,14 @@ mod places;
 mod readings;
 mod records;
 mod standing;
+mod tags;
 mod tanks;
 
 pub use cargo::{Berth, Cargo, NOBODY, arrive, do_step, item_of};
 pub use case_notices::{Marks, cargo_notices, marks_of, notices_on};
 pub use cells::{CellRow, DECK, cell_named, cell_text, cells_in};
 pub use entries::{Entry, entries_of};
-pub use groups::{Gathering, Located};
+pub use groups::{Gathering, Located, Weighed};
 pub use identity::{Identity, first_of, identity_in, identity_line};
 pub use keys::{
     ARRAYS, ArrayKeys, KeyLimits, SHIP, document, elements, line_beginning, number_in, table_at,

@@ -1,12 +1,12 @@
 //! What of a message was read otherwise than its writer may have meant, or not at all. None of it
 //! is a refusal.
 use crate::entries::{Entry, add_entry};
-use crate::groups::{Gathering, Located};
+use crate::groups::{Gathering, Located, Weighed};
 use crate::identity::{Identity, identity_of};
-use crate::messages::{MessageText, literal, raw_line, raw_shown};
+use crate::messages::{MessageText, literal, raw_shown};
 use crate::occurs::Occurs;
-use edifact_text::{Kind, Message, PlacedSegment, Raw, placed_segments};
-use memchr::memchr3;
+use crate::tags::{add_segments, has_sound_tag, may_be_wrapped};
+use edifact_text::{Kind, Message, Raw, Segment};
 use plain_text::{add_wrapped, front, in_thousandths, many, many_of};
 use std::alloc::{AllocError, Global};
 use stow_messages::{SegmentKind, kilograms, kind_of};
@@ -26,32 +26,6 @@ const HEAVY: u32 = 36_000;
 
 /// Groups that something is said of.
 type Groups<'a> = Occurs<Located<'a>>;
-
-/// Whether a tag is three capital letters or digits.
-fn is_sound_tag(raw: Raw<'_>) -> bool {
-    match raw.without_release() {
-        Some(tag) => is_sound(tag),
-        None => is_sound(literal(raw).as_slice()),
-    }
-}
-
-/// Whether a text is three capital letters or digits.
-fn is_sound(tag: &[u8]) -> bool {
-    match tag {
-        [first, second, third] => is_upper(*first) && is_upper(*second) && is_upper(*third),
-        _ => false,
-    }
-}
-
-/// Whether a byte is a capital letter or a digit.
-fn is_upper(byte: u8) -> bool {
-    byte.is_ascii_uppercase() || byte.is_ascii_digit()
-}
-
-/// Whether a line ends in a segment, or a tab stands in it.
-fn is_wrapped(segment: &PlacedSegment<'_>) -> bool {
-    memchr3(b'\r', b'\n', b'\t', segment.bytes()).is_some()
-}
 
 /// A list of notices.
 #[derive(Debug, Drop)]
@@ -93,49 +67,11 @@ impl Notices {
     }
 }
 
-/// Adds what is odd of segments by themselves: N1 and N2.
-fn add_segments(
-    alloc: Global,
-    notices: &mut Notices,
-    message: MessageText<'_>,
-) -> Result<(), AllocError> {
-    let mut tags = Occurs::<(u64, Raw<'_>)>::never();
-    let mut wrapped = Occurs::<u64>::never();
-    let mut number = 0u64;
-    for segment in placed_segments(message.text) {
-        if segment.terminator().is_some() {
-            let tag = segment.component(0, 0);
-            if !is_sound_tag(tag) {
-                tags.note((number, tag));
-            }
-            if is_wrapped(&segment) {
-                wrapped.note(number);
-            }
-        }
-        number = number.saturating_add(1);
-    }
-    if let Some((first, tag)) = tags.first {
-        let count = many(alloc, tags.count, "segment")?;
-        let tag = raw_line(alloc, tag)?;
-        let tag = front(alloc, tag.as_str(), 8)?;
-        let text = format!(in alloc;
-            "{count} with a tag as \"{tag}\": not read; first seg. {first}"
-        )?;
-        notices.add("N1", message.word(), text)?;
-    }
-    if let Some(first) = wrapped.first {
-        let count = many(alloc, wrapped.count, "segment")?;
-        let text = format!(in alloc;
-            "line ends inside {count}, read as a part; first seg. {first}"
-        )?;
-        notices.add("N2", message.word(), text)?;
-    }
-    Ok(())
-}
-
 /// What is odd of the groups of a message.
 #[derive(Clone, Copy)]
 struct Odd<'a> {
+    /// Whether some tag may not be sound.
+    has_bad_tags: bool,
     /// Containers and masses outside of any group.
     lost: Occurs<u64>,
     /// Locations that name no container.
@@ -196,6 +132,7 @@ impl<'a> Odd<'a> {
     /// Nothing yet.
     fn nothing() -> Odd<'a> {
         Odd {
+            has_bad_tags: false,
             lost: Occurs::never(),
             bare: Occurs::never(),
             masses: Occurs::never(),
@@ -210,26 +147,42 @@ impl<'a> Odd<'a> {
     }
 
     /// Notes a mass that is loaded.
-    fn note_mass(&mut self, group: &Located<'a>, mark: u8) {
-        let Some(measure) = group.measure() else {
+    fn note_mass(&mut self, group: &Located<'a>, weighed: Weighed<'a>, mark: u8) {
+        let Some(kg) = weighed.kg else {
             return;
         };
-        let value = measure.component(3, 1);
-        if let Some(kg) = kilograms(value, mark) {
-            let kg = kg.get();
-            if kg < LIGHT || HEAVY < kg {
-                self.strange.note(*group);
-                self.least = self.least.min(kg);
-                self.most = self.most.max(kg);
-            }
+        if kg < LIGHT || HEAVY < kg {
+            self.strange.note(*group);
+            self.least = self.least.min(kg);
+            self.most = self.most.max(kg);
+        }
+        if let Some(value) = weighed.spelt {
             if is_dotted(value, mark) {
                 self.dotted.note(*group);
             }
         }
     }
 
-    /// Notes a group.
-    fn note(&mut self, group: &Located<'a>, mark: u8) {
+    /// Notes a container or a mass outside of any group, and a tag that isn't sound: those of the
+    /// kinds that count are.
+    fn note_segment(&mut self, kind: SegmentKind, segment: &Segment<'_>, is_open: bool) {
+        match kind {
+            SegmentKind::Equipment | SegmentKind::Verified | SegmentKind::Gross => {
+                if !is_open {
+                    self.lost.note(segment.number());
+                }
+            }
+            SegmentKind::Other => {
+                if !has_sound_tag(segment) {
+                    self.has_bad_tags = true;
+                }
+            }
+            SegmentKind::Location | SegmentKind::Handling => {}
+        }
+    }
+
+    /// Notes a group, by what its measurement writes.
+    fn note(&mut self, group: &Located<'a>, weighed: Option<Weighed<'a>>, mark: u8) {
         if group.has_several() {
             self.several.note(*group);
         }
@@ -250,10 +203,25 @@ impl<'a> Odd<'a> {
                 }
             }
         }
-        if !group.is_discharge() {
-            self.note_mass(group, mark);
+        if let Some(weighed) = weighed {
+            if !group.is_discharge() {
+                self.note_mass(group, weighed, mark);
+            }
         }
     }
+}
+
+/// Notes a group, and adds its entry to others.
+fn note_group<'a>(
+    odd: &mut Odd<'a>,
+    entries: &mut Vec<Entry>,
+    group: &Located<'a>,
+    mark: u8,
+    port: Option<&[u8]>,
+) -> Result<(), AllocError> {
+    let weighed = group.weighed(mark);
+    odd.note(group, weighed, mark);
+    add_entry(entries, group, weighed, port)
 }
 
 /// What is odd of the groups of a message, of which the entries are added to others, each with
@@ -269,21 +237,14 @@ fn odd_in<'a>(
     let mut gathering = Gathering::new(kind == Kind::Movins);
     for segment in message.segments() {
         let kind = kind_of(&segment);
-        let is_cargo = matches!(
-            kind,
-            SegmentKind::Equipment | SegmentKind::Verified | SegmentKind::Gross
-        );
-        if is_cargo && !gathering.is_open() {
-            odd.lost.note(segment.number());
+        odd.note_segment(kind, &segment, gathering.is_open());
+        if let Some(group) = gathering.ended_by(kind) {
+            note_group(&mut odd, entries, group, mark, port)?;
         }
-        if let Some(group) = gathering.take(&segment) {
-            odd.note(&group, mark);
-            add_entry(entries, &group, mark, port)?;
-        }
+        gathering.add(kind, &segment);
     }
     if let Some(group) = gathering.last() {
-        odd.note(&group, mark);
-        add_entry(entries, &group, mark, port)?;
+        note_group(&mut odd, entries, &group, mark, port)?;
     }
     Ok(odd)
 }
@@ -460,9 +421,11 @@ pub fn add_notices_on(
     port: Option<&[u8]>,
 ) -> Result<Vec<Entry>, AllocError> {
     let word = message.word();
-    add_segments(alloc, notices, message)?;
     let mut entries = Vec::new(alloc);
     let odd = odd_in(opened, message.kind, port, &mut entries)?;
+    if odd.has_bad_tags || may_be_wrapped(message.text) {
+        add_segments(alloc, notices, message)?;
+    }
     add_places(alloc, notices, word, &odd)?;
     add_strange(alloc, notices, word, &odd)?;
     add_dotted(alloc, notices, word, &odd, opened.decimal_mark())?;

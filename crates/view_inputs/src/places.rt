@@ -1,6 +1,8 @@
 //! Where the inputs order a step.
 use crate::entries::entries_of;
 use crate::readings::rows_read;
+use crate::records::{PlainLines, split_field};
+use csv_text::number;
 use edifact_text::Kind;
 use plain_text::count_of;
 use std::alloc::{AllocError, Global};
@@ -54,6 +56,74 @@ pub fn lifts_among(
         })?;
     }
     Ok(lifts)
+}
+
+/// What a line of a steps file orders.
+#[derive(Clone, Copy)]
+enum Ordered {
+    Lift(u32),
+    Other,
+}
+
+/// What a line without quotes orders, where that is seen at once.
+fn ordered_by(line: &[u8]) -> Option<Ordered> {
+    match line {
+        [b'l', b'i', b'f', b't', b',', rest @ ..] => {
+            let (field, _) = split_field(rest);
+            Some(Ordered::Lift(u32::try_from(number(field)?).ok()?))
+        }
+        [b't', b'a', b'n', b'k', b',', ..] => Some(Ordered::Other),
+        [b'r', b'e', b's', b't', b'o', b'w', b',', ..] => Some(Ordered::Other),
+        _ => None,
+    }
+}
+
+/// For each step of a steps file without quotes the number of its lift, if it is one; nothing where
+/// some line has another form.
+fn plain_lifts(
+    alloc: Global,
+    most: usize,
+    lines: PlainLines<'_>,
+) -> Result<Option<Vec<Option<u32>>>, AllocError> {
+    let mut lifts = Vec::new(alloc);
+    let mut lines = lines;
+    let mut is_heading = true;
+    for _ in 0..=most {
+        let Some(line) = lines.next_line() else {
+            break;
+        };
+        if line.is_empty() {
+            continue;
+        }
+        if is_heading {
+            is_heading = false;
+            continue;
+        }
+        match ordered_by(line) {
+            Some(Ordered::Lift(number)) => lifts.push(Some(number))?,
+            Some(Ordered::Other) => lifts.push(None)?,
+            None => return Ok(None),
+        }
+    }
+    Ok(Some(lifts))
+}
+
+/// For each step of a port call the number of its lift, as [`lifts_among`] has it. Its steps file
+/// is one that was accepted, so that no other field of a lift's line need be looked at.
+pub fn lifts_in_call(
+    alloc: Global,
+    there: usize,
+    file: Option<&[u8]>,
+    count: u32,
+) -> Result<Vec<Option<u32>>, AllocError> {
+    if let Some(text) = file {
+        if let Some(lines) = PlainLines::of(text) {
+            if let Some(lifts) = plain_lifts(alloc, text.len(), lines)? {
+                return Ok(lifts);
+            }
+        }
+    }
+    lifts_among(alloc, there, file, count)
 }
 
 /// The lift that a record of a steps file orders.

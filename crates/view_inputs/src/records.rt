@@ -6,6 +6,7 @@ ghost use Rattle.view_inputs.specs.Records.{IsLineOf};
 
 use csv::ByteRecord;
 use csv_text::{next_record, number, open_records, text_at};
+use memchr::{memchr, memchr2};
 use std::alloc::{AllocError, Global};
 
 /// A line of a text, and its number from 1.
@@ -73,19 +74,49 @@ fn holds_only(alloc: Global, line: &[u8], wanted: &ByteRecord) -> Result<bool, A
 
 /// The text up to the end of its first line, and what is behind that end, if there is one.
 fn split_line(text: &[u8]) -> (&[u8], Option<&[u8]>) {
-    for (at, byte) in text.iter().enumerate() {
-        if *byte == b'\n' {
-            return (&text[..at], Some(&text[at + 1..]));
+    let Some(at) = memchr2(b'\n', b'\r', text) else {
+        return (text, None);
+    };
+    let (line, end) = text.split_at(at);
+    match end {
+        [b'\r', b'\n', behind @ ..] | [_, behind @ ..] => (line, Some(behind)),
+        [] => (line, None),
+    }
+}
+
+/// The lines of a table in which no field is in quotes: those that hold a byte are its records.
+#[derive(Clone, Copy)]
+pub struct PlainLines<'a> {
+    rest: Option<&'a [u8]>,
+}
+
+impl<'a> PlainLines<'a> {
+    /// The lines of a text; nothing where it may have quotes, or begins with a mark of its
+    /// encoding.
+    pub fn of(text: &'a [u8]) -> Option<PlainLines<'a>> {
+        if memchr(b'"', text).is_some() || text.first() == Some(&0xef) {
+            return None;
         }
-        if *byte == b'\r' {
-            let behind = match &text[at + 1..] {
-                [b'\n', rest @ ..] => rest,
-                rest => rest,
-            };
-            return (&text[..at], Some(behind));
+        Some(PlainLines { rest: Some(text) })
+    }
+
+    /// The next line.
+    pub fn next_line(&mut self) -> Option<&'a [u8]> {
+        let (line, behind) = split_line(self.rest?);
+        self.rest = behind;
+        Some(line)
+    }
+}
+
+/// The first field of what is left of a line without quotes, and what is behind its comma: nothing
+/// where it is the last.
+pub fn split_field(line: &[u8]) -> (&[u8], &[u8]) {
+    for (at, byte) in line.iter().enumerate() {
+        if *byte == b',' {
+            return (&line[..at], &line[at + 1..]);
         }
     }
-    (text, None)
+    (line, &[])
 }
 
 /// The line that holds a byte, of a number among those, the first being 0.

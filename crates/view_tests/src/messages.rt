@@ -1,6 +1,7 @@
 //! What messages say, and what is odd of them.
 use crate::checks::{holds, same};
 use edifact_text::Kind;
+use std::alloc::{AllocError, Global};
 use std::test::Fail;
 use view_inputs::{
     MessageText, add_notices, entries_of, identity_in, identity_line, lifts_of, line_at,
@@ -109,6 +110,61 @@ fn odd_of_a_plan(rt: HostRuntime) -> Result<(), Fail> {
         &rt,
         text.as_str(),
         "N6  bay plan    1 container without identification; first seg. 10, 0030782\nN8  bay plan    1 mass under 1.8 t or over 36 t: 1.750; first seg. 10\n",
+    );
+    Ok(())
+}
+
+/// A bay plan of one container up to its last segment, whose lines end in two bytes.
+const HEAD: &[u8] =
+    b"UNB+UNOA:2+SHIP+PLAN+250101:1200+7'\r\nUNH+1+BAPLIE:D:95B:UN'\r\nLOC+147+0030082::5'\r\nMEA+WT++KGM:20500'\r\nEQD+CN+ABCU1234560+22G1'\r\n";
+
+/// What is behind its last segment.
+const END: &[u8] = b"UNT+6+1'\r\nUNZ+1+7'\r\n";
+
+/// The codes of the notices on that plan behind some text, with a last segment.
+fn codes_with(alloc: Global, advice: &[u8], segment: &[u8]) -> Result<String, AllocError> {
+    let mut text = Vec::new(alloc);
+    text.extend_from_slice(advice)?;
+    text.extend_from_slice(HEAD)?;
+    text.extend_from_slice(segment)?;
+    text.extend_from_slice(END)?;
+    let plan = MessageText {
+        text: text.as_slice(),
+        kind: Kind::Baplie,
+    };
+    let mut codes = String::new(alloc);
+    for notice in &message_notices(alloc, plan)? {
+        codes.push_str(notice.code)?;
+        codes.push(' ')?;
+    }
+    Ok(codes)
+}
+
+/// A line ends behind a terminator, or inside of a segment, where a released terminator ends none;
+/// a tag is sound or not.
+#[test]
+fn ends_of_lines_and_tags(rt: HostRuntime) -> Result<(), Fail> {
+    let alloc = rt.alloc();
+    let advice = b"UNA:+.? '\r\n";
+    same(&rt, codes_with(alloc, b"", b"RFF+BM:1'\r\n")?.as_str(), "");
+    same(&rt, codes_with(alloc, advice, b"DIM+1'")?.as_str(), "");
+    same(&rt, codes_with(alloc, b"\n", b"LOC+11+'\n")?.as_str(), "");
+    same(
+        &rt,
+        codes_with(alloc, b"", b"FTX+A?'\r\nB'\n")?.as_str(),
+        "N2 ",
+    );
+    same(
+        &rt,
+        codes_with(alloc, advice, b"FTX+A\tB'")?.as_str(),
+        "N2 ",
+    );
+    same(&rt, codes_with(alloc, b"", b"RFF+BM\n'")?.as_str(), "N2 ");
+    same(&rt, codes_with(alloc, b"", b"ftx+A'\r\n")?.as_str(), "N1 ");
+    same(
+        &rt,
+        codes_with(alloc, b"", b"\n F?X+A\n'")?.as_str(),
+        "N1 N2 ",
     );
     Ok(())
 }

@@ -60,6 +60,26 @@ fn cells(rt: HostRuntime) -> Result<(), Fail> {
     Ok(())
 }
 
+/// Cells are the same with quotes and without, whatever ends a line; an empty line is no record.
+#[test]
+fn cells_in_quotes(rt: HostRuntime) -> Result<(), Fail> {
+    let alloc = rt.alloc();
+    let plain = b"cell,x,y,z,half\r\n\r\n210384,5,-6,7,8\r220384 , 1,2\n\n0230384,,,,9";
+    let quoted = b"cell,x,y,z,half\r\n\r\n\"210384\",5,-6,7,8\r220384 , 1,2\n\n0230384,,,,9";
+    let (plain, quoted) = (cells_in(alloc, plain)?, cells_in(alloc, quoted)?);
+    same(&rt, (plain.len(), quoted.len()), (3, 3));
+    for (one, other) in plain.iter().zip(quoted.iter()) {
+        holds(&rt, one.cell == other.cell);
+        same(&rt, one.record, other.record);
+        same(
+            &rt,
+            (one.x, one.y, one.z, one.half),
+            (other.x, other.y, other.z, other.half),
+        );
+    }
+    Ok(())
+}
+
 /// Two tanks of two records and of one.
 #[test]
 fn tanks(rt: HostRuntime) -> Result<(), Fail> {
