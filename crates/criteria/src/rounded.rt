@@ -1,6 +1,11 @@
-ghost use Rattle.std.specs.Prelude.{◌≡◌};
+ghost use Rattle.std.specs.Prelude.{◌≡◌, ℕ};
+ghost use Rattle.units_core.specs.Ratio.{Ratio};
+ghost use Rattle.criteria.specs.Exact.{condition_by};
+ghost use Rattle.criteria.specs.Judgement.{printed_of, read};
+ghost use Rattle.criteria.specs.Measures.{AreMeasures};
 ghost use Rattle.criteria.specs.Printed.{AreRounded};
 
+use crate::exact::Exact;
 use crate::measures::CurveMeasures;
 use crate::reciprocals::Reciprocal;
 use crate::rounding::{
@@ -52,5 +57,17 @@ impl RoundedFigures {
         self.area_30_40 = area_figure(curve.sum_30_40, near);
         self.lever = lever_down(curve, near);
         self.angle = angle(curve);
+    }
+
+    /// Makes them those of a condition of a ship of this length, whose exact numbers
+    /// [`exact_into`](crate::exact_into) gives: as [`judge_into`](crate::judge_into) has them. The
+    /// loads on her hull are there already.
+    pub fn round(&mut self, exact: &Exact, length: Mm)
+        requires { exact.now.afloat.lbp ≡ length }
+        ensures { (y : ℕ → Ratio) → AreMeasures exact.now.curve y
+            → read self.new ≡ printed_of length (condition_by exact.now y self.old.strains) }
+    {
+        let line = DraughtLine::new(&exact.afloat);
+        self.set(&exact.afloat, length, &line, &exact.curve);
     }
 }

@@ -1,13 +1,16 @@
+ghost use Rattle.moment_sums.specs.Bounded.{IsBounded};
+ghost use Rattle.moment_sums.specs.Kept.{values};
 ghost use Rattle.strength.specs.Hull.{IsHullOf};
 
 use super::masses::{BLOCK, Mass, sum_of};
 use crate::checks::same;
 use box_ship::{Check, on_box_ship};
 use criteria::{
-    Criterion, Figures, Nearby, RoundedFigures, Verdict, first_failed, judge, judge_into,
-    judges_in_order,
+    Criterion, Figures, Nearby, RoundedFigures, Verdict, exact_into, first_failed, judge,
+    judge_into, judges_in_order,
 };
 use hydrostat::Outside;
+use moment_sums::Totals;
 use righting::{Levers, area_over_pairs, best_from_30, greatest_number};
 use ship_profile::Profile;
 use std::process::Abort;
@@ -156,6 +159,26 @@ fn same_verdict(
     }
 }
 
+/// Compares figures with those that are rounded of the exact numbers of the same condition.
+fn same_rounded(
+    rt: &impl Abort,
+    profile: &Profile,
+    hull: &Hull,
+    sum: &Totals,
+    near: &mut Nearby,
+    figures: &RoundedFigures,
+)
+    requires of { IsHullOf hull.now profile.now.ship }
+    requires bounded { IsBounded (values sum.now) }
+{
+    let mut rounded = RoundedFigures::default();
+    let Ok(exact) = exact_into(profile, hull, sum, near, &mut rounded.strains) else {
+        return;
+    };
+    rounded.round(&exact, profile.lbp());
+    same(rt, numbers(&rounded), numbers(figures));
+}
+
 /// Compares the verdict on a row alone with what it says, and with what is found of it behind the
 /// rows before it, with its figures and without.
 fn check_row(
@@ -173,6 +196,7 @@ fn check_row(
     let mut figures = RoundedFigures::default();
     let found = judge_into(profile, hull, &sum, near, &mut figures);
     same_verdict(rt, &verdict, found, &figures)?;
+    same_rounded(rt, profile, hull, &sum, near, &figures);
     let failed = first_failed(profile, hull, &sum, near, &mut Strains::default());
     same(rt, failed, row.said.first_failed());
     Ok(())

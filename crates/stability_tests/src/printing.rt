@@ -3,7 +3,9 @@ use crate::checks::same;
 use plain_text::{in_hundredths, in_ten_thousandths, in_tenths, in_thousandths};
 use std::test::Fail;
 use units_core::Frac;
-use view_figures::{Reading, area_reading, at_least, at_most, list_reading, used_of};
+use view_figures::{
+    Reading, area_reading, at_least, at_most, is_more, list_reading, share_of, used_of,
+};
 
 // 149.6 is printed as 149, and lacks 0.4, which is printed as -1; 150.4 has 0.4 to spare.
 #[test]
@@ -173,6 +175,26 @@ fn parts_that_are_used(rt: HostRuntime) {
             .share
             .is_none(),
         true,
+    );
+}
+
+// Two thirds are more than three fifths; 3 of nothing are more than any.
+#[test]
+fn shares_in_their_order(rt: HostRuntime) {
+    let third = share_of(Frac { num: 2, den: 1 }, Frac { num: 3, den: 1 });
+    let fifth = share_of(Frac { num: 3, den: 1 }, Frac { num: 5, den: 1 });
+    let beyond = share_of(Frac { num: 3, den: 1 }, Frac { num: 0, den: 1 });
+    same(
+        &rt,
+        [
+            is_more(third, fifth),
+            is_more(fifth, third),
+            is_more(third, third),
+            is_more(beyond, third),
+            is_more(third, beyond),
+            is_more(beyond, beyond),
+        ],
+        [true, false, false, true, false, false],
     );
 }
 

@@ -1,14 +1,15 @@
 //! The values of one condition by each limit, and what it doesn't meet.
-use super::masses::{Mass, sum_of};
+use super::masses::{BLOCK, Mass, length, sum_of};
 use crate::checks::same;
 use box_ship::{Check, on_box_ship};
 use criteria::{Criterion, Nearby, exact_into};
-use ship_profile::Profile;
+use ship_profile::{Frame, Profile};
 use std::process::Abort;
 use std::test::Fail;
 use strength::{Hull, Strains};
-use units_core::floor;
-use worst_values::{Limit, criterion_at, unmet_of, value_of};
+use units_core::{Frac, floor};
+use view_figures::most_used;
+use worst_values::{Limit, bending_limit, criterion_at, unmet_of, value_of};
 
 /// The box ship with her centre of gravity so high that GM = 10,333 - 10,184 = 149 mm. The lever at
 /// 30 degrees is 4,900 - 10,184 * 0.5 = -192 mm, so that the area up to there is too small as well;
@@ -48,4 +49,55 @@ impl<R: Abort + AllocGlobal> Check<R> for OneCondition {
 #[test]
 fn values_of_one_condition(rt: HostRuntime) -> Result<(), Fail> {
     on_box_ship(&rt, &OneCondition)
+}
+
+/// How much of its limits the box ship uses at most with this aboard, in millionths.
+fn most_with(profile: &Profile, mass: Mass) -> Result<Option<i128>, Fail> {
+    let sum = sum_of(profile, &[mass])?;
+    let hull = Hull::new(profile);
+    let mut strains = Strains::default();
+    let near = &mut Nearby::default();
+    let Ok(exact) = exact_into(profile, &hull, &sum, near, &mut strains) else {
+        return Err("a condition within the tables")?;
+    };
+    let Some(Frac { num, den }) = most_used(profile, &exact, &strains) else {
+        return Ok(None);
+    };
+    let num = num.checked_mul(1_000_000).ok_or("a smaller share")?;
+    Ok(Some(floor(Frac { num, den })))
+}
+
+/// Looks at how much is used at most.
+#[derive(Clone, Copy)]
+struct MostUsed;
+
+impl<R: Abort + AllocGlobal> Check<R> for MostUsed {
+    // Without cargo it is the draught that is nearest to its limit: 4,000 of 6,100 mm. High up, the
+    // area up to 30 degrees isn't above 0.
+    fn check(&self, rt: &R, profile: &Profile) -> Result<(), Fail> {
+        same(rt, most_with(profile, BLOCK)?, Some(655_737));
+        same(rt, most_with(profile, HIGH)?, None);
+        Ok(())
+    }
+}
+
+#[test]
+fn most_that_is_used(rt: HostRuntime) -> Result<(), Fail> {
+    on_box_ship(&rt, &MostUsed)
+}
+
+#[test]
+fn limit_of_a_bending_moment(rt: HostRuntime) -> Result<(), Fail> {
+    let frame = Frame {
+        x: length(1)?,
+        shear_max: 2,
+        hog_max: 3,
+        sag_max: 5,
+    };
+    same(
+        &rt,
+        [bending_limit(&frame, 0), bending_limit(&frame, -1)],
+        [3, 5],
+    );
+    Ok(())
 }

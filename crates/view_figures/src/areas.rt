@@ -22,7 +22,7 @@ fn in_radians(thousandths: i128) -> i128
 }
 
 /// The area of a Simpson's sum in thousandths of a millimetre degree.
-fn fine_area(sum: Frac) -> Frac
+pub(crate) fn fine_area(sum: Frac) -> Frac
     requires num { unsigned_abs sum.num ≤ 10 ^ 32 }
     requires den { unsigned_abs sum.den ≤ 10 ^ 23 }
     ensures num { result.num ≡ pos 5000 *ℤ sum.num }

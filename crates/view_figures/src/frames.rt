@@ -2,7 +2,7 @@
 use crate::rows::{FORCE_UNIT, MOMENT_UNIT, Row, row_of_load};
 use ship_profile::Profile;
 use strength::Strains;
-use worst_values::Limit;
+use worst_values::{Limit, bending_limit};
 
 /// The most frames that a ship has.
 const FRAMES: usize = 16;
@@ -27,11 +27,7 @@ pub fn frame_rows(profile: &Profile, strains: &Strains) -> FrameRows {
         if let Some(frame) = frames.get(at) {
             let place = at as u32;
             let bending = strains.bending[at];
-            let most = if bending >= 0 {
-                frame.hog_max
-            } else {
-                frame.sag_max
-            };
+            let most = bending_limit(frame, bending);
             rows[at] = Some(FrameRow {
                 x: frame.x.get(),
                 shear: row_of_load(

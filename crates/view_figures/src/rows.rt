@@ -3,7 +3,7 @@ ghost use Rattle.std.specs.Prelude.{◌≡◌, ◌*◌, ◌^◌, ◌<◌, ◌≤
 ghost use Rattle.criteria.specs.Least.{IsLeast};
 
 use crate::angles::{ListReading, list_reading};
-use crate::areas::area_reading;
+use crate::areas::{area_reading, fine_area};
 use crate::readings::{Reading, at_least, at_least_whole, at_most, whole};
 use crate::shares::{Used, used_of};
 use criteria::Exact;
@@ -12,25 +12,25 @@ use righting::{Levers, best_from_30};
 use ship_profile::Profile;
 use std::cmp::Ordering;
 use strength::Strains;
-use units_core::Frac;
-use worst_values::{Limit, value_of};
+use units_core::{Frac, Mm};
+use worst_values::{Limit, bending_limit, value_of};
 
 /// The least metacentric height, in mm (2008 IS Code, part A, 2.2.4).
-const GM_LEAST: i64 = 150;
+pub(crate) const GM_LEAST: i64 = 150;
 
 /// The least areas to 30 degrees, to 40 and between, in thousandths of a millimetre degree: 0.055,
 /// 0.09 and 0.03 metre-radians (2.2.1).
-const AREA_TO_30: i64 = 3_151_268;
+pub(crate) const AREA_TO_30: i64 = 3_151_268;
 
-const AREA_TO_40: i64 = 5_156_621;
+pub(crate) const AREA_TO_40: i64 = 5_156_621;
 
-const AREA_30_TO_40: i64 = 1_718_874;
+pub(crate) const AREA_30_TO_40: i64 = 1_718_874;
 
 /// The least lever from 30 degrees on, in mm (2.2.2).
-const LEVER_LEAST: i64 = 200;
+pub(crate) const LEVER_LEAST: i64 = 200;
 
 /// The least angle of the greatest lever, in degrees (2.2.3).
-const ANGLE_LEAST: i64 = 25;
+pub(crate) const ANGLE_LEAST: i64 = 25;
 
 /// A force in kg and a moment in kg mm beyond all that a ship within the limits of a profile has.
 const LOAD_MOST: u128 = 1_000_000_000_000_000_000_000_000_000_000;
@@ -61,7 +61,7 @@ pub struct Row {
 }
 
 /// The size of a fraction.
-fn size(fraction: Frac) -> Frac
+pub(crate) fn size(fraction: Frac) -> Frac
     requires { unsigned_abs fraction.num ≤ 10 ^ 38 }
     ensures num { unsigned_abs result.num ≡ unsigned_abs fraction.num }
     ensures den { result.den ≡ fraction.den }
@@ -107,22 +107,28 @@ fn row_of_area(limit: Limit, sum: Frac, least: i64) -> Row
     requires den { unsigned_abs sum.den ≤ 10 ^ 23 }
     requires least { unsigned_abs least ≤ 10 ^ 7 }
 {
-    let area = Frac {
-        num: 5000 * sum.num,
-        den: 3 * sum.den,
-    };
-    signed(limit, area_reading(sum, least), used_of(whole(least), area))
+    let used = used_of(whole(least), fine_area(sum));
+    signed(limit, area_reading(sum, least), used)
+}
+
+/// The angle of a number, in degrees: they are 5 degrees apart.
+pub(crate) fn angle_of(number: usize) -> Frac
+    requires { number < 13 }
+    ensures num { (pos 0 ≤ℤ result.num) × (result.num ≤ℤ pos 60) }
+    ensures den { result.den ≡ pos 1 }
+{
+    Frac {
+        num: 5 * number as i128,
+        den: 1,
+    }
 }
 
 /// The row of the angle of the greatest lever, of which no part of its limit is told: a greater
 /// angle isn't a greater safety in that measure.
-fn row_of_peak(degrees: usize) -> Row
-    requires { degrees < 13 }
+fn row_of_peak(number: usize) -> Row
+    requires { number < 13 }
 {
-    let angle = Frac {
-        num: 5 * degrees as i128,
-        den: 1,
-    };
+    let angle = angle_of(number);
     let reading = at_least_whole(angle, ANGLE_LEAST);
     let is_kept = reading.margin >= 0;
     let used = if is_kept {
@@ -181,7 +187,7 @@ fn side_moment(a: &Afloat) -> i128
 
 /// The size of a ship's list in ten-thousandths, by the numerator of her metacentric height, as
 /// `hydrostat::list_of` has it.
-fn list_size(a: &Afloat, gm: i128) -> Frac
+pub(crate) fn list_size(a: &Afloat, gm: i128) -> Frac
     requires positive { pos 1 ≤ℤ gm }
     requires gm { unsigned_abs gm ≤ 3 * 10 ^ 23 }
     ensures num { unsigned_abs result.num ≤ 10 ^ 27 }
@@ -194,7 +200,7 @@ fn list_size(a: &Afloat, gm: i128) -> Frac
 }
 
 /// The greatest list that the ship may have.
-fn list_limit(profile: &Profile) -> i64
+pub(crate) fn list_limit(profile: &Profile) -> i64
     ensures { unsigned_abs result ≤ 10 ^ 4 }
 {
     let most = profile.list_max();
@@ -231,7 +237,7 @@ fn row_at_most(limit: Limit, side: Ordering, value: Frac, most: i64) -> Row
 }
 
 /// The size of a load or of a closing error.
-fn load_size(load: i128) -> Frac
+pub(crate) fn load_size(load: i128) -> Frac
     ensures num { unsigned_abs result.num ≤ 10 ^ 30 }
     ensures den { result.den ≡ pos 1 }
 {
@@ -332,12 +338,15 @@ fn row_of_worst(profile: &Profile, exact: &Exact, strains: &Strains, limit: Limi
         return Some(row_of_load(limit, number, shear, frame.shear_max, FORCE_UNIT));
     }
     let bending = *strains.bending.get(place)?;
-    let most = if bending >= 0 {
-        frame.hog_max
-    } else {
-        frame.sag_max
-    };
+    let most = bending_limit(frame, bending);
     Some(row_of_load(limit, number, bending, most, MOMENT_UNIT))
+}
+
+/// The greatest draught or trim of a ship, of which a profile has none beyond.
+pub(crate) fn length_limit(most: Mm) -> i64
+    ensures { unsigned_abs result ≤ 10 ^ 5 }
+{
+    i64::from(most.get()).clamp(0, 100_000)
 }
 
 /// The row of a limit, of a condition within the ship's tables; `None` where the ship hasn't such a
@@ -353,8 +362,8 @@ pub fn row_of(
     requires least { IsLeast exact.now.least }
 {
     let a = &exact.afloat;
-    let draught_max = i64::from(profile.draught_max().get()).clamp(0, 100_000);
-    let trim_max = i64::from(profile.trim_max().get()).clamp(0, 100_000);
+    let draught_max = length_limit(profile.draught_max());
+    let trim_max = length_limit(profile.trim_max());
     Some(match limit {
         Limit::Closing => row_of_closing(profile, strains.closing),
         Limit::Gm => row_at_least(limit, gm_of(a), GM_LEAST),

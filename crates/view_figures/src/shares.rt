@@ -1,9 +1,10 @@
 ghost use Rattle.std.specs.Prelude.{◌≡◌, ◌^◌, ◌≤◌, pos, ◌-ℤ◌, ◌*ℤ◌, ◌≤ℤ◌, ◌<ℤ◌, unsigned_abs};
+ghost use Rattle.std.specs.Prelude.{IfSome, IsSomeAnd};
 ghost use Rattle.units_core.specs.Ratio.{Is, IsFloor, Ratio, ◌over◌, ◌⊘◌};
 ghost use Rattle.fractions.specs.Rounded.{up};
 ghost use Rattle.view_figures.specs.Readings.{IsPercent};
 
-use fractions::up;
+use fractions::{is_less, up};
 use units_core::{Frac, floor};
 
 /// How much of a limit is used.
@@ -102,31 +103,53 @@ fn not_below_zero(value: Frac) -> Frac
     value
 }
 
-/// How much one value, which counts as 0 below 0, is of another: the limit of a value that has to
-/// be at least so much is a part of the value, and a value that may be at most so much is a part of
-/// its limit. Of nothing, nothing is all.
+/// How much one value, which counts as 0 below 0, is of another, as a fraction: the limit of a
+/// value that has to be at least so much is a part of the value, and a value that may be at most so
+/// much is a part of its limit. Of nothing, nothing is all; of anything else of nothing or less no
+/// number tells.
+pub fn share_of(part: Frac, all: Frac) -> Option<Frac>
+    requires num { unsigned_abs (part.num *ℤ all.den) ≤ 10 ^ 38 }
+    requires den { unsigned_abs (part.den *ℤ all.num) ≤ 10 ^ 36 }
+    ensures bounds { IfSome result
+        (λ s. (pos 0 ≤ℤ s.num) × (unsigned_abs s.den ≤ 10 ^ 36)) }
+    ensures value { (a : Ratio) (b : Ratio) → Is part.num part.den a → Is all.num all.den b
+        → pos 0 ≤ℤ part.num → pos 1 ≤ℤ all.num
+        → IsSomeAnd result (λ s. Is s.num s.den (a ⊘ b)) }
+{
+    let part = not_below_zero(part);
+    if all.num > 0 {
+        return Some(quotient(part, all));
+    }
+    if part.num == 0 && all.num == 0 {
+        return Some(Frac { num: 1, den: 1 });
+    }
+    None
+}
+
+/// The same with the percentage that is printed.
 pub fn used_of(part: Frac, all: Frac) -> Used
     requires num { unsigned_abs (part.num *ℤ all.den) ≤ 10 ^ 38 }
     requires den { unsigned_abs (part.den *ℤ all.num) ≤ 10 ^ 36 }
     ensures { (a : Ratio) (b : Ratio) → Is part.num part.den a → Is all.num all.den b
         → pos 0 ≤ℤ part.num → pos 1 ≤ℤ all.num → IsPercent result.percent (a ⊘ b) }
 {
-    let part = not_below_zero(part);
-    if all.num > 0 {
-        let share = quotient(part, all);
-        return Used {
+    match share_of(part, all) {
+        Some(share) => Used {
             share: Some(share),
             percent: percent(share),
-        };
+        },
+        None => Used {
+            share: None,
+            percent: None,
+        },
     }
-    if part.num == 0 && all.num == 0 {
-        return Used {
-            share: Some(Frac { num: 1, den: 1 }),
-            percent: Some(100),
-        };
-    }
-    Used {
-        share: None,
-        percent: None,
+}
+
+/// Whether one share is more than another; one that no number tells is more than any.
+pub fn is_more(one: Option<Frac>, other: Option<Frac>) -> bool {
+    match (one, other) {
+        (_, None) => false,
+        (None, Some(_)) => true,
+        (Some(more), Some(less)) => is_less(less, more),
     }
 }

@@ -1,25 +1,34 @@
 -- The figures that are drawn, line by line and chunk after chunk.
-use Rattle.std.proofs.Common.{◌≡◌, ◌∙◌, ℕ, ◌+◌, ◌-◌, List, [], ◌∷◌, ◌++◌, length, map, flat_map, Option, sym, ap, arith}
+use Rattle.std.proofs.Common.{◌≡◌, ◌∙◌, ℕ, ◌+◌, ◌-◌, List, [], ◌∷◌, ◌++◌, length, map, flat_map, ℤ, Option, None, Some, refl, sym, ap, arith}
 use Rattle.std.specs.List.{range_with_len}
 use Rattle.std.proofs.lemmas.Grind.{flat_map-append}
 use Rattle.std.proofs.lemmas.List.{append-nil, map-append}
 use Rattle.std.proofs.lemmas.List.FromFn.{map-range_with_len_more}
 use Rattle.prefix_scan.specs.Cut.{Divides}
 use Rattle.moment_sums.specs.Sum.{Sum}
-use Rattle.criteria.specs.Judgement.{judgement_of}
+use Rattle.units_core.specs.declared.frames.Frame.{Frame}
+use Rattle.criteria.specs.Assessment.{assessed}
+use Rattle.criteria.specs.Criteria.{Condition}
+use Rattle.criteria.specs.declared.criterion.Criterion.{Criterion}
+use Rattle.criteria.specs.Judgement.{judgement_of, printed_of, rounded}
 use Rattle.port_call.specs.Cases.{CaseRecord, IsReady}
 use Rattle.running_sums.specs.Lines.{chunk_of, sum_in}
 use Rattle.seq_report.specs.Report.{Line}
 use Rattle.seq_report.proofs.ChunkLemmas.{range_join}
 use Rattle.seq_report.proofs.LineLemmas.{line_here}
 use Rattle.worst_values.proofs.GatherLemmas.{all_chunks}
-use Rattle.view_page.specs.Series.{all_plotted, plotted_by, plotted_in}
+use Rattle.view_page.specs.Series.{all_plotted, plotted_by, plotted_in, plotted_of}
 use Rattle.view_page.specs.declared.series.Plotted.{Plotted}
 
 -- the sum that is kept is that of everything aboard
 pub plotted_here : (case : CaseRecord) → IsReady case → (k : ℕ) (s : Sum) → s ≡ sum_in case k → plotted_by case.profile.ship.frames (judgement_of case.profile s) ≡ plotted_in case k
 unfolding plotted_in
 plotted_here case ready k s is = ap (λ (l : Line). plotted_by case.profile.ship.frames l.step.judgement) (line_here case ready k s is)
+
+-- the figures of an exact judgement, whatever it is
+pub plotted_assessed : (frames : List Frame) (lbp : ℤ) (o : Option Criterion) (c : Condition) → plotted_by frames (rounded lbp (assessed o c)) ≡ Some (plotted_of frames (printed_of lbp c))
+plotted_assessed frames lbp None c = refl
+plotted_assessed frames lbp (Some criterion) c = refl
 
 pub plotted_none : (case : CaseRecord) (start : ℕ) → map (plotted_in case) (range_with_len start (start - start)) ≡ []
 plotted_none case start =

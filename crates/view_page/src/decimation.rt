@@ -237,14 +237,14 @@ pub fn drawn(alloc: Global, curve: &[Option<i128>]) -> Result<Vec<usize>, AllocE
     stretches_drawn(alloc, curve)
 }
 
-/// Whether one of the conditions from one to another is in one of the runs.
+/// Whether one of the conditions from one to another is in one of the runs, which are in their
+/// order.
 fn touches(runs: &[Run], start: u32, end: u32) -> bool {
-    for run in runs {
-        if run.first < end && start <= run.last {
-            return true;
-        }
+    let before = runs.partition_point(|run| run.last < start);
+    match runs.get(before) {
+        Some(run) => run.first < end,
+        None => false,
     }
-    false
 }
 
 /// The runs of conditions that are drawn as failing, of these that fail: of a long list the

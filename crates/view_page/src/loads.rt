@@ -3,6 +3,7 @@ use fractions::is_less;
 use ship_profile::{Frame, Frames};
 use strength::Strains;
 use units_core::Frac;
+use worst_values::bending_limit;
 
 /// The most frames that a ship has.
 pub const FRAMES: usize = 16;
@@ -35,11 +36,7 @@ pub struct Reaches {
 
 /// The size of a load by its limit, which counts as 1 where it is 0.
 fn part_of(load: i128, frame: &Frame) -> Frac {
-    let most = if load >= 0 {
-        frame.hog_max
-    } else {
-        frame.sag_max
-    };
+    let most = bending_limit(frame, load);
     let size = load.unsigned_abs().min(i128::MAX as u128);
     Frac {
         num: size as i128,
@@ -62,26 +59,41 @@ fn reach_at(shear: i128, bending: i128, step: u32) -> Reach {
     }
 }
 
-/// The loads at a frame over some conditions, and over others behind them.
-fn joined(one: Reach, other: Reach, frame: &Frame) -> Reach {
-    let shear = if one.shear.load.unsigned_abs() < other.shear.load.unsigned_abs() {
-        other.shear
-    } else {
-        one.shear
-    };
-    let (first, second) = (one.bending, other.bending);
-    let bending = if is_less(part_of(first.load, frame), part_of(second.load, frame)) {
-        second
-    } else {
-        first
-    };
-    Reach {
-        shear_least: one.shear_least.min(other.shear_least),
-        shear_greatest: one.shear_greatest.max(other.shear_greatest),
-        bending_least: one.bending_least.min(other.bending_least),
-        bending_greatest: one.bending_greatest.max(other.bending_greatest),
-        shear,
-        bending,
+impl Reach {
+    /// Joins a shear force and a bending moment, which are behind.
+    fn note_worst(&mut self, shear: Load, bending: Load, frame: &Frame) {
+        if self.shear.load.unsigned_abs() < shear.load.unsigned_abs() {
+            self.shear = shear;
+        }
+        if is_less(
+            part_of(self.bending.load, frame),
+            part_of(bending.load, frame),
+        ) {
+            self.bending = bending;
+        }
+    }
+
+    /// Joins the loads of the condition of a step.
+    fn note(&mut self, shear: i128, bending: i128, step: u32, frame: &Frame) {
+        self.shear_least = self.shear_least.min(shear);
+        self.shear_greatest = self.shear_greatest.max(shear);
+        self.bending_least = self.bending_least.min(bending);
+        self.bending_greatest = self.bending_greatest.max(bending);
+        let shear = Load { load: shear, step };
+        let bending = Load {
+            load: bending,
+            step,
+        };
+        self.note_worst(shear, bending, frame);
+    }
+
+    /// Joins the loads of others, which are behind.
+    fn join(&mut self, behind: &Reach, frame: &Frame) {
+        self.shear_least = self.shear_least.min(behind.shear_least);
+        self.shear_greatest = self.shear_greatest.max(behind.shear_greatest);
+        self.bending_least = self.bending_least.min(behind.bending_least);
+        self.bending_greatest = self.bending_greatest.max(behind.bending_greatest);
+        self.note_worst(behind.shear, behind.bending, frame);
     }
 }
 
@@ -99,7 +111,7 @@ impl Reaches {
         let mut at = 0usize;
         for frame in frames.as_slice() {
             if at < FRAMES {
-                self.frames[at] = joined(self.frames[at], behind.frames[at], frame);
+                self.frames[at].join(&behind.frames[at], frame);
                 at += 1;
             }
         }
@@ -112,12 +124,12 @@ impl Reaches {
         let mut at = 0usize;
         for frame in frames.as_slice() {
             if at < FRAMES {
-                let here = reach_at(strains.shear[at], strains.bending[at], step);
-                self.frames[at] = if is_first {
-                    here
+                let (shear, bending) = (strains.shear[at], strains.bending[at]);
+                if is_first {
+                    self.frames[at] = reach_at(shear, bending, step);
                 } else {
-                    joined(self.frames[at], here, frame)
-                };
+                    self.frames[at].note(shear, bending, step, frame);
+                }
                 at += 1;
             }
         }

@@ -1,18 +1,21 @@
 ghost use Rattle.std.specs.Prelude.{◌≡◌, ◌++◌, [], IfOk, OnOk};
+ghost use Rattle.criteria.specs.Least.{IsLeast};
 ghost use Rattle.port_call.specs.Views.{case_in_view};
 ghost use Rattle.view_page.specs.Series.{all_plotted, figure_of};
 
 use crate::loads::Reaches;
 use crate::walks::series_in_chunk;
 use claim_run::{Gate, Job, Workers, run};
+use criteria::Exact;
 use seq_report::Lines;
-use ship_profile::Frames;
+use ship_profile::{Frames, Profile};
 use std::alloc::{AllocError, Global};
 use std::marker::Model;
 use std::sync::Wait;
 use std::thread::Threads;
 use strength::Strains;
-use units_core::Frac;
+use units_core::{Frac, floor};
+use view_figures::most_used;
 
 /// What is drawn of a condition within the ship's tables, as the report prints it: lengths in mm,
 /// the list in ten-thousandths, loads in percent of their limits.
@@ -130,6 +133,36 @@ impl Beside {
             reaches: Reaches::default(),
             arrival: None,
         }
+    }
+
+    /// Notes the condition of step `k`, which lies within the ship's tables.
+    pub(crate) fn note(
+        &mut self,
+        profile: &Profile,
+        exact: &Exact,
+        strains: &Strains,
+        k: u32,
+    ) -> Result<(), AllocError>
+        requires length { exact.now.afloat.lbp ≡ profile.now.ship.lbp }
+        requires least { IsLeast exact.now.least }
+    {
+        self.shares.push(most_used(profile, exact, strains))?;
+        self.least_gm.push(match exact.least {
+            Some(least) => Some(floor(least)),
+            None => None,
+        })?;
+        self.reaches.note(strains, k, profile.frames());
+        if k == 0 {
+            self.arrival = Some(*strains);
+        }
+        Ok(())
+    }
+
+    /// Notes a condition outside of the ship's tables.
+    pub(crate) fn note_outside(&mut self) -> Result<(), AllocError> {
+        self.shares.push(None)?;
+        self.least_gm.push(None)?;
+        Ok(())
     }
 
     /// Adds what is told of others behind.

@@ -5,7 +5,8 @@ use criteria::Criterion;
 use plain_text::in_thousandths;
 use ship_profile::Profile;
 use std::alloc::{AllocError, Global};
-use view_texts::{RowText, Run, is_more};
+use view_figures::is_more;
+use view_texts::{RowText, Run};
 
 /// What the charts by step are made of.
 #[derive(Clone, Copy)]

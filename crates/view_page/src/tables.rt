@@ -9,12 +9,10 @@ use seq_report::Lines;
 use ship_profile::Profile;
 use std::alloc::{AllocError, Global};
 use units_core::{Frac, floor};
-use view_figures::{FrameRow, condition_at, frame_rows};
+use view_figures::{FrameRow, condition_at, frame_rows, is_more};
 use view_inputs::Notice;
 use view_table::MovedBy;
-use view_texts::{
-    RowText, condition_rows, deed_by, is_more, lift_at, load_texts, percent_text, tightest,
-};
+use view_texts::{RowText, condition_rows, deed_by, lift_at, load_texts, percent_text, tightest};
 
 /// How long a bar is at most, in tenths of a pixel; a limit that is used as a whole has 1,000.
 const LONGEST: i128 = 1_300;

@@ -5,28 +5,22 @@ ghost use Rattle.moment_sums.specs.Kept.{values};
 ghost use Rattle.strength.specs.Hull.{IsHullOf};
 ghost use Rattle.units_core.specs.Interpolation.{at};
 ghost use Rattle.criteria.specs.Judgement.{judgement_of, read};
-ghost use Rattle.criteria.specs.Least.{IsLeast};
 ghost use Rattle.port_call.specs.Views.{case_in_view};
 ghost use Rattle.seq_report.specs.Cases.{IsChunk, lines_in};
-ghost use Rattle.worst_values.specs.Limits.{bending_limit};
 ghost use Rattle.view_page.specs.Series.{bending_percent, plotted_by, plotted_in, plotted_of};
 ghost use Rattle.view_page.specs.Series.{shear_percent};
 
 use crate::percents::percent_of;
 use crate::series::{Beside, Plotted, Series};
-use criteria::{Exact, Nearby, RoundedFigures, exact_into, judge_into};
+use criteria::{Nearby, RoundedFigures, exact_into};
 use moment_sums::Totals;
 use port_call::Case;
-use righting::{Levers, levers_aboard};
 use running_sums::walk_on;
 use seq_report::Chunk;
 use ship_profile::{Frame, Frames, Profile};
 use std::alloc::{AllocError, Global};
-use strength::{Hull, Strains};
-use units_core::{Frac, floor};
-use view_figures::row_of;
-use view_texts::is_more;
-use worst_values::limit_at;
+use strength::Hull;
+use worst_values::bending_limit;
 
 /// The greatest part of its limit that the shear force uses at any frame, in percent.
 fn shear_percent(frames: &[Frame], shear: &[i128; 16]) -> i128
@@ -40,17 +34,6 @@ fn shear_percent(frames: &[Frame], shear: &[i128; 16]) -> i128
     most
 }
 
-/// The limit of a bending moment, by its sign.
-fn limit_for(frame: &Frame, load: i128) -> i64
-    ensures { result ≡ bending_limit frame.now load }
-{
-    if 0 <= load {
-        frame.hog_max
-    } else {
-        frame.sag_max
-    }
-}
-
 /// The greatest part of its limit that the bending moment uses at any frame, in percent.
 fn bending_percent(frames: &[Frame], bending: &[i128; 16]) -> i128
     requires { length frames.now ≤ 16 }
@@ -59,7 +42,7 @@ fn bending_percent(frames: &[Frame], bending: &[i128; 16]) -> i128
     let mut most = 0i128;
     for i in 0..frames.len() {
         let load = bending[i];
-        most = most.max(percent_of(load, limit_for(&frames[i], load)));
+        most = most.max(percent_of(load, bending_limit(&frames[i], load)));
     }
     most
 }
@@ -80,89 +63,32 @@ fn plotted_of(frames: &Frames, figures: &RoundedFigures) -> Plotted
     }
 }
 
-/// What is drawn of the condition with this aboard.
+/// What is drawn of the condition of line `k`, with this aboard; what is told beside it is noted.
 fn plot(
-    profile: &Profile,
-    hull: &Hull,
-    sum: &Totals,
-    near: &mut Nearby,
-    figures: &mut RoundedFigures,
-) -> Option<Plotted>
-    requires of { IsHullOf hull.now profile.now.ship }
-    requires bounded { IsBounded (values sum.now) }
-    ensures { result ≡ plotted_by profile.now.ship.frames
-        (judgement_of profile.now (values sum.now)) }
-{
-    match judge_into(profile, hull, sum, near, figures) {
-        Ok(_) => Some(plotted_of(profile.frames(), figures)),
-        Err(_) => None,
-    }
-}
-
-/// How much of a limit a condition within the tables uses at most.
-fn share_of(profile: &Profile, exact: &Exact, levers: &Levers, strains: &Strains) -> Option<Frac>
-    requires length { exact.now.afloat.lbp ≡ profile.now.ship.lbp }
-    requires least { IsLeast exact.now.least }
-{
-    let mut share = Some(Frac { num: 0, den: 1 });
-    for number in 0..14usize {
-        if let Some(row) = row_of(profile, exact, levers, strains, limit_at(number)) {
-            if is_more(row.used.share, share) {
-                share = row.used.share;
-            }
-        }
-    }
-    share
-}
-
-/// How much of a limit the condition with this aboard uses at most, and the least metacentric
-/// height; nothing outside of the tables.
-fn exactly(
-    profile: &Profile,
-    hull: &Hull,
-    sum: &Totals,
-    near: &mut Nearby,
-) -> (Option<Frac>, Option<i128>)
-    requires of { IsHullOf hull.now profile.now.ship }
-    requires bounded { IsBounded (values sum.now) }
-{
-    let mut strains = Strains::default();
-    let Ok(exact) = exact_into(profile, hull, sum, near, &mut strains) else {
-        return (None, None);
-    };
-    let Some(levers) = levers_aboard(profile, sum, &mut 0) else {
-        return (None, None);
-    };
-    let share = share_of(profile, &exact, &levers, &strains);
-    match exact.least {
-        Some(least) => (share, Some(floor(least))),
-        None => (share, None),
-    }
-}
-
-/// Notes what is told beside the figures of line `k`, with this aboard.
-fn note_line(
-    beside: &mut Beside,
     profile: &Profile,
     hull: &Hull,
     k: u32,
     sum: &Totals,
     near: &mut Nearby,
-    strains: Option<&Strains>,
-) -> Result<(), AllocError>
+    figures: &mut RoundedFigures,
+    beside: &mut Beside,
+) -> Result<Option<Plotted>, AllocError>
     requires of { IsHullOf hull.now profile.now.ship }
     requires bounded { IsBounded (values sum.now) }
+    ensures { IfOk result (λ p. p
+        ≡ plotted_by profile.now.ship.frames (judgement_of profile.now (values sum.now))) }
 {
-    let (share, least_gm) = exactly(profile, hull, sum, near);
-    beside.shares.push(share)?;
-    beside.least_gm.push(least_gm)?;
-    if let Some(strains) = strains {
-        beside.reaches.note(strains, k, profile.frames());
-        if k == 0 {
-            beside.arrival = Some(*strains);
+    match exact_into(profile, hull, sum, near, &mut figures.strains) {
+        Ok(exact) => {
+            figures.round(&exact, profile.lbp());
+            beside.note(profile, &exact, &figures.strains, k)?;
+            Ok(Some(plotted_of(profile.frames(), figures)))
+        }
+        Err(_) => {
+            beside.note_outside()?;
+            Ok(None)
         }
     }
-    Ok(())
 }
 
 /// The figures of the lines of a chunk.
@@ -184,12 +110,7 @@ pub fn series_in_chunk(
     let mut near = Nearby::default();
     let mut figures = RoundedFigures::default();
     for k in chunk.start..chunk.end {
-        let drawn = plot(profile, hull, &sum, &mut near, &mut figures);
-        let strains = match drawn {
-            Some(_) => Some(&figures.strains),
-            None => None,
-        };
-        note_line(&mut beside, profile, hull, k, &sum, &mut near, strains)?;
+        let drawn = plot(profile, hull, k, &sum, &mut near, &mut figures, &mut beside)?;
         plotted.push(drawn)?;
         walk_on(case, k, &mut sum);
     }

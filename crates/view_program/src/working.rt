@@ -12,6 +12,7 @@ ghost use Rattle.view_program.specs.Shown.{IsStopOn, OfTexts, first_in};
 
 use claim_run::{Gate, Workers};
 use criteria::Criterion;
+use edifact_text::Kind;
 use moment_sums::Totals;
 use port_call::{Inputs, PortCall, RunFault};
 use prefix_scan::Cuts;
@@ -25,7 +26,7 @@ use std::thread::{Promise, PromisedHandle, Scope, Threads};
 use strength::Hull;
 use view_inputs::{Marks, Notice, cargo_notices, marks_of};
 use view_profile::{Parts, warnings_on};
-use view_texts::{Sources, sources_of};
+use view_texts::{Message, Sources, message_source, profile_source, steps_digest};
 use worst_values::{Findings, found_in};
 
 /// A port call, with the sum at the first line of each chunk.
@@ -157,14 +158,67 @@ impl<T> Promise<T> for Unsaid {
     ghost kept_by = { λ _ _. ⊤ };
 }
 
-/// Starts a thread that works out what the inputs are.
-fn start_sources<'s, E>(
+/// Starts a thread that works out what a message is.
+fn start_message<'s, E>(
     scope: &Scope<'s, E>,
+    alloc: Global,
+    texts: &'s Texts,
+    kind: Kind,
+) -> Result<PromisedHandle<Result<Message, AllocError>, Unsaid>, AllocError> {
+    let started = scope.spawn_with(Unsaid, move || -> Result<Message, AllocError> {
+        let inputs = texts.inputs();
+        let text = match kind {
+            Kind::Baplie => inputs.baplie,
+            Kind::Movins => inputs.movins,
+        };
+        message_source(alloc, text, kind)
+    });
+    Ok(started?)
+}
+
+/// What the inputs of some texts are. Each message has a thread of its own, since nothing takes as
+/// long as the digests.
+fn sources_beside<R: Threads + Wait + Sync>(
+    rt: &R,
+    alloc: Global,
+    texts: &Texts,
+) -> Result<Sources, AllocError> {
+    thread::scope(
+        thread::scope_env(),
+        rt,
+        |scope| -> Result<Sources, AllocError> {
+            let plan = start_message(scope, alloc, texts, Kind::Baplie)?;
+            let Ok(moves) = start_message(scope, alloc, texts, Kind::Movins) else {
+                // joined, so that what it found is let go
+                drop(plan.join(rt));
+                return Err(AllocError);
+            };
+            let inputs = texts.inputs();
+            let profile = profile_source(alloc, &inputs.profile);
+            let steps = steps_digest(alloc, inputs.steps);
+            let moves = moves.join(rt);
+            let plan = plan.join(rt);
+            let (profile, name) = profile?;
+            Ok(Sources {
+                profile,
+                name,
+                plan: plan?,
+                moves: moves?,
+                steps: steps?,
+            })
+        },
+    )
+}
+
+/// Starts a thread that works out what the inputs are.
+fn start_sources<'s, E, R: Threads + Wait + Sync>(
+    scope: &Scope<'s, E>,
+    rt: &'s R,
     alloc: Global,
     texts: &'s Texts,
 ) -> Result<PromisedHandle<Result<Sources, AllocError>, Unsaid>, AllocError> {
     let started = scope.spawn_with(Unsaid, move || -> Result<Sources, AllocError> {
-        sources_of(alloc, &texts.inputs())
+        sources_beside(rt, alloc, texts)
     });
     Ok(started?)
 }
@@ -351,7 +405,7 @@ pub fn see_beside<G: Gate, R: Threads + Wait + Sync>(
                 (λ inputs. IsStopOn inputs stop)) }
         {
             let inputs = texts.inputs();
-            let Ok(sources) = start_sources(scope, alloc, texts) else {
+            let Ok(sources) = start_sources(scope, rt, alloc, texts) else {
                 return Err(Stop::NoMemory);
             };
             let Ok(marks) = start_marks(scope, alloc, texts) else {

@@ -1,13 +1,12 @@
 //! The rows of the table of limits, in words.
 use criteria::Criterion;
-use fractions::is_less;
 use hydrostat::Outside;
 use plain_text::{add_line, in_hundredths, in_ten_thousandths, in_tenths, in_thousandths};
 use seq_report::cause_word;
 use std::alloc::{AllocError, Global};
 use std::cmp::Ordering;
 use units_core::Frac;
-use view_figures::{Figures, ListReading, Reading, Row, Used};
+use view_figures::{Figures, ListReading, Reading, Row, Used, is_more};
 use worst_values::Limit;
 
 /// How many places the table of limits has: that of the first condition outside of the ship's
@@ -294,15 +293,6 @@ pub fn add_worst_row(
 
 /// The row that stands where a ship has no least metacentric heights of her own.
 pub const NO_LEAST_GM: &str = "C11 GM, gm.csv, m   not judged: the ship has no gm.csv";
-
-/// Whether one part of a limit is more than another; one that no number tells is more than any.
-pub fn is_more(one: Option<Frac>, other: Option<Frac>) -> bool {
-    match (one, other) {
-        (_, None) => false,
-        (None, Some(_)) => true,
-        (Some(more), Some(less)) => is_less(less, more),
-    }
-}
 
 /// The row that uses most of its limit, of several the first; `None` where there is none.
 pub fn tightest(rows: &[RowText]) -> Option<&RowText> {

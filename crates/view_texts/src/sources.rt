@@ -60,7 +60,7 @@ fn profile_digest(alloc: Global, files: &ProfileBytes<'_>) -> Result<String, All
 }
 
 /// What a message of this kind is.
-fn message_of(alloc: Global, text: &[u8], kind: Kind) -> Result<Message, AllocError> {
+pub fn message_source(alloc: Global, text: &[u8], kind: Kind) -> Result<Message, AllocError> {
     Ok(Message {
         identity: identity_in(alloc, text, kind)?,
         digest: digest_of(alloc, text)?,
@@ -91,15 +91,8 @@ pub fn profile_source(
     Ok((digest, name))
 }
 
-/// The bay plan and the instruction of a run.
-fn messages_of(alloc: Global, inputs: &Inputs<'_>) -> Result<(Message, Message), AllocError> {
-    let plan = message_of(alloc, inputs.baplie, Kind::Baplie)?;
-    let moves = message_of(alloc, inputs.movins, Kind::Movins)?;
-    Ok((plan, moves))
-}
-
 /// The digest of a steps file, if there is one.
-fn steps_digest(alloc: Global, text: Option<&[u8]>) -> Result<Option<String>, AllocError> {
+pub fn steps_digest(alloc: Global, text: Option<&[u8]>) -> Result<Option<String>, AllocError> {
     match text {
         Some(text) => Ok(Some(digest_of(alloc, text)?)),
         None => Ok(None),
@@ -108,7 +101,8 @@ fn steps_digest(alloc: Global, text: Option<&[u8]>) -> Result<Option<String>, Al
 
 /// What the inputs of a run are.
 pub fn sources_of(alloc: Global, inputs: &Inputs<'_>) -> Result<Sources, AllocError> {
-    let (plan, moves) = messages_of(alloc, inputs)?;
+    let plan = message_source(alloc, inputs.baplie, Kind::Baplie)?;
+    let moves = message_source(alloc, inputs.movins, Kind::Movins)?;
     let (profile, name) = profile_source(alloc, &inputs.profile)?;
     let steps = steps_digest(alloc, inputs.steps)?;
     Ok(Sources {

@@ -68,7 +68,7 @@ pub fn worst_shear(frames: &[Frame], shear: &[i128; 16], step: u32) -> Option<Va
 }
 
 /// The limit of a bending moment, by its sign.
-pub fn limit_for(frame: &Frame, load: i128) -> i64
+pub fn bending_limit(frame: &Frame, load: i128) -> i64
     ensures { result ≡ bending_limit frame.now load }
 {
     if 0 <= load {
@@ -89,7 +89,7 @@ pub fn worst_bending(frames: &[Frame], bending: &[i128; 16], step: u32) -> Optio
         let load = bending[i];
         worst = joined(
             worst,
-            Some(part_of(load, limit_for(&frames[i], load), step, i as u32)),
+            Some(part_of(load, bending_limit(&frames[i], load), step, i as u32)),
         );
     }
     worst

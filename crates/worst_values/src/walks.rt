@@ -16,10 +16,10 @@ ghost use Rattle.worst_values.specs.Worst.{joined, worst_of};
 
 use crate::candidates::value_of;
 use crate::findings::Findings;
-use crate::limits::limit_at;
+use crate::limits::{Limit, limit_at};
+use crate::noting::{note_bendings, note_shears};
 use crate::rows::Rows;
 use crate::unmet::{unmet_of, unmet_outside};
-use crate::within::are_loads_within;
 use criteria::{Exact, Nearby, exact_into};
 use moment_sums::Totals;
 use port_call::Case;
@@ -49,8 +49,11 @@ fn note_limit(
     ensures others { (j : ℕ) → j ≢ row → row_of rows.new j ≡ row_of rows.old j }
 {
     let limit = limit_at(row);
-    if !are_loads_within(profile, strains, limit, rows.mark(row)) {
-        rows.note(row, value_of(profile, exact, strains, limit, step));
+    let frames = profile.frames().as_slice();
+    match limit {
+        Limit::Shear => note_shears(frames, &strains.shear, row, step, rows),
+        Limit::Bending => note_bendings(frames, &strains.bending, row, step, rows),
+        _ => rows.note(row, value_of(profile, exact, strains, limit, step)),
     }
 }
 

@@ -15,8 +15,8 @@ loop-i-preserved c =
     let r : FitsSigned w128 c.max-most.result = search rules in
     let p : FitsSigned w128 c.percent_of.result = search rules in
     let f : FitsSigned w128 load = search rules in
-    let g : FitsSigned w64 c.limit_for.result = search rules in
-    let limit = simp (to_z-of_z f) at c.limit_for.ensures in
+    let g : FitsSigned w64 c.bending_limit.result = search rules in
+    let limit = simp (to_z-of_z f) at c.bending_limit.ensures in
     let percent = (simp (to_z-of_z f, to_z-of_z g) at c.percent_of.ensures) ∙ ap (λ (m : ℤ). percent_of load m) limit in
     let step = (simp (to_z-of_z p) at c.max-most.ensures.value) in
     simp (to_z-of_z r)

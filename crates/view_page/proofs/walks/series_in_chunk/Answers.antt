@@ -25,7 +25,7 @@ loop-k-preserved c =
     let here : start + n ≡ k = omega arith in
     let more : n + 1 ≡ k + 1 - start = omega arith in
     let s = values c.loop-k.sum in
-    let drawn = c.plot-drawn.ensures ∙ plotted_here case ready k s inv.sum.value in
+    let drawn = c.in_ok-drawn.ensures ∙ plotted_here case ready k s inv.sum.value in
     record {
       plotted = c.in_ok-push.ensures.items
           ∙ (λ i. inv.plotted i ++ drawn i ∷ [])

@@ -15,9 +15,9 @@ loop-i-preserved c =
     let frame = c.index-frames-i.result in
     let load = get_or c.args.bending.now i (pos 0) in
     let f : FitsSigned w128 load = search rules in
-    let g : FitsSigned w64 c.limit_for.result = search rules in
+    let g : FitsSigned w64 c.bending_limit.result = search rules in
     let part = simp (to_z-of_z f, to_z-of_z g) at c.part_of.ensures in
-    let limit = simp (to_z-of_z f) at c.limit_for.ensures in
+    let limit = simp (to_z-of_z f) at c.bending_limit.ensures in
     let at_frame : Frame → ℕ → Candidate = λ fr k. record { step = c.args.step; place = k; safety = part_of (at c.args.bending.now k) (bending_limit fr (at c.args.bending.now k)) } in
     let all : List Frame → ℕ → List Candidate = λ fs k. bendings (λ j. at c.args.bending.now j) c.args.step fs k in
     let now = option_map candidate_of c.loop-i.worst in
