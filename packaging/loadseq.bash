@@ -3,7 +3,7 @@ _loadseq() {
     local word="${COMP_WORDS[COMP_CWORD]}" before="${COMP_WORDS[COMP_CWORD - 1]}" options
     COMPREPLY=()
     if [ "$COMP_CWORD" = 1 ]; then
-        mapfile -t COMPREPLY < <(compgen -W "check first whatif summary explain page table profile --help --version" -- "$word")
+        mapfile -t COMPREPLY < <(compgen -W "check first whatif summary explain page table session profile --help --version" -- "$word")
     elif [ "$before" = --workers ] || [ "$before" = --chunk ] || [ "$before" = --step ]; then
         return
     elif [ "$before" = --format ]; then
@@ -14,6 +14,7 @@ _loadseq() {
         case "${COMP_WORDS[1]}" in
             explain) options+=" --step" ;;
             table) options+=" --format" ;;
+            session) options+=" --desk --prompt" ;;
         esac
         mapfile -t COMPREPLY < <(compgen -W "$options" -- "$word")
     else

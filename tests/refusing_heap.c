@@ -120,6 +120,8 @@ struct run {
 static int run_with(unsigned growth, unsigned start, struct run *run) {
     run->out = memfd_create("out", 0);
     run->err = memfd_create("err", 0);
+    /* The lines of a session are read anew. */
+    lseek(0, 0, SEEK_SET);
     atomic_store(was_refused, 0);
     pid_t process = fork();
     if (process == 0) {
@@ -143,10 +145,13 @@ static char *text_in(int file, size_t *size) {
     return text;
 }
 
-/* Whether a text is the front of another, and one that the command may leave: none, or lines of answers to edits. */
+/* Whether a text is the front of another, and one that the command may leave: none, lines of answers to edits, or the first lines of a
+   table or of a session. */
 static int is_front(const char *command, const char *text, size_t size, const char *whole, size_t all) {
     if (size > all || memcmp(text, whole, size) != 0)
         return 0;
+    if (strcmp(command, "table") == 0 || strcmp(command, "session") == 0)
+        return size == 0 || text[size - 1] == '\n';
     if (strcmp(command, "whatif") != 0)
         return size == 0;
     for (const char *line = text; *line != 0; line = strchr(line, '\n') + 1)

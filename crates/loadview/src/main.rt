@@ -7,6 +7,7 @@ use claim_run::Open;
 use command_line::words;
 use run_files::{Disk, Stop, report_stop};
 use std::alloc::{AllocError, Global};
+use std::io::BufReader;
 use std::process::ExitCode;
 use std::sync::Wait;
 use std::thread::Threads;
@@ -27,6 +28,9 @@ fn run(rt: &HostRuntime, threads: &(impl Threads + Wait + Sync)) -> Result<u8, S
     let words = words(rt, rt.alloc())?;
     let list = lend_words(rt.alloc(), &words)?;
     let mut disk = Disk::new(rt);
+    let Ok(mut input) = BufReader::new(rt.alloc(), rt.stdin()) else {
+        return Err(Stop::NoMemory);
+    };
     let mut out = rt.stdout();
     let mut err = rt.stderr();
     Ok(serve_view(
@@ -35,6 +39,7 @@ fn run(rt: &HostRuntime, threads: &(impl Threads + Wait + Sync)) -> Result<u8, S
         &Open,
         &mut disk,
         &list,
+        &mut input,
         &mut out,
         &mut err,
     ))

@@ -27,8 +27,11 @@ use Rattle.command_line.specs.declared.lines.LineFault.TheVariants as line
 use Rattle.run_files.specs.Statuses.{IsUnread, status_of, status_on, stop_of_line, stop_of_run}
 use Rattle.view_program.specs.declared.words.View.{View}
 use Rattle.view_program.specs.declared.words.View.TheVariants.{Summary, Explain, Page, Table}
+use Rattle.view_program.specs.declared.words.SessionLine.{SessionLine}
 use Rattle.view_program.specs.declared.words.ViewLine.{ViewLine}
-use Rattle.view_program.specs.Answers.{IsAnswerBy, IsAnswerOf, IsAnswerOn, IsProfileAnswer, IsProfileAnswerOn, IsRefusalTold, IsRefusedBy, IsShownBy, IsUnrefused, IsUntouched, Taken}
+use Rattle.what_if.specs.Bases.{report_on}
+use Rattle.view_program.specs.Sessions.{IsLeftOn}
+use Rattle.view_program.specs.Answers.{IsAnswerBy, IsAnswerOf, IsAnswerOn, IsProfileAnswer, IsProfileAnswerOn, IsRefusalTold, IsRefusedBy, IsSessionOf, IsSessionOn, IsShownBy, IsUnrefused, IsUntouched, Taken}
 use Rattle.view_program.specs.Shown.{IsShown, IsStopOn, IsTable, IsTextOf, OfTexts, OnFiles, files_of, first_in, report_lines}
 
 -- inputs of which no port call was read
@@ -108,6 +111,20 @@ module _ (known : List ℕ → Known) (line : ViewLine) (texts : RunTexts) (read
   on_answer status old new (inl h) = inl (h.0, on_files (λ inputs. IsShown (IsTextOf line) inputs status h.0) h.1, h.2)
   on_answer status old new (inr h) = inr (inl (h.0, h.1, on_files (λ inputs. outcome_of inputs ≡ Err h.1) h.2, h.3))
 
+status_few : (first : Option (ℕ × Criterion)) → status_on first ≤ 1
+status_few None = omega arith
+status_few (Some failing) = omega arith
+
+-- what is left of a session has the status of a report
+pub left_few : (inputs : Inputs) (status : ℕ) (text : List ℕ) → IsLeftOn inputs status text → status ≤ 1
+left_few inputs status text h = subst (λ (n : ℕ). n ≤ 1) (sym h.3.3) (status_few (report_on h.0 h.3.0.session.ops).summary.first)
+
+-- a session on some texts, as one on the files of its line
+pub on_session : (known : List ℕ → Known) (line : SessionLine) (texts : RunTexts) → AreTexts known (files_of line.call) texts
+    → (status : ℕ) (old new : Taken) → IsSessionOn texts status old new → IsSessionOf known line status old new
+on_session known line texts read status old new (inl h) = inl (h.0, on_files known line.call texts read (λ inputs. IsLeftOn inputs status h.0) h.1, h.2)
+on_session known line texts read status old new (inr h) = inr (inl (h.0, h.1, on_files known line.call texts read (λ inputs. outcome_of inputs ≡ Err h.1) h.2, h.3))
+
 -- no run that is stopped has the status of a report, or of a refusal
 pub at_least : (stop : Stop) → 2 ≤ status_of stop
 at_least (Refused fault) = omega arith
@@ -125,10 +142,6 @@ not_refusal NoMemory h two = omega arith
 not_refusal (Read name) h two = omega arith
 not_refusal Write h two = omega arith
 
-status_few : (first : Option (ℕ × Criterion)) → status_on first ≤ 1
-status_few None = omega arith
-status_few (Some failing) = omega arith
-
 -- what an answer is by its status
 module _ (known : List ℕ → Known) (status : ℕ) (old new : Taken) where
   shown_line : status ≤ 1 → (line : ViewLine) → IsAnswerOf known line status old new → IsShownBy known status old new
@@ -137,16 +150,22 @@ module _ (known : List ℕ → Known) (status : ℕ) (old new : Taken) where
   shown_line few line (inr (inr five)) = absurd (omega (arith, few, five))
 
   shown_read : status ≤ 1 → (folder : List ℕ) (texts : profile.Texts) → AreShipTexts known folder texts → IsProfileAnswerOn texts status old new → IsShownBy known status old new
-  shown_read few folder texts files (inl h) = inr (folder, h.0, (texts, files, h.1, h.2))
+  shown_read few folder texts files (inl h) = inr (inl (folder, h.0, (texts, files, h.1, h.2)))
   shown_read few folder texts files (inr h) = absurd (omega (arith, few, h.0))
 
   shown_folder : status ≤ 1 → (folder : List ℕ) → IsProfileAnswer known folder status old new → IsShownBy known status old new
   shown_folder few folder (inl h) = shown_read few folder h.0 h.1 h.2
   shown_folder few folder (inr five) = absurd (omega (arith, few, five))
 
+  shown_session : status ≤ 1 → (line : SessionLine) → IsSessionOf known line status old new → IsShownBy known status old new
+  shown_session few line (inl h) = inr (inr (line, h))
+  shown_session few line (inr (inl h)) = absurd (omega (arith, few, h.0))
+  shown_session few line (inr (inr five)) = absurd (omega (arith, few, five))
+
   pub shown_by : status ≤ 1 → IsAnswerBy known status old new → IsShownBy known status old new
   shown_by few (inl h) = shown_line few h.0 h.1
-  shown_by few (inr h) = shown_folder few h.0 h.1
+  shown_by few (inr (inl h)) = shown_folder few h.0 h.1
+  shown_by few (inr (inr h)) = shown_session few h.0 h.1
 
   refused_line : status ≡ 2 → (line : ViewLine) → IsAnswerOf known line status old new → IsRefusedBy known old new
   refused_line two line (inl h) = absurd (omega (arith, two, h.1.3.2, status_few (first_in h.1.3.0)))
@@ -155,15 +174,21 @@ module _ (known : List ℕ → Known) (status : ℕ) (old new : Taken) where
 
   refused_read : status ≡ 2 → (folder : List ℕ) (texts : profile.Texts) → AreShipTexts known folder texts → IsProfileAnswerOn texts status old new → IsRefusedBy known old new
   refused_read two folder texts files (inl h) = absurd (omega (arith, two, h.0))
-  refused_read two folder texts files (inr h) = inr (folder, (texts, files, h.1, h.2, h.3))
+  refused_read two folder texts files (inr h) = inr (inl (folder, (texts, files, h.1, h.2, h.3)))
 
   refused_folder : status ≡ 2 → (folder : List ℕ) → IsProfileAnswer known folder status old new → IsRefusedBy known old new
   refused_folder two folder (inl h) = refused_read two folder h.0 h.1 h.2
   refused_folder two folder (inr five) = absurd (omega (arith, two, five))
 
+  refused_session : status ≡ 2 → (line : SessionLine) → IsSessionOf known line status old new → IsRefusedBy known old new
+  refused_session two line (inl h) = absurd (omega (arith, two, left_few h.1.0 status h.0 h.1.3))
+  refused_session two line (inr (inl h)) = inr (inr (line, h.1, h.2, h.3))
+  refused_session two line (inr (inr five)) = absurd (omega (arith, two, five))
+
   pub refused_by : status ≡ 2 → IsAnswerBy known status old new → IsRefusedBy known old new
   refused_by two (inl h) = refused_line two h.0 h.1
-  refused_by two (inr h) = refused_folder two h.0 h.1
+  refused_by two (inr (inl h)) = refused_folder two h.0 h.1
+  refused_by two (inr (inr h)) = refused_session two h.0 h.1
 
 -- a table was written: its heading, its lines, and what stands behind them
 pub table_written : (form : Form) (case : CaseRecord) (old mid late new : Option (List ℕ)) (heading end : List ℕ) (first : Option (ℕ × Criterion)) → Appends old mid heading

@@ -13,7 +13,9 @@ use Rattle.run_files.specs.Files.{AreShipTexts, Known, RunTexts}
 use Rattle.run_files.specs.Statuses.{stop_text}
 use Rattle.view_program.specs.declared.words.View.TheVariants.{Summary, Explain, Page, Table}
 use Rattle.view_program.specs.declared.words.View.{View}
+use Rattle.view_program.specs.declared.words.SessionLine.{SessionLine}
 use Rattle.view_program.specs.declared.words.ViewLine.{ViewLine}
+use Rattle.view_program.specs.Sessions.{IsLeftOn}
 use Rattle.view_program.specs.Shown.{IsShown, IsTextOf, OfTexts, OnFiles}
 
 -- what a stream has taken, where that is known
@@ -76,11 +78,28 @@ IsProfileAnswer known folder status old new =
     × IsProfileAnswerOn texts status old new)
     ⊎ (status ≡ 5)
 
--- how a run on some words ends: on a port call, or on a profile
+-- how a session on some texts ends: what is left of it was written, or the report is refused, and
+-- nothing is written
+abbrev pub IsSessionOn : RunTexts → ℕ → Taken → Taken → Type 0
+IsSessionOn texts status old new =
+    HasWritten old new (λ text. OfTexts texts (λ inputs. IsLeftOn inputs status text))
+    ⊎ ((status ≡ 2) × (fault : RunFault) × OfTexts texts (λ inputs. outcome_of inputs ≡ Err fault)
+    × (new ≡ old))
+
+-- the same on the files that a line names, one of which may be unread
+abbrev pub IsSessionOf : (List ℕ → Known) → SessionLine → ℕ → Taken → Taken → Type 0
+IsSessionOf known line status old new =
+    HasWritten old new (λ text. OnFiles known line.call (λ inputs. IsLeftOn inputs status text))
+    ⊎ (((status ≡ 2) × (fault : RunFault)
+    × OnFiles known line.call (λ inputs. outcome_of inputs ≡ Err fault) × (new ≡ old))
+    ⊎ (status ≡ 5))
+
+-- how a run on some words ends: on a port call, on a profile, or as a session
 abbrev pub IsAnswerBy : (List ℕ → Known) → ℕ → Taken → Taken → Type 0
 IsAnswerBy known status old new =
     ((line : ViewLine) × IsAnswerOf known line status old new)
-    ⊎ ((folder : List ℕ) × IsProfileAnswer known folder status old new)
+    ⊎ (((folder : List ℕ) × IsProfileAnswer known folder status old new)
+    ⊎ ((line : SessionLine) × IsSessionOf known line status old new))
 
 -- the profile of a folder is read
 abbrev pub IsProfileRead : (List ℕ → Known) → List ℕ → Type 0
@@ -88,12 +107,14 @@ IsProfileRead known folder =
     (texts : profile.Texts) × AreShipTexts known folder texts
     × (ship : ProfileRecord) × (profile.record_of texts ≡ Ok ship)
 
--- what a run shows: a text on a port call, or the profile of a folder
+-- what a run shows: a text on a port call, the profile of a folder, or what is left of a session
 abbrev pub IsShownBy : (List ℕ → Known) → ℕ → Taken → Taken → Type 0
 IsShownBy known status old new =
     ((line : ViewLine) × HasWritten old new (λ text. OnFiles known line
     (λ inputs. IsShown (IsTextOf line) inputs status text)))
-    ⊎ ((folder : List ℕ) × (status ≡ 0) × IsProfileRead known folder)
+    ⊎ (((folder : List ℕ) × (status ≡ 0) × IsProfileRead known folder)
+    ⊎ ((line : SessionLine) × HasWritten old new (λ text. OnFiles known line.call
+    (λ inputs. IsLeftOn inputs status text))))
 
 -- a profile is refused, and nothing is written
 abbrev pub IsProfileRefused : (List ℕ → Known) → List ℕ → Taken → Taken → Type 0
@@ -101,10 +122,13 @@ IsProfileRefused known folder old new =
     (texts : profile.Texts) × AreShipTexts known folder texts
     × (fault : ProfileFault) × (profile.record_of texts ≡ Err fault) × (new ≡ old)
 
--- the report on the files of some line is refused, and that is told; or a profile is
+-- the report on the files of some line is refused, and that is told; or a profile is, or what a
+-- session begins with
 abbrev pub IsRefusedBy : (List ℕ → Known) → Taken → Taken → Type 0
 IsRefusedBy known old new =
     ((line : ViewLine) × (fault : RunFault)
     × OnFiles known line (λ inputs. outcome_of inputs ≡ Err fault)
     × IsRefusalTold line.view fault old new)
-    ⊎ ((folder : List ℕ) × IsProfileRefused known folder old new)
+    ⊎ (((folder : List ℕ) × IsProfileRefused known folder old new)
+    ⊎ ((line : SessionLine) × (fault : RunFault)
+    × OnFiles known line.call (λ inputs. outcome_of inputs ≡ Err fault) × (new ≡ old)))

@@ -5,6 +5,7 @@
 
 mod refusing;
 mod serving;
+mod sessions;
 mod words;
 mod working;
 

@@ -5,23 +5,25 @@ ghost use Rattle.seq_report.specs.Written.{HasWritten};
 ghost use Rattle.ship_profile.specs.Record.{texts_of};
 ghost use Rattle.view_program.specs.Answers.{IsAnswerBy, IsAnswerOf, IsAnswerOn};
 ghost use Rattle.view_program.specs.Answers.{IsProfileAnswer, IsProfileAnswerOn, IsRefusedBy};
-ghost use Rattle.view_program.specs.Answers.{IsShownBy, IsUnrefused, IsUntouched};
+ghost use Rattle.view_program.specs.Answers.{IsUnrefused, IsUntouched};
+ghost use Rattle.view_program.specs.Answers.{IsSessionOf, IsSessionOn, IsShownBy};
 ghost use Rattle.view_program.specs.Shown.{IsExplanation, IsPage, IsShown, IsStopOn, IsSummary};
 ghost use Rattle.view_program.specs.Shown.{IsTable, IsTextOf, OfTexts, files_of, first_in};
 
 use crate::refusing::{REFUSED, put, tell_refusal, tell_unread};
-use crate::words::{Command, View, ViewLine, names_of, read_command};
+use crate::sessions::session_to;
+use crate::words::{Command, SessionLine, View, ViewLine, names_of, read_command};
 use crate::working::{Beside, Looks, Seen, see, see_beside, work};
 use claim_run::{Gate, Workers};
 use command_line::{Line, Task};
 use criteria::Criterion;
 use plain_text::count_of;
 use port_call::{Inputs, RunFault};
-use run_files::{Readers, Stop, Texts, read_folder, read_texts, report_stop, status_on};
+use run_files::{Makers, Readers, Stop, Texts, read_folder, read_texts, report_stop, status_on};
 use seq_report::{Lines, write_last_line};
 use ship_profile::{Profile, ProfileBytes, ProfileFault};
 use std::alloc::{AllocError, Global};
-use std::io::Write;
+use std::io::{BufRead, Write};
 use std::sync::Wait;
 use std::thread::Threads;
 use view_figures::condition_at;
@@ -572,14 +574,97 @@ fn profile_to<R: Readers, O: Write, E: Write>(
     }
 }
 
+/// Holds a session on the texts of its files, or tells of their refusal, and gives the exit status.
+#[tactic(auto, using(crate::proofs::ShownLemmas::unrefused_other))]
+fn session_on<
+    M: Readers + Makers,
+    G: Gate,
+    T: Threads + Wait + Sync,
+    I: BufRead,
+    O: Write,
+    E: Write,
+>(
+    rt: &T,
+    alloc: Global,
+    gate: &G,
+    files: &mut M,
+    texts: &Texts,
+    line: SessionLine<'_>,
+    input: &mut I,
+    out: &mut O,
+    err: &mut E,
+) -> Result<u8, Stop>
+    ensures answered { IfOk result (λ status.
+        IsSessionOn texts.now status (O.contents out.old) (O.contents out.new)) }
+    ensures status { IfOk result (λ status. status ≤ 2) }
+    ensures quiet { IfOk result
+        (λ status. status ≤ 1 → E.contents err.new ≡ E.contents err.old) }
+    ensures stopped { IfErr result IsUnrefused }
+{
+    let stop = match session_to(rt, alloc, gate, files, texts, line, input, out) {
+        Ok(status) => return Ok(status),
+        Err(stop) => stop,
+    };
+    match stop {
+        Stop::Refused(fault) => {
+            // Told as of a summary: beside what was asked for.
+            let call = ViewLine {
+                view: View::Summary,
+                ..line.call
+            };
+            tell_refusal(alloc, fault, &texts.inputs(), call, out, err)
+        }
+        stop => Err(stop),
+    }
+}
+
+/// Holds a session on the files of a line, or tells why there is none, and gives the exit status.
+fn session_line_to<
+    M: Readers + Makers,
+    G: Gate,
+    T: Threads + Wait + Sync,
+    I: BufRead,
+    O: Write,
+    E: Write,
+>(
+    rt: &T,
+    alloc: Global,
+    gate: &G,
+    files: &mut M,
+    line: SessionLine<'_>,
+    input: &mut I,
+    out: &mut O,
+    err: &mut E,
+) -> Result<u8, Stop>
+    ensures answered { IfOk result (λ status. IsSessionOf (M.known files.old) line.entry status
+        (O.contents out.old) (O.contents out.new)) }
+    ensures status { IfOk result (λ status. status ≤ 5) }
+    ensures quiet { IfOk result
+        (λ status. status ≤ 1 → E.contents err.new ≡ E.contents err.old) }
+    ensures stopped { IfErr result IsUnrefused }
+{
+    match read_texts(alloc, files, files_of(line.call)) {
+        Ok(texts) => session_on(rt, alloc, gate, files, &texts, line, input, out, err),
+        Err(stop) => tell_unread(alloc, stop, false, out, err),
+    }
+}
+
 /// Writes what the words of a command line ask for, or tells why there is no such text, and gives
 /// the exit status.
-fn run_words<R: Readers, G: Gate, T: Threads + Wait + Sync, O: Write, E: Write>(
+fn run_words<
+    R: Readers + Makers,
+    G: Gate,
+    T: Threads + Wait + Sync,
+    I: BufRead,
+    O: Write,
+    E: Write,
+>(
     rt: &T,
     alloc: Global,
     gate: &G,
     files: &mut R,
     words: &[&str],
+    input: &mut I,
     out: &mut O,
     err: &mut E,
 ) -> Result<u8, Stop>
@@ -593,26 +678,41 @@ fn run_words<R: Readers, G: Gate, T: Threads + Wait + Sync, O: Write, E: Write>(
     match read_command(alloc, words) {
         Ok(Command::Call(line)) => line_to(rt, alloc, gate, files, line, out, err),
         Ok(Command::Profile { folder }) => profile_to(alloc, files, folder, out, err),
+        Ok(Command::Session(session)) => {
+            session_line_to(rt, alloc, gate, files, session, input, out, err)
+        }
         Err(fault) => Err(Stop::from(fault)),
     }
 }
 
 /// The whole program over readers and writers: the text goes to `out`, and what stopped it to
-/// `err`. The exit status is that of the report on the same inputs, 0 or 1; or 2 an input is
-/// refused, 3 usage error or help, 4 out of memory, 5 a file can't be read or `out` can't be
-/// written. A fault of `err` changes nothing.
+/// `err`; a session reads its lines from `input`. The exit status is that of the report on the same
+/// inputs, 0 or 1; or 2 an input is refused, 3 usage error or help, 4 out of memory, 5 a file can't
+/// be read or `out` can't be written. A fault of `err` changes nothing, and an `input` that can't
+/// be read is at its end.
+///
+/// A session ends with the last line of the report on the list that is left, to which the edits
+/// lead that it keeps, and with the status of that report.
 ///
 /// The profile of a folder is read back where it is read at all. Of a port call, a summary ends
 /// with the last line of the report, an explanation begins with it, and a table has the figures of
 /// each of its lines. An input is refused where the report refuses it: then its line with an
 /// explanation behind it goes to `out` where an explanation was asked for, and to `err`, without
 /// anything on `out`, where anything else was; a file that can't be read is told of likewise.
-pub fn serve_view<R: Readers, G: Gate, T: Threads + Wait + Sync, O: Write, E: Write>(
+pub fn serve_view<
+    R: Readers + Makers,
+    G: Gate,
+    T: Threads + Wait + Sync,
+    I: BufRead,
+    O: Write,
+    E: Write,
+>(
     rt: &T,
     alloc: Global,
     gate: &G,
     files: &mut R,
     words: &[&str],
+    input: &mut I,
     out: &mut O,
     err: &mut E,
 ) -> u8
@@ -623,7 +723,7 @@ pub fn serve_view<R: Readers, G: Gate, T: Threads + Wait + Sync, O: Write, E: Wr
         (O.contents out.old) (O.contents out.new) }
     ensures quiet { result ≤ 1 → E.contents err.new ≡ E.contents err.old }
 {
-    match run_words(rt, alloc, gate, files, words, out, err) {
+    match run_words(rt, alloc, gate, files, words, input, out, err) {
         Ok(status) => status,
         Err(stop) => report_stop(&stop, err),
     }

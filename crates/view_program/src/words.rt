@@ -26,6 +26,19 @@ pub enum Command<'a> {
     Call(ViewLine<'a>),
     /// The ship's profile in a folder, read back.
     Profile { folder: &'a str },
+    /// A session on a port call.
+    Session(SessionLine<'a>),
+}
+
+/// The words of a command line that asks for a session.
+#[derive(Clone, Copy, Debug, PartialEq, Eq)]
+pub struct SessionLine<'a> {
+    /// The port call.
+    pub call: ViewLine<'a>,
+    /// Each line is asked for.
+    pub is_prompted: bool,
+    /// The folder to which orders are published, if one is given.
+    pub desk: Option<&'a str>,
 }
 
 /// The words of a command line on a port call, as they were given.
@@ -62,7 +75,7 @@ pub fn names_of<'a>(line: ViewLine<'a>) -> Names<'a> {
 }
 
 /// The usage text where the first word is no command.
-const USAGE: &str = "usage: loadseq summary|explain|page|table|profile";
+const USAGE: &str = "usage: loadseq summary|explain|page|table|session|profile";
 
 /// What help says of the commands, of each of their words, and of their options.
 const ABOUT_SUMMARY: &str =
@@ -79,6 +92,14 @@ const ABOUT_TABLE: &str =
 
 const ABOUT_PROFILE: &str =
     "Writes the ship's profile back in tonnes, metres and degrees, with a warning for whatever looks wrong";
+
+const ABOUT_SESSION: &str =
+    "Tries edits of the order one by one from standard input, and says after each what it changes";
+
+const ABOUT_PROMPT: &str = "Asks for each line";
+
+const ABOUT_DESK: &str =
+    "A folder that colleagues share: orders are published to it, and opened from it";
 
 const ABOUT_FOLDER: &str = "The folder of the ship's profile: ship.toml and her tables";
 
@@ -285,6 +306,50 @@ fn profile_for<'a>(alloc: Global, words: &'a [&'a str]) -> Result<Command<'a>, L
     }
 }
 
+/// The command that asks for a session.
+fn session_words<'a>(alloc: Global) -> Result<Words<'a>, AllocError> {
+    Words::new(alloc, "loadseq session")
+        .about(ABOUT_SESSION)
+        .no_binary_name(true)
+        .arg(word(alloc, "FOLDER", ABOUT_FOLDER))?
+        .arg(word(alloc, "BAPLIE", ABOUT_BAPLIE))?
+        .arg(word(alloc, "MOVINS", ABOUT_MOVINS))?
+        .arg(steps(alloc))
+}
+
+/// The same with its options.
+fn session_command<'a>(alloc: Global) -> Result<Words<'a>, AllocError> {
+    let prompt = Arg::new(alloc, "prompt")
+        .long("prompt")
+        .action(ArgAction::SetTrue)
+        .help(ABOUT_PROMPT);
+    let command = session_words(alloc)?
+        .arg(prompt)?
+        .arg(number(alloc, "desk", "FOLDER", ABOUT_DESK))?;
+    with_numbers(alloc, command)
+}
+
+/// What `clap` makes of the words behind it.
+fn session_matches<'a>(alloc: Global, words: &'a [&'a str]) -> Result<ArgMatches<'a>, clap::Error> {
+    let command = session_command(alloc)?;
+    command.try_get_matches_from(words)
+}
+
+/// The session that the words ask for.
+fn session_for<'a>(alloc: Global, words: &'a [&'a str]) -> Result<Command<'a>, LineFault> {
+    match session_matches(alloc, words) {
+        Ok(matches) => match line_of(View::Summary, &matches) {
+            Some(call) => Ok(Command::Session(SessionLine {
+                call,
+                is_prompted: matches.get_flag("prompt"),
+                desk: matches.get_str("desk"),
+            })),
+            None => Err(usage(alloc, USAGE)),
+        },
+        Err(error) => Err(usage_fault(alloc, &error)),
+    }
+}
+
 /// The text on a port call that the words ask for.
 fn call_for<'a>(alloc: Global, view: View, words: &'a [&'a str]) -> Result<Command<'a>, LineFault> {
     match line_for(alloc, view, words) {
@@ -305,6 +370,7 @@ pub fn read_command<'a>(alloc: Global, words: &'a [&'a str]) -> Result<Command<'
         "explain" => call_for(alloc, View::Explain, behind),
         "page" => call_for(alloc, View::Page, behind),
         "table" => call_for(alloc, View::Table, behind),
+        "session" => session_for(alloc, behind),
         "profile" => profile_for(alloc, behind),
         _ => Err(usage(alloc, USAGE)),
     }

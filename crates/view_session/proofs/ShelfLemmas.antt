@@ -1,5 +1,5 @@
 -- What a shelf holds under a number, and what one more publication makes of its trails.
-use Rattle.std.proofs.Common.{◌≡◌, ℕ, List, [], ◌∷◌, ◌++◌, Some, refl, sym, ap, ◌∙◌, subst, suc, map, option_map, slice_get, All}
+use Rattle.std.proofs.Common.{◌≡◌, ℕ, List, [], ◌∷◌, ◌++◌, Some, refl, sym, ap, ◌∙◌, subst, suc, map, option_map, slice_get, length, Option, All}
 use Rattle.std.proofs.lemmas.Option.{slice_get-map, slice_get_within, get_or_from_slice_get}
 use Rattle.std.proofs.lemmas.List.Elements.{All-get_or, All-push}
 use Rattle.std.proofs.lemmas.List.{map-append}
@@ -7,7 +7,7 @@ use Rattle.lift_sequence.specs.declared.operations.Op.{Op}
 use Rattle.port_call.specs.Grounds.{GroundRecord}
 use Rattle.view_session.specs.declared.shelves.Kept.{Kept}
 use Rattle.view_session.specs.Kept.{kept_of}
-use Rattle.view_session.specs.Shelves.{KeptRecord, published}
+use Rattle.view_session.specs.Shelves.{IsOpened, KeptRecord, ShelfRecord, published}
 use Rattle.view_session.specs.Trails.{IsTrail, Leads, TriedRecord}
 use Rattle.view_session.proofs.TrailLemmas.{leads_of}
 
@@ -40,3 +40,11 @@ trails_on base from items items' k more all lead =
 pub copies_led : (base : GroundRecord) (from : List Op) (t : TriedRecord) (lines : List (List ℕ)) (ops : List Op) →
     base ≡ t.session.base → lines ≡ t.lines → ops ≡ t.session.ops → IsTrail from t → Leads base from lines ops
 copies_led base from t lines ops b l o h = rw b (rw l (rw o (leads_of t.session.base from t.lines t.session.ops t.session.past h)))
+
+-- the only publication of a shelf
+pub opened_last : (before shelf : ShelfRecord) (k : KeptRecord) (number : ℕ) (tried : TriedRecord) → before.kept ≡ [] → shelf.kept ≡ before.kept ++ k ∷ []
+    → number ≡ length shelf.kept → IsOpened shelf (published shelf.kept number) (Some tried) → IsOpened shelf (Some k) (Some tried)
+opened_last before shelf k number tried none more is opened =
+    let one : shelf.kept ≡ k ∷ [] = more ∙ ap (λ (ks : List KeptRecord). ks ++ k ∷ []) none in
+    let first : number ≡ 1 = is ∙ ap (λ (ks : List KeptRecord). length ks) one in
+    subst (λ (o : Option KeptRecord). IsOpened shelf o (Some tried)) (λ i. published (one i) (first i)) opened

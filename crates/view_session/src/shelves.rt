@@ -105,3 +105,21 @@ impl Shelf {
         Ok(Some(Tried::with(session, lines)))
     }
 }
+
+impl Tried {
+    /// The same list with the lines that led to it, in a session that has nothing to take back.
+    pub fn without_past<R: Wait>(&self, rt: &R, alloc: Global) -> Result<Tried, AllocError>
+        ensures base { IfOk result (λ t. t.session.base ≡ self.now.session.base) }
+        ensures list { IfOk result (λ t. t.session.ops ≡ self.now.session.ops) }
+        ensures past { IfOk result (λ t. t.session.past ≡ []) }
+        ensures lines { IfOk result (λ t. t.lines ≡ self.now.lines) }
+        ensures trail { (from : List Op) → IsTrail from self.now → IfOk result (IsTrail from) }
+    {
+        let mut shelf = Shelf::new(alloc, self)?;
+        let number = shelf.publish(rt, alloc, self)?;
+        let Some(tried) = shelf.open(alloc, number)? else {
+            return Err(AllocError);
+        };
+        Ok(tried)
+    }
+}
