@@ -9,7 +9,7 @@ use std::test::Fail;
 use strength::{Hull, Strains};
 use units_core::{Frac, floor};
 use view_figures::most_used;
-use worst_values::{Limit, bending_limit, criterion_at, unmet_of, value_of};
+use worst_values::{Findings, Limit, bending_limit, criterion_at, note_line, unmet_of, value_of};
 
 /// The box ship with her centre of gravity so high that GM = 10,333 - 10,184 = 149 mm. The lever at
 /// 30 degrees is 4,900 - 10,184 * 0.5 = -192 mm, so that the area up to there is too small as well;
@@ -49,6 +49,39 @@ impl<R: Abort + AllocGlobal> Check<R> for OneCondition {
 #[test]
 fn values_of_one_condition(rt: HostRuntime) -> Result<(), Fail> {
     on_box_ship(&rt, &OneCondition)
+}
+
+/// Looks at two conditions of the box ship, of which each is found by itself.
+#[derive(Clone, Copy)]
+struct TwoLines;
+
+impl<R: Abort + AllocGlobal> Check<R> for TwoLines {
+    // The mass that lies high up is aboard at line 1, where the area up to 30 degrees is too small
+    // and her GM is least; with the low one she meets all criteria.
+    fn check(&self, rt: &R, profile: &Profile) -> Result<(), Fail> {
+        let hull = Hull::new(profile);
+        let near = &mut Nearby::default();
+        let strains = &mut Strains::default();
+        let mut found = Findings::new(rt.alloc());
+        let mut behind = Findings::new(rt.alloc());
+        let low = sum_of(profile, &[BLOCK])?;
+        let first = note_line(profile, &hull, 0, &low, near, strains, &mut found)?;
+        same(rt, first.is_ok(), true);
+        let high = sum_of(profile, &[HIGH])?;
+        let second = note_line(profile, &hull, 1, &high, near, strains, &mut behind)?;
+        same(rt, second.is_ok(), true);
+        found.join(&behind)?;
+        same(rt, found.rows.get(1).map(|gm| gm.step), Some(1));
+        let (first, last) = found.unmet.parts();
+        same(rt, first.first().map(|stretch| stretch.lines), Some(1));
+        same(rt, [last.unmet[1], last.unmet[2]], [true, true]);
+        Ok(())
+    }
+}
+
+#[test]
+fn lines_found_apart(rt: HostRuntime) -> Result<(), Fail> {
+    on_box_ship(&rt, &TwoLines)
 }
 
 /// How much of its limits the box ship uses at most with this aboard, in millionths.

@@ -1,8 +1,9 @@
 //! How much of its limits a condition uses at most, without what is printed of them.
-ghost use Rattle.std.specs.Prelude.{◌≡◌, ◌*◌, ◌^◌, ◌<◌, ◌≤◌, length, unsigned_abs};
+ghost use Rattle.std.specs.Prelude.{◌≡◌, ◌*◌, ◌^◌, ◌<◌, ◌≤◌, length, pos, ◌≤ℤ◌, unsigned_abs};
 ghost use Rattle.criteria.specs.Least.{IsLeast};
 
 use crate::areas::fine_area;
+use crate::greatest::Greatest;
 use crate::readings::whole;
 use crate::rows::{
     ANGLE_LEAST, AREA_30_TO_40, AREA_TO_30, AREA_TO_40, GM_LEAST, LEVER_LEAST, angle_of,
@@ -60,13 +61,13 @@ fn peak_share(number: usize) -> Option<Frac>
     share_of(whole(ANGLE_LEAST), angle)
 }
 
-/// The greatest share of the levers' limits.
-fn curve_share(curve: &CurveMeasures) -> Option<Frac> {
-    let share = area_share(curve.sum_30, AREA_TO_30);
-    let share = more(share, area_share(curve.sum_40, AREA_TO_40));
-    let share = more(share, area_share(curve.sum_30_40, AREA_30_TO_40));
-    let share = more(share, lever_share(curve.best));
-    more(share, peak_share(curve.greatest))
+/// Joins the shares of the levers' limits.
+fn note_curve(most: &mut Greatest, curve: &CurveMeasures) {
+    most.note(area_share(curve.sum_30, AREA_TO_30));
+    most.note(area_share(curve.sum_40, AREA_TO_40));
+    most.note(area_share(curve.sum_30_40, AREA_30_TO_40));
+    most.note(lever_share(curve.best));
+    most.note(peak_share(curve.greatest));
 }
 
 /// The share of a value of the whole ship that may be at most a whole number.
@@ -106,15 +107,13 @@ fn list_share(profile: &Profile, a: &Afloat) -> Option<Frac> {
     listing_share(list_size(a, gm.num), list_limit(profile))
 }
 
-/// The greatest share of the limits of the draughts and the trim.
-fn draught_share(profile: &Profile, a: &Afloat) -> Option<Frac> {
+/// Joins the shares of the limits of the draughts and the trim.
+fn note_draughts(most: &mut Greatest, profile: &Profile, a: &Afloat) {
     let deepest = length_limit(profile.draught_max());
-    let share = more(
-        share_at_most(draught(a, 0), deepest),
-        share_at_most(draught(a, a.lbp), deepest),
-    );
+    most.note(share_at_most(draught(a, 0), deepest));
+    most.note(share_at_most(draught(a, a.lbp), deepest));
     let trim = size(trim_of(a));
-    more(share, share_at_most(trim, length_limit(profile.trim_max())))
+    most.note(share_at_most(trim, length_limit(profile.trim_max())));
 }
 
 /// The share of a load.
@@ -122,29 +121,89 @@ fn load_share(load: i128, most: i64) -> Option<Frac> {
     share_of(load_size(load), whole(most))
 }
 
+/// A load and its limit, both short: nearly all are, and their shares are compared at once.
+#[derive(Clone, Copy)]
+struct ShortLoad {
+    size: i64,
+    most: i64,
+    pub ghost positive: { pos 1 ≤ℤ most },
+}
+
+/// A load by its limit, where both are short and the limit isn't 0.
+fn short(load: i128, most: i64) -> Option<ShortLoad> {
+    let size = i64::try_from(load_size(load).num).ok()?;
+    if most <= 0 {
+        return None;
+    }
+    Some(ShortLoad { size, most })
+}
+
+/// The product of two short numbers.
+fn product(one: i64, other: i64) -> i128 {
+    i128::from(one) * i128::from(other)
+}
+
+impl ShortLoad {
+    /// Whether less of its limit is used.
+    fn is_less(self, other: ShortLoad) -> bool {
+        product(self.size, other.most) < product(other.size, self.most)
+    }
+
+    /// It as a share.
+    fn share(self) -> Option<Frac> {
+        Some(Frac {
+            num: i128::from(self.size),
+            den: i128::from(self.most),
+        })
+    }
+}
+
+/// The greatest share of loads so far: among the short ones, and among all others.
+#[derive(Clone, Copy)]
+struct Shares {
+    short: ShortLoad,
+    other: Option<Frac>,
+}
+
+impl Shares {
+    /// Joins a load.
+    fn note(&mut self, load: i128, most: i64) {
+        match short(load, most) {
+            Some(short) => {
+                if self.short.is_less(short) {
+                    self.short = short;
+                }
+            }
+            None => self.other = more(self.other, load_share(load, most)),
+        }
+    }
+}
+
 /// The greatest share of the limits of her loads.
 fn strains_share(frames: &[Frame], strains: &Strains) -> Option<Frac>
     requires { length frames.now ≤ 16 }
 {
-    let mut share = NOTHING;
+    let mut shares = Shares {
+        short: ShortLoad { size: 0, most: 1 },
+        other: NOTHING,
+    };
     for at in 0..frames.len() {
         let frame = &frames[at];
         let bending = strains.bending[at];
-        share = more(share, load_share(strains.shear[at], frame.shear_max));
-        share = more(share, load_share(bending, bending_limit(frame, bending)));
+        shares.note(strains.shear[at], frame.shear_max);
+        shares.note(bending, bending_limit(frame, bending));
     }
-    share
+    more(shares.other, shares.short.share())
 }
 
-/// The greatest share of the limits of the metacentric height.
-fn stability_share(a: &Afloat, least: Option<Frac>) -> Option<Frac>
+/// Joins the shares of the limits of the metacentric height.
+fn note_stability(most: &mut Greatest, a: &Afloat, least: Option<Frac>)
     requires { IsLeast least }
 {
     let gm = gm_of(a);
-    let share = gm_share(gm, whole(GM_LEAST));
-    match least {
-        Some(least) => more(share, gm_share(gm, least)),
-        None => share,
+    most.note(gm_share(gm, whole(GM_LEAST)));
+    if let Some(least) = least {
+        most.note(gm_share(gm, least));
     }
 }
 
@@ -155,10 +214,11 @@ pub fn most_used(profile: &Profile, exact: &Exact, strains: &Strains) -> Option<
     requires least { IsLeast exact.now.least }
 {
     let a = &exact.afloat;
-    let closing = load_share(strains.closing, profile.closing_max());
-    let share = more(closing, strains_share(profile.frames().as_slice(), strains));
-    let share = more(share, list_share(profile, a));
-    let share = more(share, draught_share(profile, a));
-    let share = more(share, curve_share(&exact.curve));
-    more(share, stability_share(a, exact.least))
+    let mut most = Greatest::of(strains_share(profile.frames().as_slice(), strains));
+    most.note(load_share(strains.closing, profile.closing_max()));
+    most.note(list_share(profile, a));
+    note_draughts(&mut most, profile, a);
+    note_curve(&mut most, &exact.curve);
+    note_stability(&mut most, a, exact.least);
+    most.share()
 }

@@ -1,10 +1,8 @@
 -- The figures that are drawn, line by line and chunk after chunk.
-use Rattle.std.proofs.Common.{◌≡◌, ◌∙◌, ℕ, ◌+◌, ◌-◌, List, [], ◌∷◌, ◌++◌, length, map, flat_map, ℤ, Option, None, Some, refl, sym, ap, arith}
+use Rattle.std.proofs.Common.{◌≡◌, ◌∙◌, ℕ, ◌+◌, ◌-◌, ◌<◌, List, [], ◌∷◌, ◌++◌, length, map, flat_map, ℤ, Option, None, Some, refl, sym, ap, arith}
 use Rattle.std.specs.List.{range_with_len}
 use Rattle.std.proofs.lemmas.Grind.{flat_map-append}
 use Rattle.std.proofs.lemmas.List.{append-nil, map-append}
-use Rattle.std.proofs.lemmas.List.FromFn.{map-range_with_len_more}
-use Rattle.prefix_scan.specs.Cut.{Divides}
 use Rattle.moment_sums.specs.Sum.{Sum}
 use Rattle.units_core.specs.declared.frames.Frame.{Frame}
 use Rattle.criteria.specs.Assessment.{assessed}
@@ -16,9 +14,12 @@ use Rattle.running_sums.specs.Lines.{chunk_of, sum_in}
 use Rattle.seq_report.specs.Report.{Line}
 use Rattle.seq_report.proofs.ChunkLemmas.{range_join}
 use Rattle.seq_report.proofs.LineLemmas.{line_here}
-use Rattle.worst_values.proofs.GatherLemmas.{all_chunks}
-use Rattle.view_page.specs.Series.{all_plotted, plotted_by, plotted_in, plotted_of}
-use Rattle.view_page.specs.declared.series.Plotted.{Plotted}
+use Rattle.worst_values.proofs.GatherLemmas.{found_by}
+use Rattle.worst_values.specs.Findings.{unmet_at, worst_over}
+use Rattle.worst_values.specs.Rows.{row_of}
+use Rattle.view_page.specs.Charted.{charted_over}
+use Rattle.view_page.specs.Series.{plotted_by, plotted_in, plotted_of}
+use Rattle.view_page.specs.declared.charted.Charted.{Charted}
 
 -- the sum that is kept is that of everything aboard
 pub plotted_here : (case : CaseRecord) → IsReady case → (k : ℕ) (s : Sum) → s ≡ sum_in case k → plotted_by case.profile.ship.frames (judgement_of case.profile s) ≡ plotted_in case k
@@ -35,12 +36,18 @@ plotted_none case start =
     let none : start - start ≡ 0 = omega arith in
     ap (λ (n : ℕ). map (plotted_in case) (range_with_len start n)) none
 
+-- what is found and drawn of some lines, part by part
+pub charted_by : (case : CaseRecord) (ks : List ℕ) (c : Charted) → length c.findings.rows ≡ 14
+    → ((j : ℕ) → j < 14 → row_of c.findings.rows j ≡ worst_over case ks j) → c.findings.unmet ≡ map (unmet_at case) ks
+    → c.series ≡ map (plotted_in case) ks → c ≡ charted_over case ks
+charted_by case ks c long each unmet plotted = λ i. record { findings = found_by case ks c.findings long each unmet i; series = plotted i }
+
 -- chunk by chunk
 module _ (case : CaseRecord) (ends : List ℕ) where
-  abbrev pub chunk_plotted : ℕ → List (Option Plotted)
-  chunk_plotted k = map (plotted_in case) (chunk_of ends k)
+  abbrev pub chunk_charted : ℕ → Charted
+  chunk_charted k = charted_over case (chunk_of ends k)
 
-  pub plotted_chunks : (n : ℕ) → map (plotted_in case) (flat_map (chunk_of ends) (range_with_len 0 n)) ++ chunk_plotted n
+  pub plotted_chunks : (n : ℕ) → map (plotted_in case) (flat_map (chunk_of ends) (range_with_len 0 n)) ++ (chunk_charted n).series
       ≡ map (plotted_in case) (flat_map (chunk_of ends) (range_with_len 0 (n + 1)))
   plotted_chunks n =
       let before = flat_map (chunk_of ends) (range_with_len 0 n) in
@@ -48,6 +55,3 @@ module _ (case : CaseRecord) (ends : List ℕ) where
       ∙ ap (λ (l : List ℕ). map (plotted_in case) (before ++ l)) (sym (append-nil (chunk_of ends n)))
       ∙ ap (map (plotted_in case)) (sym (flat_map-append (chunk_of ends) (range_with_len 0 n) (n ∷ [])))
       ∙ ap (λ (l : List ℕ). map (plotted_in case) (flat_map (chunk_of ends) l)) (range_join 0 n n 1 (n + 1) (omega arith) (omega arith))
-
-  pub plotted_whole : Divides ends (length case.sequence.ops + 1) → map (plotted_in case) (flat_map (chunk_of ends) (range_with_len 0 (length ends))) ≡ all_plotted case
-  plotted_whole d = ap (map (plotted_in case)) (all_chunks case ends d)

@@ -1,3 +1,4 @@
+pub mod Charted
 pub mod Decimation
 pub mod Scales
 pub mod Series

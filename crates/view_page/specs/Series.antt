@@ -1,6 +1,6 @@
 -- The figures that are drawn of each condition: those of the report's line, and of the loads how
 -- much of their limits they use, in percent and rounded up.
-use Rattle.std.specs.Prelude.{ℕ, suc, ℤ, pos, int_lt, unsigned_abs, cond, List, [], ◌∷◌, map, fold}
+use Rattle.std.specs.Prelude.{ℕ, suc, ℤ, pos, int_lt, unsigned_abs, cond, List, [], ◌∷◌, fold}
 use Rattle.std.specs.Prelude.{Option, None, Some}
 use Rattle.std.specs.Int.{int_max}
 use Rattle.std.specs.Ordering.{int_eq}
@@ -10,7 +10,6 @@ use Rattle.fractions.specs.Rounded.{up}
 use Rattle.criteria.specs.Judgement.{Judgement, IsOutside, Fails, Passes, Printed}
 use Rattle.port_call.specs.Cases.{CaseRecord}
 use Rattle.seq_report.specs.Cases.{line_in}
-use Rattle.worst_values.specs.Findings.{all_lines}
 use Rattle.worst_values.specs.Limits.{bending_limit}
 use Rattle.view_page.specs.declared.series.Figure.{Figure}
 use Rattle.view_page.specs.declared.series.Figure.TheVariants as figure
@@ -62,10 +61,6 @@ plotted_by frames (Passes f) = Some (plotted_of frames f)
 -- of the report's line k
 unfoldable pub plotted_in : CaseRecord → ℕ → Option Plotted
 plotted_in case k = plotted_by case.profile.ship.frames (line_in case k).step.judgement
-
--- of all lines
-abbrev pub all_plotted : CaseRecord → List (Option Plotted)
-all_plotted case = map (plotted_in case) (all_lines case)
 
 abbrev pub figure_of : Figure → Plotted → Option ℤ
 figure_of figure.Gm p = Some p.gm

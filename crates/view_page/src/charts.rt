@@ -1,7 +1,7 @@
 //! A chart by step.
 ghost use Rattle.std.specs.Prelude.{◌≤◌};
 
-use crate::decimation::drawn;
+use crate::curves::CurvePoint;
 use crate::escaping::add_escaped;
 use crate::scales::{
     BOTTOM, Extent, Height, LEFT, RIGHT, Scale, TOP, Tenths, add_grid, add_point, add_tick,
@@ -22,12 +22,12 @@ pub enum Axis {
     Degrees,
 }
 
-/// A line of a chart: its colour, its name beside its end, and the figure of each condition.
-#[derive(Drop)]
-pub struct Curve {
+/// A line of a chart: its colour, its name beside its end, and its points.
+#[derive(Clone, Copy, Debug)]
+pub struct Curve<'a> {
     pub class: &'static str,
     pub name: &'static str,
-    pub figures: Vec<Option<i128>>,
+    pub points: &'a [CurvePoint],
 }
 
 /// A limit: what lies on its other side is beyond it.
@@ -48,29 +48,27 @@ pub struct Mark {
 
 /// A chart by step, of so many conditions.
 #[derive(Drop)]
-pub struct Chart {
+pub struct Chart<'a> {
     pub title: &'static str,
     pub unit: &'static str,
     pub axis: Axis,
     pub conditions: u32,
-    pub curves: Vec<Curve>,
+    pub curves: Vec<Curve<'a>>,
     pub bounds: Vec<Bound>,
     pub mark: Option<Mark>,
 }
 
-/// The extent of figures, with those of a curve.
-fn with_curve(extent: Extent, curve: &Curve) -> Extent {
+/// The extent of figures, with those of a curve: its least and its greatest are among its points.
+fn with_curve(extent: Extent, curve: Curve<'_>) -> Extent {
     let mut extent = extent;
-    for figure in &curve.figures {
-        if let Some(figure) = figure {
-            extent = extent.with(*figure);
-        }
+    for point in curve.points {
+        extent = extent.with(point.figure);
     }
     extent
 }
 
 /// The extent of a chart's figures and limits, of which there is one.
-fn extent_of(chart: &Chart) -> Extent {
+fn extent_of(chart: &Chart<'_>) -> Extent {
     let mut extent = match chart.bounds.first() {
         Some(bound) => Extent::of(bound.figure),
         None => Extent::of(0),
@@ -79,14 +77,14 @@ fn extent_of(chart: &Chart) -> Extent {
         extent = extent.with(bound.figure);
     }
     for curve in &chart.curves {
-        extent = with_curve(extent, curve);
+        extent = with_curve(extent, *curve);
     }
     extent
 }
 
 /// The scale of a chart. It begins at 0 where nothing is negative and it would begin below, and
 /// where it is in percent.
-fn scale_of(chart: &Chart) -> Scale {
+fn scale_of(chart: &Chart<'_>) -> Scale {
     let extent = extent_of(chart);
     let mut scale = Scale::of(extent, Height::Low);
     if extent.least >= 0 && (scale.low < 0 || chart.axis == Axis::Percent) {
@@ -96,7 +94,7 @@ fn scale_of(chart: &Chart) -> Scale {
 }
 
 /// Adds the beginning of a chart.
-fn add_heading(text: &mut String, chart: &Chart, label: &str) -> Result<(), AllocError> {
+fn add_heading(text: &mut String, chart: &Chart<'_>, label: &str) -> Result<(), AllocError> {
     let unit = chart.unit;
     text.push_str("<figure><figcaption>")?;
     add_escaped(text, chart.title)?;
@@ -241,37 +239,6 @@ fn add_bound(text: &mut String, scale: &Scale, bound: &Bound) -> Result<(), Allo
     text.push_str("</text>")
 }
 
-/// Whether a condition without a figure lies between two.
-fn is_broken(figures: &[Option<i128>], before: usize, behind: usize) -> bool {
-    for at in before.saturating_add(1)..behind {
-        if let Some(None) = figures.get(at) {
-            return true;
-        }
-    }
-    false
-}
-
-/// Adds what stands before a point of a curve: the beginning of a line, behind the end of the one
-/// before where the curve is broken, or a blank.
-fn add_before(
-    text: &mut String,
-    curve: &Curve,
-    before: Option<usize>,
-    at: usize,
-) -> Result<(), AllocError> {
-    let class = curve.class;
-    match before {
-        None => write!(text, "<polyline class=\"{class}\" points=\""),
-        Some(before) => {
-            if is_broken(&curve.figures, before, at) {
-                write!(text, "\"/><polyline class=\"{class}\" points=\"")
-            } else {
-                text.push_str(" ")
-            }
-        }
-    }
-}
-
 /// The end of a curve.
 #[derive(Clone, Copy)]
 struct End {
@@ -280,35 +247,41 @@ struct End {
     name: &'static str,
 }
 
+/// What stands before a point of a curve: the beginning of a line, behind the end of the one before
+/// where the curve is broken, or a blank.
+fn add_before(
+    text: &mut String,
+    class: &str,
+    is_first: bool,
+    is_broken: bool,
+) -> Result<(), AllocError> {
+    if is_first {
+        return write!(text, "<polyline class=\"{class}\" points=\"");
+    }
+    if is_broken {
+        return write!(text, "\"/><polyline class=\"{class}\" points=\"");
+    }
+    text.push_str(" ")
+}
+
 /// Adds a curve, and gives its end, where it has a figure.
 fn add_curve(
-    alloc: Global,
     text: &mut String,
     scale: &Scale,
     conditions: u32,
-    curve: &Curve,
+    curve: Curve<'_>,
 ) -> Result<Option<i128>, AllocError> {
-    let drawn = drawn(alloc, &curve.figures)?;
-    let mut before = None;
     let mut end = None;
-    for at in &drawn {
-        if let Some(Some(figure)) = curve.figures.get(*at) {
-            let y = scale.y(*figure);
-            add_before(text, curve, before, *at)?;
-            add_point(text, x_of(number(*at), conditions), y)?;
-            before = Some(*at);
-            end = Some(y);
-        }
+    for point in curve.points {
+        let y = scale.y(point.figure);
+        add_before(text, curve.class, end.is_none(), point.is_broken)?;
+        add_point(text, x_of(point.step, conditions), y)?;
+        end = Some(y);
     }
     if end.is_some() {
         text.push_str("\"/>")?;
     }
     Ok(end)
-}
-
-/// The number of a condition.
-fn number(condition: usize) -> u32 {
-    u32::try_from(condition).unwrap_or(u32::MAX)
 }
 
 /// Adds the name of a curve beside its end.
@@ -341,7 +314,7 @@ fn add_names(text: &mut String, one: Option<End>, other: Option<End>) -> Result<
 }
 
 /// The end of a curve that has a name.
-fn named_end(curve: &Curve, end: Option<i128>) -> Option<End> {
+fn named_end(curve: Curve<'_>, end: Option<i128>) -> Option<End> {
     let y = end?;
     if curve.name.is_empty() {
         return None;
@@ -354,18 +327,13 @@ fn named_end(curve: &Curve, end: Option<i128>) -> Option<End> {
 }
 
 /// Adds the curves of a chart, of which there are one or two, and behind them their names.
-fn add_curves(
-    alloc: Global,
-    text: &mut String,
-    scale: &Scale,
-    chart: &Chart,
-) -> Result<(), AllocError> {
+fn add_curves(text: &mut String, scale: &Scale, chart: &Chart<'_>) -> Result<(), AllocError> {
     let mut ends = [None, None];
     let mut count = 0usize;
     for curve in &chart.curves {
-        let end = add_curve(alloc, text, scale, chart.conditions, curve)?;
+        let end = add_curve(text, scale, chart.conditions, *curve)?;
         if count < 2 {
-            ends[count] = named_end(curve, end);
+            ends[count] = named_end(*curve, end);
             count += 1;
         }
     }
@@ -412,7 +380,7 @@ fn add_mark(
 pub fn add_chart(
     alloc: Global,
     text: &mut String,
-    chart: &Chart,
+    chart: &Chart<'_>,
     label: &str,
     fails: &[Run],
 ) -> Result<(), AllocError> {
@@ -428,7 +396,7 @@ pub fn add_chart(
     for bound in &chart.bounds {
         add_bound(text, &scale, bound)?;
     }
-    add_curves(alloc, text, &scale, chart)?;
+    add_curves(text, &scale, chart)?;
     if let Some(mark) = &chart.mark {
         add_mark(text, &scale, chart.conditions, mark)?;
     }

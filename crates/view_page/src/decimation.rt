@@ -280,6 +280,6 @@ pub fn drawn_runs(alloc: Global, runs: &[Run], conditions: usize) -> Result<Vec<
 }
 
 /// The number of a condition.
-fn number(condition: usize) -> u32 {
+pub fn number(condition: usize) -> u32 {
     u32::try_from(condition).unwrap_or(u32::MAX)
 }

@@ -1,14 +1,16 @@
 //! The page of a port call: one file of HTML that holds all that it shows, for the papers of the
 //! port call. It reads without its script, which adds the figures under the pointer alone.
 //!
-//! [`page_of`] makes it. Workers judge each condition once more for the figures that are drawn
-//! ([`Series`]), and of a long list of conditions the curves show the first, the last, the least
-//! and the greatest of each stretch ([`drawn`]).
+//! [`page_of`] makes it of what [`charted_in`] gives, for which workers judge each condition once:
+//! what is found of it, and the figures that are drawn ([`Series`]). Of a long list of conditions
+//! the curves show the first, the last, the least and the greatest of each stretch ([`drawn`]).
 //!
-//! The definitions are `Series`, `Drawn` and `Scales` of `specs/`.
+//! The definitions are `Series`, `Charted`, `Decimation` and `Scales` of `specs/`.
 #![tactic(auto)]
 
+mod charted;
 mod charts;
+mod curves;
 mod decimation;
 mod envelopes;
 mod escaping;
@@ -22,10 +24,12 @@ mod series;
 mod steps;
 mod style;
 mod tables;
+mod tight_steps;
 mod walks;
 
+pub use charted::{Charted, charted_in};
 pub use decimation::drawn;
-pub use pages::{ReadInputs, page_of};
+pub use pages::{Conditions, ReadInputs, page_of};
 pub use percents::percent_of;
 pub use scales::{Height, Scale, Tenths, tick_step, x_of};
-pub use series::{Plotted, Series, series_of};
+pub use series::{Plotted, Series};

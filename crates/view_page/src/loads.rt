@@ -44,6 +44,20 @@ fn part_of(load: i128, frame: &Frame) -> Frac {
     }
 }
 
+/// Whether a bending moment uses less of its limit than another. Most have one sign, and so one
+/// limit.
+fn uses_less(one: i128, other: i128, frame: &Frame) -> bool {
+    if (one >= 0) == (other >= 0) {
+        return one.unsigned_abs() < other.unsigned_abs();
+    }
+    is_less(part_of(one, frame), part_of(other, frame))
+}
+
+/// Whether a load lies between others.
+fn is_between(load: i128, least: i128, greatest: i128) -> bool {
+    least <= load && load <= greatest
+}
+
 /// The load at a frame of a condition.
 fn reach_at(shear: i128, bending: i128, step: u32) -> Reach {
     Reach {
@@ -65,16 +79,23 @@ impl Reach {
         if self.shear.load.unsigned_abs() < shear.load.unsigned_abs() {
             self.shear = shear;
         }
-        if is_less(
-            part_of(self.bending.load, frame),
-            part_of(bending.load, frame),
-        ) {
+        if uses_less(self.bending.load, bending.load, frame) {
             self.bending = bending;
         }
     }
 
+    /// Whether loads lie between those that were there: then neither uses more of its limit than
+    /// the one that uses most, which is the least or the greatest of its kind.
+    fn has(&self, shear: i128, bending: i128) -> bool {
+        is_between(shear, self.shear_least, self.shear_greatest)
+            && is_between(bending, self.bending_least, self.bending_greatest)
+    }
+
     /// Joins the loads of the condition of a step.
     fn note(&mut self, shear: i128, bending: i128, step: u32, frame: &Frame) {
+        if self.has(shear, bending) {
+            return;
+        }
         self.shear_least = self.shear_least.min(shear);
         self.shear_greatest = self.shear_greatest.max(shear);
         self.bending_least = self.bending_least.min(bending);

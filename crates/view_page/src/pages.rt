@@ -1,10 +1,11 @@
 //! The whole page.
+use crate::curves::curves_of;
 use crate::decimation::{STRETCHES, WHOLE, drawn_runs};
 use crate::envelopes::{Kind, add_envelope};
 use crate::escaping::add_escaped;
 use crate::levers::add_lever_chart;
-use crate::rows::add_rows;
-use crate::series::{Series, series_of};
+use crate::rows::{add_rows, kept_of};
+use crate::series::Series;
 use crate::steps::{StepCharts, add_step_charts};
 use crate::style::{SCRIPT, STYLE};
 use crate::tables::{add_criteria, add_frames, add_odd, add_tightest, tightest_lever};
@@ -18,8 +19,8 @@ use std::sync::Wait;
 use std::thread::Threads;
 use view_inputs::{Names, Notice, identity_line};
 use view_texts::{
-    RowText, Run, Sources, VERSION, failing_runs, fails_words, tightest, tightest_line,
-    verdict_line, worst_rows,
+    RowText, Sources, VERSION, failing_runs, fails_words, tightest, tightest_line, verdict_line,
+    worst_rows,
 };
 use worst_values::{Findings, Stretches, criterion_at};
 
@@ -29,6 +30,15 @@ pub struct ReadInputs<'a> {
     pub names: &'a Names<'a>,
     pub sources: &'a Sources,
     pub notices: &'a [Notice],
+}
+
+/// What is known of the conditions of a case: what is found of them, their figures that are drawn,
+/// and the first that fails, with its first criterion.
+#[derive(Clone, Copy)]
+pub struct Conditions<'a> {
+    pub findings: &'a Findings,
+    pub series: &'a Series,
+    pub first: Option<(u32, Criterion)>,
 }
 
 /// The line that names the port call.
@@ -147,43 +157,21 @@ fn add_fails(
     Ok(())
 }
 
-/// Adds the charts by step.
-fn add_steps(
-    alloc: Global,
-    text: &mut String,
-    case: Case<'_>,
-    series: &Series,
-    rows: &[RowText],
-    fails: &[Run],
-) -> Result<(), AllocError> {
-    let conditions = case.lines();
-    let drawn = drawn_runs(alloc, fails, conditions as usize)?;
-    let charts = StepCharts {
-        profile: case.profile,
-        series,
-        rows,
-        fails: drawn.as_slice(),
-        conditions,
-    };
-    add_step_charts(alloc, text, &charts)
-}
-
 /// Adds the charts along the ship, of the levers, and the table of frames.
 fn add_along(
     alloc: Global,
     text: &mut String,
     lines: &Lines<'_>,
-    series: &Series,
-    rows: &[RowText],
+    of: &StepCharts<'_>,
 ) -> Result<(), AllocError> {
     let profile = lines.case.profile;
-    let beside = series.beside();
+    let beside = of.series.beside();
     let reaches = &beside.reaches;
     let arrival = beside.arrival.as_ref();
     text.push_str("</div><h2>Along the ship, and her righting levers</h2><div class=\"charts\">")?;
     add_envelope(alloc, text, profile, reaches, arrival, Kind::Shear)?;
     add_envelope(alloc, text, profile, reaches, arrival, Kind::Bending)?;
-    if let Some(row) = tightest_lever(rows) {
+    if let Some(row) = tightest_lever(of.rows) {
         add_lever_chart(alloc, text, lines, row.step)?;
     }
     add_frames(alloc, text, profile, reaches)
@@ -194,18 +182,16 @@ fn add_charts(
     alloc: Global,
     text: &mut String,
     lines: &Lines<'_>,
-    series: &Series,
-    rows: &[RowText],
-    fails: &[Run],
+    of: &StepCharts<'_>,
 ) -> Result<(), AllocError> {
     text.push_str("<h2>Step by step")?;
-    if !fails.is_empty() {
+    if !of.fails.is_empty() {
         text.push_str(" <span class=\"key\">red along the foot: conditions that fail</span>")?;
     }
     text.push_str("</h2><div class=\"charts\">")?;
-    if series.beside().reaches.count > 0 {
-        add_steps(alloc, text, lines.case, series, rows, fails)?;
-        add_along(alloc, text, lines, series, rows)?;
+    if of.series.beside().reaches.count > 0 {
+        add_step_charts(alloc, text, of)?;
+        add_along(alloc, text, lines, of)?;
     } else {
         text.push_str("<p>No condition lies within the ship's tables.</p>")?;
     }
@@ -281,18 +267,16 @@ fn add_notes(text: &mut String, conditions: u32) -> Result<(), AllocError> {
 fn add_front(
     alloc: Global,
     text: &mut String,
-    lines: &Lines<'_>,
-    findings: &Findings,
-    first: Option<(u32, Criterion)>,
+    case: Case<'_>,
+    of: &Conditions<'_>,
     identity: &str,
     rows: &[RowText],
 ) -> Result<(), AllocError> {
-    let case = lines.case;
-    add_head(alloc, text, identity, first)?;
+    add_head(alloc, text, identity, of.first)?;
     add_identity(text, identity)?;
-    add_verdict(alloc, text, case, findings, first, rows)?;
+    add_verdict(alloc, text, case, of.findings, of.first, rows)?;
     add_criteria(alloc, text, case, rows)?;
-    add_fails(alloc, text, &findings.unmet, case.lines())
+    add_fails(alloc, text, &of.findings.unmet, case.lines())
 }
 
 /// Adds what stands behind the charts, but for the script.
@@ -310,38 +294,40 @@ fn add_end(
     add_notes(text, lines.case.lines())
 }
 
-/// The page of a case; `first` is the first condition that fails, with its first criterion. The
-/// text is the same for every number of workers, every gate and every cut.
+/// The page of a case. The text is the same for every number of workers, every gate and every cut.
 pub fn page_of<G: Gate, R: Threads + Wait + Sync>(
     rt: &R,
     alloc: Global,
     gate: &G,
     workers: Workers,
     lines: &Lines<'_>,
-    findings: &Findings,
-    first: Option<(u32, Criterion)>,
+    of: &Conditions<'_>,
     read: &ReadInputs<'_>,
 ) -> Result<String, AllocError> {
+    let case = lines.case;
     let mut text = String::new(alloc);
-    let rows = worst_rows(alloc, lines, findings)?;
+    let rows = worst_rows(alloc, lines, of.findings)?;
     let rows = rows.as_slice();
     let identity = identity_of(alloc, read)?;
-    add_front(
-        alloc,
-        &mut text,
-        lines,
-        findings,
-        first,
-        identity.as_str(),
+    add_front(alloc, &mut text, case, of, identity.as_str(), rows)?;
+    let curves = curves_of(rt, alloc, gate, workers, of.series)?;
+    let fails = failing_runs(alloc, &of.findings.unmet)?;
+    let fails = drawn_runs(alloc, fails.as_slice(), case.lines() as usize)?;
+    let charts = StepCharts {
+        profile: case.profile,
+        series: of.series,
+        curves: &curves,
         rows,
-    )?;
-    let series = series_of(rt, alloc, gate, workers, lines)?;
-    let fails = failing_runs(alloc, &findings.unmet)?;
-    add_charts(alloc, &mut text, lines, &series, rows, fails.as_slice())?;
-    add_end(alloc, &mut text, lines, &series, read)?;
+        fails: fails.as_slice(),
+        conditions: case.lines(),
+    };
+    add_charts(alloc, &mut text, lines, &charts)?;
+    add_end(alloc, &mut text, lines, of.series, read)?;
     text.push_str("<div id=\"tip\" aria-hidden=\"true\"></div>")?;
     text.push_str("<script type=\"application/json\" id=\"rows\">")?;
-    add_rows(rt, alloc, gate, workers, &mut text, lines, &series, first)?;
+    let kept = kept_of(alloc, of.series, &curves, of.first)?;
+    let kept = kept.as_slice();
+    add_rows(rt, alloc, gate, workers, &mut text, lines, of.series, kept)?;
     text.push_str("</script><script>")?;
     text.push_str(SCRIPT)?;
     text.push_str("</script></body></html>\n")?;

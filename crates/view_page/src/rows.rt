@@ -7,15 +7,15 @@ ghost use Rattle.strength.specs.Hull.{IsHullOf};
 ghost use Rattle.port_call.specs.Views.{case_in_view};
 ghost use Rattle.seq_report.specs.Cases.{IsChunk};
 
-use crate::decimation::drawn;
-use crate::series::{Figure, Plotted, Series, curve_of};
+use crate::curves::{CurvePoint, Curves, FIGURES};
+use crate::series::{Plotted, Series};
 use claim_run::{Gate, Job, Workers, run};
 use criteria::{Criterion, Exact, Nearby, exact_into};
 use hydrostat::Outside;
 use moment_sums::Totals;
 use plain_text::in_thousandths;
 use port_call::Case;
-use righting::levers_aboard;
+use righting::{Levers, levers_aboard};
 use running_sums::walk_on;
 use seq_report::{Chunk, Lines, cause_word};
 use ship_profile::Profile;
@@ -30,31 +30,26 @@ use view_table::add_json_text;
 use view_texts::{lift_at, row_text};
 use worst_values::Limit;
 
-/// The figures of the curves, in the order in which the script names them.
-const FIGURES: [Figure; 7] = [
-    Figure::Gm,
-    Figure::List,
-    Figure::Aft,
-    Figure::Fwd,
-    Figure::Trim,
-    Figure::Shear,
-    Figure::Bending,
-];
+/// Marks the condition of a step.
+fn mark(kept: &mut Vec<bool>, step: u32) {
+    if let Some(is_kept) = kept.get_mut(step as usize) {
+        *is_kept = true;
+    }
+}
 
 /// Marks the conditions of a curve that are drawn.
-fn mark_drawn(kept: &mut Vec<bool>, drawn: &[usize]) {
-    for at in drawn {
-        if let Some(is_kept) = kept.get_mut(*at) {
-            *is_kept = true;
-        }
+fn mark_drawn(kept: &mut Vec<bool>, points: &[CurvePoint]) {
+    for point in points {
+        mark(kept, point.step);
     }
 }
 
 /// Which conditions the script has figures of: those that are drawn of any curve, and where a curve
 /// is drawn, the first that fails.
-fn kept_of(
+pub fn kept_of(
     alloc: Global,
     series: &Series,
+    curves: &Curves,
     first: Option<(u32, Criterion)>,
 ) -> Result<Vec<bool>, AllocError> {
     let mut kept = Vec::new(alloc);
@@ -62,14 +57,13 @@ fn kept_of(
         kept.push(false)?;
     }
     for figure in FIGURES {
-        let curve = curve_of(alloc, series, figure)?;
-        mark_drawn(&mut kept, drawn(alloc, curve.as_slice())?.as_slice());
+        mark_drawn(&mut kept, curves.of(figure));
     }
     if series.beside().reaches.count == 0 {
         return Ok(kept);
     }
     if let Some((step, _)) = first {
-        mark_drawn(&mut kept, &[step as usize]);
+        mark(&mut kept, step);
     }
     Ok(kept)
 }
@@ -80,11 +74,6 @@ fn is_kept(kept: &[bool], k: u32) -> bool {
         Some(is_kept) => *is_kept,
         None => false,
     }
-}
-
-/// What is drawn of a condition, if it lies within the tables.
-fn plotted_at(series: &Series, k: u32) -> Option<Plotted> {
-    *series.plotted().get(k as usize)?
 }
 
 /// The first condition that is kept.
@@ -116,19 +105,15 @@ fn add_json(alloc: Global, text: &mut String, words: &str) -> Result<(), AllocEr
 fn value_text(
     alloc: Global,
     profile: &Profile,
-    totals: &Totals,
     exact: &Exact,
+    levers: &Levers,
     strains: &Strains,
     limit: Limit,
 ) -> Result<(String, Ordering), AllocError>
-    requires bounded { IsBounded (values totals.now) }
     requires length { exact.now.afloat.lbp ≡ profile.now.ship.lbp }
     requires least { IsLeast exact.now.least }
 {
-    let Some(levers) = levers_aboard(profile, totals, &mut 0) else {
-        return Ok((String::new(alloc), Ordering::Equal));
-    };
-    match row_of(profile, exact, &levers, strains, limit) {
+    match row_of(profile, exact, levers, strains, limit) {
         Some(row) => Ok((row_text(alloc, &row, 0)?.value, row.side)),
         None => Ok((String::new(alloc), Ordering::Equal)),
     }
@@ -148,19 +133,23 @@ fn add_figures(
     requires length { exact.now.afloat.lbp ≡ profile.now.ship.lbp }
     requires least { IsLeast exact.now.least }
 {
+    let Some(levers) = levers_aboard(profile, totals, &mut 0) else {
+        return text.push_str("]");
+    };
+    let levers = &levers;
     let gm = in_thousandths(alloc, plotted.gm)?;
-    let (list, side) = value_text(alloc, profile, totals, exact, strains, Limit::List)?;
+    let (list, side) = value_text(alloc, profile, exact, levers, strains, Limit::List)?;
     let side = match side {
         Ordering::Greater => "S ",
         Ordering::Less => "P ",
         Ordering::Equal => "",
     };
-    let (aft, _) = value_text(alloc, profile, totals, exact, strains, Limit::DraughtAft)?;
+    let (aft, _) = value_text(alloc, profile, exact, levers, strains, Limit::DraughtAft)?;
     let (fwd, _) = value_text(
         alloc,
         profile,
-        totals,
         exact,
+        levers,
         strains,
         Limit::DraughtForward,
     )?;
@@ -247,7 +236,7 @@ fn rows_in_chunk(
             if first != Some(k) {
                 text.push_str(",")?;
             }
-            let plotted = plotted_at(series, k);
+            let plotted = series.at(k);
             add_row(alloc, &mut text, case, hull, k, &sum, &mut near, plotted)?;
         }
         walk_on(case, k, &mut sum);
@@ -297,7 +286,7 @@ pub fn add_rows<G: Gate, R: Threads + Wait + Sync>(
     text: &mut String,
     lines: &Lines<'_>,
     series: &Series,
-    first: Option<(u32, Criterion)>,
+    kept: &[bool],
 ) -> Result<(), AllocError> {
     let last = lines.case.lines().saturating_sub(1);
     write!(
@@ -305,8 +294,6 @@ pub fn add_rows<G: Gate, R: Threads + Wait + Sync>(
         "{{\"last\":{last},\"names\":[\"GM\",\"list\",\"aft\",\"fwd\","
     )?;
     text.push_str("\"trim\",\"shear %\",\"bending %\"],\"rows\":[")?;
-    let kept = kept_of(alloc, series, first)?;
-    let kept = kept.as_slice();
     let telling = Telling {
         lines,
         kept,

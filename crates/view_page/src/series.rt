@@ -1,18 +1,12 @@
-ghost use Rattle.std.specs.Prelude.{◌≡◌, ◌++◌, [], IfOk, OnOk};
+ghost use Rattle.std.specs.Prelude.{◌≡◌, ◌++◌, [], OnOk};
 ghost use Rattle.criteria.specs.Least.{IsLeast};
-ghost use Rattle.port_call.specs.Views.{case_in_view};
-ghost use Rattle.view_page.specs.Series.{all_plotted, figure_of};
+ghost use Rattle.view_page.specs.Series.{figure_of};
 
 use crate::loads::Reaches;
-use crate::walks::series_in_chunk;
-use claim_run::{Gate, Job, Workers, run};
 use criteria::Exact;
-use seq_report::Lines;
 use ship_profile::{Frames, Profile};
 use std::alloc::{AllocError, Global};
 use std::marker::Model;
-use std::sync::Wait;
-use std::thread::Threads;
 use strength::Strains;
 use units_core::{Frac, floor};
 use view_figures::most_used;
@@ -94,7 +88,7 @@ impl Plotted {
 
 impl Series {
     /// No condition.
-    fn new(alloc: Global) -> Series
+    pub(crate) fn new(alloc: Global) -> Series
         ensures { result ≡ [] }
     {
         Series {
@@ -110,13 +104,18 @@ impl Series {
         &self.plotted
     }
 
+    /// The figures of the condition of a step, if it lies within the ship's tables.
+    pub fn at(&self, step: u32) -> Option<Plotted> {
+        *self.plotted.get(step as usize)?
+    }
+
     /// What is told beside the figures.
     pub fn beside(&self) -> &Beside {
         &self.beside
     }
 
     /// Adds the conditions of others behind.
-    fn append(&mut self, behind: &Series, frames: &Frames) -> Result<(), AllocError>
+    pub(crate) fn append(&mut self, behind: &Series, frames: &Frames) -> Result<(), AllocError>
         ensures { OnOk result (self.new ≡ self.old ++ behind.now) }
     {
         self.plotted.extend_from_slice(&behind.plotted)?;
@@ -175,57 +174,6 @@ impl Beside {
         }
         Ok(())
     }
-}
-
-/// The figures of each chunk of lines, as a job for workers.
-#[derive(Drop)]
-struct Plotting<'a> {
-    lines: &'a Lines<'a>,
-}
-
-impl<'a> Job for Plotting<'a> {
-    ghost use Rattle.std.specs.Prelude.{length, map};
-    ghost use Rattle.port_call.specs.Views.{case_in_view};
-    ghost use Rattle.running_sums.specs.Lines.{chunk_of};
-    ghost use Rattle.view_page.specs.Series.{plotted_in};
-
-    type Out = Series;
-
-    ghost value = { λ s k. map (plotted_in (case_in_view s.lines.now.case))
-        (chunk_of s.lines.now.cuts.now k) };
-
-    ghost pieces = { λ s. length s.lines.now.cuts.now };
-
-    fn piece(&self, alloc: Global, k: u32) -> Result<Series, AllocError> {
-        let lines = self.lines;
-        series_in_chunk(alloc, lines.case, &lines.hull, &lines.chunk(k))
-    }
-}
-
-/// The figures that are drawn of each condition of a case: workers judge them chunk by chunk, and
-/// what they make is joined in the order of the chunks.
-pub fn series_of<G: Gate, R: Threads + Wait + Sync>(
-    rt: &R,
-    alloc: Global,
-    gate: &G,
-    workers: Workers,
-    lines: &Lines<'_>,
-) -> Result<Series, AllocError>
-    ensures { IfOk result (λ s. s ≡ all_plotted (case_in_view lines.now.case)) }
-{
-    let parts = run(
-        rt,
-        alloc,
-        gate,
-        workers,
-        lines.chunks(),
-        &Plotting { lines: &*lines },
-    )?;
-    let mut all = Series::new(alloc);
-    for part in &parts {
-        all.append(part, lines.case.profile.frames())?;
-    }
-    Ok(all)
 }
 
 /// A figure of each condition, none where it has none.

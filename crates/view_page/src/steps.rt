@@ -1,6 +1,7 @@
 //! The six charts by step.
 use crate::charts::{Axis, Bound, Chart, Curve, Mark, add_chart};
-use crate::series::{Figure, Series, curve_of};
+use crate::curves::Curves;
+use crate::series::{Figure, Series};
 use criteria::Criterion;
 use plain_text::in_thousandths;
 use ship_profile::Profile;
@@ -13,6 +14,7 @@ use view_texts::{RowText, Run};
 pub struct StepCharts<'a> {
     pub profile: &'a Profile,
     pub series: &'a Series,
+    pub curves: &'a Curves,
     /// The rows of the table of criteria.
     pub rows: &'a [RowText],
     /// The runs of conditions that fail, as they are drawn.
@@ -30,21 +32,14 @@ fn row_named<'a>(rows: &'a [RowText], criterion: Criterion, start: &str) -> Opti
     None
 }
 
-/// The figure of a curve at a step.
-fn figure_at(figures: &[Option<i128>], step: u32) -> Option<i128> {
-    *figures.get(step as usize)?
-}
-
 /// The ring at the figure of a row, if its condition has one.
-fn mark_of(figures: &[Option<i128>], row: &RowText, words: String) -> Option<Mark> {
-    match figure_at(figures, row.step) {
-        Some(figure) => Some(Mark {
-            step: row.step,
-            figure,
-            words,
-        }),
-        None => None,
-    }
+fn mark_of(of: &StepCharts<'_>, figure: Figure, row: &RowText, words: String) -> Option<Mark> {
+    let figure = of.series.at(row.step)?.figure(figure)?;
+    Some(Mark {
+        step: row.step,
+        figure,
+        words,
+    })
 }
 
 /// The words of the ring at a row's figure: `4.472 at 0`, with the unit where it is named.
@@ -54,38 +49,30 @@ fn worst_at(alloc: Global, row: &RowText, unit: &str) -> Result<String, AllocErr
     Ok(format!(in alloc; "{value}{unit} at {step}")?)
 }
 
-/// A curve of a chart: a figure of each condition.
-fn curve(
-    alloc: Global,
-    of: &StepCharts<'_>,
+/// A curve of a chart.
+fn curve<'a>(
+    of: &StepCharts<'a>,
     figure: Figure,
     class: &'static str,
     name: &'static str,
-) -> Result<Curve, AllocError> {
-    let figures = curve_of(alloc, of.series, figure)?;
-    Ok(Curve {
+) -> Curve<'a> {
+    Curve {
         class,
         name,
-        figures,
-    })
+        points: of.curves.of(figure),
+    }
 }
 
 /// The only curve of a chart.
-fn only(
+fn only<'a>(
     alloc: Global,
-    of: &StepCharts<'_>,
+    of: &StepCharts<'a>,
     figure: Figure,
     name: &'static str,
-) -> Result<Vec<Curve>, AllocError> {
+) -> Result<Vec<Curve<'a>>, AllocError> {
     let mut curves = Vec::new(alloc);
-    curves.push(curve(alloc, of, figure, "a", name)?)?;
+    curves.push(curve(of, figure, "a", name))?;
     Ok(curves)
-}
-
-/// The ring at a row's figure, in the first curve of a chart.
-fn mark_in(curves: &[Curve], row: &RowText, words: String) -> Option<Mark> {
-    let curve = curves.first()?;
-    mark_of(&curve.figures, row, words)
 }
 
 /// The only limit of a chart.
@@ -105,14 +92,13 @@ fn one_bound(
 }
 
 /// The curve of the metacentric height, and that of the least one where the ship has such limits.
-fn gm_curves(alloc: Global, of: &StepCharts<'_>) -> Result<Vec<Curve>, AllocError> {
+fn gm_curves<'a>(alloc: Global, of: &StepCharts<'a>) -> Result<Vec<Curve<'a>>, AllocError> {
     let mut curves = only(alloc, of, Figure::Gm, "GM")?;
     if of.profile.least_gm().is_some() {
-        let figures = Vec::from_slice(alloc, of.series.beside().least_gm.as_slice())?;
         curves.push(Curve {
             class: "b",
             name: "least",
-            figures,
+            points: of.curves.least_gm(),
         })?;
     }
     Ok(curves)
@@ -126,7 +112,7 @@ fn add_gm(alloc: Global, text: &mut String, of: &StepCharts<'_>) -> Result<(), A
     let curves = gm_curves(alloc, of)?;
     let name = String::from_str(alloc, "C1 least 0.150")?;
     let bounds = one_bound(alloc, 150, name, false)?;
-    let mark = mark_in(&curves, row, worst_at(alloc, row, "")?);
+    let mark = mark_of(of, Figure::Gm, row, worst_at(alloc, row, "")?);
     let chart = Chart {
         title: "GM, corrected for free surfaces",
         unit: "m",
@@ -185,7 +171,7 @@ fn add_list(alloc: Global, text: &mut String, of: &StepCharts<'_>) -> Result<(),
     let name = format!(in alloc; "C7 {limit} deg")?;
     let name = name.as_str();
     let bounds = both_sides(alloc, i128::from(of.profile.list_max()), name, name)?;
-    let mark = mark_in(&curves, row, worst_at(alloc, row, " deg")?);
+    let mark = mark_of(of, Figure::List, row, worst_at(alloc, row, " deg")?);
     let chart = Chart {
         title: "List",
         unit: "degrees; S to starboard, P to port",
@@ -229,16 +215,13 @@ fn add_draughts(alloc: Global, text: &mut String, of: &StepCharts<'_>) -> Result
     ) else {
         return Ok(());
     };
-    let after = curve(alloc, of, Figure::Aft, "a", "aft")?;
-    let fore = curve(alloc, of, Figure::Fwd, "b", "fwd")?;
     let mark = if is_more(fwd.share, aft.share) {
-        mark_of(&fore.figures, fwd, worst_at(alloc, fwd, "")?)
+        mark_of(of, Figure::Fwd, fwd, worst_at(alloc, fwd, "")?)
     } else {
-        mark_of(&after.figures, aft, worst_at(alloc, aft, "")?)
+        mark_of(of, Figure::Aft, aft, worst_at(alloc, aft, "")?)
     };
-    let mut curves = Vec::new(alloc);
-    curves.push(after)?;
-    curves.push(fore)?;
+    let mut curves = only(alloc, of, Figure::Aft, "aft")?;
+    curves.push(curve(of, Figure::Fwd, "b", "fwd"))?;
     let bounds = draught_bounds(alloc, of.profile)?;
     let chart = Chart {
         title: "Draughts at the perpendiculars",
@@ -270,7 +253,7 @@ fn add_trim(alloc: Global, text: &mut String, of: &StepCharts<'_>) -> Result<(),
     };
     let curves = only(alloc, of, Figure::Trim, "")?;
     let bounds = trim_bounds(alloc, of.profile)?;
-    let mark = mark_in(&curves, row, worst_at(alloc, row, "")?);
+    let mark = mark_of(of, Figure::Trim, row, worst_at(alloc, row, "")?);
     let chart = Chart {
         title: "Trim",
         unit: "m; by the stern up",
@@ -312,12 +295,13 @@ fn add_load(
     let Some(row) = row_named(of.rows, criterion, "") else {
         return Ok(());
     };
-    let curves = only(alloc, of, load_figure(criterion), "")?;
+    let figure = load_figure(criterion);
+    let curves = only(alloc, of, figure, "")?;
     let code = criterion.code();
     let bounds = one_bound(alloc, 100, format!(in alloc; "{code} limit")?, true)?;
     let (used, name, step) = (row.used.as_str(), row.name.as_str(), row.step);
     let words = format!(in alloc; "{used}, {name} at {step}")?;
-    let mark = mark_in(&curves, row, words);
+    let mark = mark_of(of, figure, row, words);
     let chart = Chart {
         title: load_title(criterion),
         unit: "% of its limit",

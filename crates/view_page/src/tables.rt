@@ -2,6 +2,7 @@
 use crate::escaping::add_escaped;
 use crate::loads::Reaches;
 use crate::scales::Tenths;
+use crate::tight_steps::tight_steps;
 use criteria::Criterion;
 use plain_text::in_thousandths;
 use port_call::Case;
@@ -174,54 +175,6 @@ pub fn add_frames(
 /// A number of a few things.
 fn count(number: usize) -> u32 {
     u32::try_from(number).unwrap_or(u32::MAX)
-}
-
-/// How many of the tightest steps are listed.
-const TIGHTEST: usize = 10;
-
-/// Whether a step is further than so many from each of some others.
-fn is_apart(steps: &[u32], step: u32, apart: u32) -> bool {
-    for other in steps {
-        if other.abs_diff(step) <= apart {
-            return false;
-        }
-    }
-    true
-}
-
-/// The condition that uses most of a limit, of several the first, among those further than so many
-/// from each of some others.
-fn next_tightest(shares: &[Option<Frac>], steps: &[u32], apart: u32) -> Option<u32> {
-    let mut found: Option<(u32, Option<Frac>)> = None;
-    let mut step = 0u32;
-    for share in shares {
-        let is_tighter = match found {
-            Some((_, most)) => is_more(*share, most),
-            None => true,
-        };
-        if is_tighter && is_apart(steps, step, apart) {
-            found = Some((step, *share));
-        }
-        step = step.saturating_add(1);
-    }
-    match found {
-        Some((step, _)) => Some(step),
-        None => None,
-    }
-}
-
-/// The tightest steps: each uses most of a limit among those further from all before it than a
-/// twentieth of all conditions.
-fn tight_steps(alloc: Global, shares: &[Option<Frac>]) -> Result<Vec<u32>, AllocError> {
-    let apart = (count(shares.len()) / 20).max(1);
-    let mut steps = Vec::new(alloc);
-    for _ in 0..TIGHTEST {
-        match next_tightest(shares, steps.as_slice(), apart) {
-            Some(step) => steps.push(step)?,
-            None => break,
-        }
-    }
-    Ok(steps)
 }
 
 /// Adds a tight step by its tightest row.

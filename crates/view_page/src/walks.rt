@@ -1,5 +1,5 @@
-//! The figures of the lines of a chunk.
-ghost use Rattle.std.specs.Prelude.{◌≡◌, ◌≤◌, IfOk, length, map};
+//! What is found and drawn of the lines of a chunk.
+ghost use Rattle.std.specs.Prelude.{◌≡◌, ℕ, ◌<◌, ◌≤◌, ◌++◌, ◌∷◌, [], IfOk, length};
 ghost use Rattle.moment_sums.specs.Bounded.{IsBounded};
 ghost use Rattle.moment_sums.specs.Kept.{values};
 ghost use Rattle.strength.specs.Hull.{IsHullOf};
@@ -7,12 +7,16 @@ ghost use Rattle.units_core.specs.Interpolation.{at};
 ghost use Rattle.criteria.specs.Judgement.{judgement_of, read};
 ghost use Rattle.port_call.specs.Views.{case_in_view};
 ghost use Rattle.seq_report.specs.Cases.{IsChunk, lines_in};
-ghost use Rattle.view_page.specs.Series.{bending_percent, plotted_by, plotted_in, plotted_of};
-ghost use Rattle.view_page.specs.Series.{shear_percent};
+ghost use Rattle.worst_values.specs.Findings.{candidates_with, unmet_with};
+ghost use Rattle.worst_values.specs.Rows.{row_of};
+ghost use Rattle.worst_values.specs.Worst.{joined, worst_of};
+ghost use Rattle.view_page.specs.Charted.{charted_over};
+ghost use Rattle.view_page.specs.Series.{bending_percent, plotted_by, plotted_of, shear_percent};
 
-use crate::percents::percent_of;
+use crate::charted::Charted;
+use crate::percents::percent_with;
 use crate::series::{Beside, Plotted, Series};
-use criteria::{Nearby, RoundedFigures, exact_into};
+use criteria::{Nearby, RoundedFigures};
 use moment_sums::Totals;
 use port_call::Case;
 use running_sums::walk_on;
@@ -20,7 +24,7 @@ use seq_report::Chunk;
 use ship_profile::{Frame, Frames, Profile};
 use std::alloc::{AllocError, Global};
 use strength::Hull;
-use worst_values::bending_limit;
+use worst_values::{Findings, bending_limit, note_line};
 
 /// The greatest part of its limit that the shear force uses at any frame, in percent.
 fn shear_percent(frames: &[Frame], shear: &[i128; 16]) -> i128
@@ -29,7 +33,7 @@ fn shear_percent(frames: &[Frame], shear: &[i128; 16]) -> i128
 {
     let mut most = 0i128;
     for i in 0..frames.len() {
-        most = most.max(percent_of(shear[i], frames[i].shear_max));
+        most = percent_with(most, shear[i], frames[i].shear_max);
     }
     most
 }
@@ -42,7 +46,7 @@ fn bending_percent(frames: &[Frame], bending: &[i128; 16]) -> i128
     let mut most = 0i128;
     for i in 0..frames.len() {
         let load = bending[i];
-        most = most.max(percent_of(load, bending_limit(&frames[i], load)));
+        most = percent_with(most, load, bending_limit(&frames[i], load));
     }
     most
 }
@@ -63,22 +67,30 @@ fn plotted_of(frames: &Frames, figures: &RoundedFigures) -> Plotted
     }
 }
 
-/// What is drawn of the condition of line `k`, with this aboard; what is told beside it is noted.
-fn plot(
+/// What is found and drawn of the condition of line `k`, with this aboard, and what is told beside
+/// it: the first and the last of these are noted behind those of the lines before.
+fn chart_line(
     profile: &Profile,
     hull: &Hull,
     k: u32,
     sum: &Totals,
     near: &mut Nearby,
     figures: &mut RoundedFigures,
+    findings: &mut Findings,
     beside: &mut Beside,
 ) -> Result<Option<Plotted>, AllocError>
     requires of { IsHullOf hull.now profile.now.ship }
     requires bounded { IsBounded (values sum.now) }
-    ensures { IfOk result (λ p. p
+    ensures length { length findings.new.rows ≡ length findings.old.rows }
+    ensures rows { (j : ℕ) → j < 14 → row_of findings.new.rows j
+        ≡ joined (row_of findings.old.rows j)
+        (worst_of (candidates_with profile.now j k (values sum.now))) }
+    ensures unmet { IfOk result (λ p. findings.new.unmet
+        ≡ findings.old.unmet ++ unmet_with profile.now (values sum.now) ∷ []) }
+    ensures plotted { IfOk result (λ p. p
         ≡ plotted_by profile.now.ship.frames (judgement_of profile.now (values sum.now))) }
 {
-    match exact_into(profile, hull, sum, near, &mut figures.strains) {
+    match note_line(profile, hull, k, sum, near, &mut figures.strains, findings)? {
         Ok(exact) => {
             figures.round(&exact, profile.lbp());
             beside.note(profile, &exact, &figures.strains, k)?;
@@ -91,28 +103,39 @@ fn plot(
     }
 }
 
-/// The figures of the lines of a chunk.
-pub fn series_in_chunk(
+/// What is found and drawn of the lines of a chunk.
+pub fn charted_in_chunk(
     alloc: Global,
     case: Case<'_>,
     hull: &Hull,
     chunk: &Chunk,
-) -> Result<Series, AllocError>
+) -> Result<Charted, AllocError>
     requires of { IsHullOf hull.now case.profile.now.ship }
     requires chunk { IsChunk (case_in_view case) chunk.now }
     ensures { IfOk result
-        (λ s. s ≡ map (plotted_in (case_in_view case.entry)) (lines_in chunk.now)) }
+        (λ c. c ≡ charted_over (case_in_view case.entry) (lines_in chunk.now)) }
 {
     let profile = case.profile;
+    let mut findings = Findings::new(alloc);
     let mut plotted = Vec::new(alloc);
     let mut beside = Beside::new(alloc);
     let mut sum = chunk.first;
     let mut near = Nearby::default();
     let mut figures = RoundedFigures::default();
     for k in chunk.start..chunk.end {
-        let drawn = plot(profile, hull, k, &sum, &mut near, &mut figures, &mut beside)?;
+        let drawn = chart_line(
+            profile,
+            hull,
+            k,
+            &sum,
+            &mut near,
+            &mut figures,
+            &mut findings,
+            &mut beside,
+        )?;
         plotted.push(drawn)?;
         walk_on(case, k, &mut sum);
     }
-    Ok(Series { plotted, beside })
+    let series = Series { plotted, beside };
+    Ok(Charted { findings, series })
 }

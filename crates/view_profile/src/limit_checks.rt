@@ -10,36 +10,22 @@ use plain_text::{in_hundredths, many};
 use prefix_scan::Monoid;
 use ship_profile::Profile;
 use std::alloc::{AllocError, Global};
-use units_core::{Body, Frac};
+use units_core::Frac;
 use view_figures::list_reading;
 use view_inputs::Notices;
 
-/// The mass of the light ship in kg, and its moments in kg mm.
-#[derive(Clone, Copy, Debug)]
-pub struct LightShip {
-    pub kg: i128,
-    pub x: i128,
-    pub y: i128,
-    pub z: i128,
-}
-
-/// The light ship of her blocks.
-pub fn light_ship(blocks: &[Body]) -> LightShip {
-    let mut light = LightShip {
-        kg: 0,
-        x: 0,
-        y: 0,
-        z: 0,
-    };
-    for block in blocks {
-        let kg = i128::from(block.kg());
-        let place = block.place();
-        light.kg = light.kg.saturating_add(kg);
-        light.x = light.x.saturating_add(times(kg, i128::from(place.x.get())));
-        light.y = light.y.saturating_add(times(kg, i128::from(place.y.get())));
-        light.z = light.z.saturating_add(times(kg, i128::from(place.z.get())));
+/// The light ship: everything that a ship is alone, added up.
+pub fn light_ship(profile: &Profile) -> Totals
+    ensures { size_of result ≤ 200 }
+{
+    let mut sum = Totals::unit();
+    let blocks = profile.blocks();
+    for place in 0..200 {
+        if let Some(block) = blocks.get(place) {
+            sum.add(block, profile.frames());
+        }
     }
-    light
+    sum
 }
 
 /// Adds sizes that may be of another unit: V3.
@@ -55,7 +41,7 @@ pub fn add_sizes(
         let text = format!(in alloc; "a length of {length} m: metres in place of millimetres?")?;
         warnings.add("V3", "ship.toml", text)?;
     }
-    let light = light_ship(profile.blocks()).kg;
+    let light = light_ship(profile).kg();
     if light < 100_000 {
         let light = tonnes(alloc, light)?;
         let text = format!(in alloc; "a light ship of {light} t: tonnes in place of kilograms?")?;
@@ -191,23 +177,9 @@ pub fn add_frames(
     Ok(())
 }
 
-/// Everything that a ship is alone, added up.
-fn sum_alone(profile: &Profile) -> Totals
-    ensures { size_of result ≤ 200 }
-{
-    let mut sum = Totals::unit();
-    let blocks = profile.blocks();
-    for place in 0..200 {
-        if let Some(block) = blocks.get(place) {
-            sum.add(block, profile.frames());
-        }
-    }
-    sum
-}
-
 /// Whether the ship alone lies within her tables.
 fn is_within(profile: &Profile) -> bool {
-    let sum = sum_alone(profile);
+    let sum = light_ship(profile);
     if !sum.is_bounded() {
         return false;
     }
@@ -223,19 +195,20 @@ pub fn add_alone(
     warnings: &mut Notices,
     profile: &Profile,
 ) -> Result<(), AllocError> {
-    let light = light_ship(profile.blocks());
+    let light = light_ship(profile);
+    let kg = light.kg();
     let (least, _) = ends(profile.hydro().kg());
-    if light.kg < least {
-        let alone = tonnes(alloc, light.kg)?;
+    if kg < least {
+        let alone = tonnes(alloc, kg)?;
         let first = tonnes(alloc, least)?;
         let text = format!(in alloc;
             "the light ship, {alone} t, lies below its first record, {first} t"
         )?;
         return warnings.add("V25", "hydro.csv", text);
     }
-    let off = size(light.y);
-    if off > times(500, light.kg) && light.kg > 0 && is_within(profile) {
-        let off = metres(alloc, off.div_euclid(light.kg))?;
+    let off = size(light.y());
+    if off > times(500, kg) && kg > 0 && is_within(profile) {
+        let off = metres(alloc, off.div_euclid(kg))?;
         let text = format!(in alloc; "the light ship's centre is {off} m off the middle line")?;
         return warnings.add("V26", "ship.toml", text);
     }

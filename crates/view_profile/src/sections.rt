@@ -36,15 +36,15 @@ fn add_length(
 /// Adds the light ship: how many blocks, their mass, and their centre.
 fn add_light(alloc: Global, text: &mut String, profile: &Profile) -> Result<(), AllocError> {
     let blocks = profile.blocks();
-    let light = light_ship(blocks);
+    let light = light_ship(profile);
     let count = many(alloc, count_of(blocks.len()), "block")?;
     let name = format!(in alloc; "light ship, {count}")?;
-    let mass = tonnes(alloc, light.kg)?;
+    let mass = tonnes(alloc, light.kg())?;
     let figure = format!(in alloc; "{mass} t")?;
-    let kg = light.kg.max(1);
-    let along = metres(alloc, light.x.div_euclid(kg))?;
-    let across = metres(alloc, light.y.div_euclid(kg))?;
-    let up = metres(alloc, light.z.div_euclid(kg))?;
+    let kg = light.kg().max(1);
+    let along = metres(alloc, light.x().div_euclid(kg))?;
+    let across = metres(alloc, light.y().div_euclid(kg))?;
+    let up = metres(alloc, light.z().div_euclid(kg))?;
     let centre = format!(in alloc; "LCG {along}  TCG {across}  KG {up} m")?;
     let (name, figure) = (name.as_str(), figure.as_str());
     if centre.len() <= KEY {

@@ -13,7 +13,7 @@ ghost use Rattle.view_program.specs.Shown.{IsTable, IsTextOf, OfTexts, files_of,
 use crate::refusing::{REFUSED, put, tell_refusal, tell_unread};
 use crate::sessions::session_to;
 use crate::words::{Command, SessionLine, View, ViewLine, names_of, read_command};
-use crate::working::{Beside, Looks, Seen, see, see_beside, work};
+use crate::working::{Asked, Beside, Looks, Seen, see, see_beside, sources_beside, work};
 use claim_run::{Gate, Workers};
 use command_line::{Line, Task};
 use criteria::Criterion;
@@ -28,12 +28,12 @@ use std::sync::Wait;
 use std::thread::Threads;
 use view_figures::condition_at;
 use view_inputs::{Notice, cells_in, lifts_of, notices_on};
-use view_page::{ReadInputs, page_of};
+use view_page::{Conditions, ReadInputs, charted_in, page_of};
 use view_profile::{Parts, profile_text};
 use view_refusals::profile_refusal_of;
 use view_table::{Form, TableFault, csv_heading, write_lines};
 use view_texts::{
-    Odd, add_sheet, end_line, explanation_of, profile_source, run_line, sources_of, summary_front,
+    Odd, add_sheet, end_line, explanation_of, profile_source, run_line, summary_front,
 };
 
 /// The words by which the files are read.
@@ -76,6 +76,7 @@ fn summary_of(
         sources,
         marks,
         looks,
+        ..
     } = beside;
     let Looks { warnings, cargo } = looks;
     let names = names_of(line);
@@ -125,6 +126,7 @@ fn page_text<G: Gate, T: Threads + Wait + Sync>(
         sources,
         marks,
         looks,
+        series,
     } = beside;
     let Looks { warnings, cargo } = looks;
     let name = sources.name.as_str();
@@ -139,17 +141,17 @@ fn page_text<G: Gate, T: Threads + Wait + Sync>(
         notices: notices.as_slice(),
     };
     let lines = seen.worked.lines();
-    let first = seen.first();
-    page_of(
-        rt,
-        alloc,
-        gate,
-        workers,
-        &lines,
-        &seen.findings,
-        first,
-        &read,
-    )
+    let series = match series {
+        Some(series) => series,
+        // they are there, since a page asks for them
+        None => charted_in(rt, alloc, gate, workers, &lines)?.series,
+    };
+    let conditions = Conditions {
+        findings: &seen.findings,
+        series: &series,
+        first: seen.first(),
+    };
+    page_of(rt, alloc, gate, workers, &lines, &conditions, &read)
 }
 
 /// The explanation of the first condition that fails.
@@ -226,7 +228,15 @@ fn summary_to<G: Gate, T: Threads + Wait + Sync, O: Write>(
     ensures untouched { IfErr result
         (λ stop. IsUntouched stop (O.contents out.old) (O.contents out.new)) }
 {
-    let (seen, beside) = match see_beside(rt, alloc, gate, workers, texts, line.chunk) {
+    let (seen, beside) = match see_beside(
+        rt,
+        alloc,
+        gate,
+        workers,
+        Asked::Found,
+        texts,
+        line.chunk,
+    ) {
         Ok(both) => both,
         Err(stop) => return Err(stop),
     };
@@ -259,7 +269,15 @@ fn page_to<G: Gate, T: Threads + Wait + Sync, O: Write>(
     ensures untouched { IfErr result
         (λ stop. IsUntouched stop (O.contents out.old) (O.contents out.new)) }
 {
-    let (seen, beside) = match see_beside(rt, alloc, gate, workers, texts, line.chunk) {
+    let (seen, beside) = match see_beside(
+        rt,
+        alloc,
+        gate,
+        workers,
+        Asked::Drawn,
+        texts,
+        line.chunk,
+    ) {
         Ok(both) => both,
         Err(stop) => return Err(stop),
     };
@@ -306,16 +324,20 @@ fn explanation_to<G: Gate, T: Threads + Wait + Sync, O: Write>(
 }
 
 /// What stands before the lines of a table.
-fn heading_of(
+fn heading_of<T: Threads + Wait + Sync>(
+    rt: &T,
     alloc: Global,
     lines: &Lines<'_>,
-    inputs: &Inputs<'_>,
+    texts: &Texts,
     line: ViewLine<'_>,
 ) -> Result<String, AllocError> {
     let case = lines.case;
     match line.form {
         Form::Csv => csv_heading(alloc, case.profile.frames().as_slice().len()),
-        Form::Jsonl => run_line(alloc, case, &names_of(line), &sources_of(alloc, inputs)?),
+        Form::Jsonl => {
+            let sources = sources_beside(rt, alloc, texts)?;
+            run_line(alloc, case, &names_of(line), &sources)
+        }
     }
 }
 
@@ -340,22 +362,23 @@ fn put_table<G: Gate, T: Threads + Wait + Sync, O: Write>(
     gate: &G,
     workers: Workers,
     lines: &Lines<'_>,
-    inputs: &Inputs<'_>,
+    texts: &Texts,
     line: ViewLine<'_>,
     out: &mut O,
 ) -> Result<Option<(u32, Criterion)>, Stop>
     ensures shown { IfOk result (λ first. HasWritten (O.contents out.old) (O.contents out.new)
         (IsTable line.entry.form (case_in_view lines.now.case))) }
     ensures first { IfOk result (λ first. first ≡ first_in (case_in_view lines.now.case)) }
-    ensures stopped { IfErr result (IsStopOn inputs.now) }
+    ensures stopped { (inputs : Inputs) → IfErr result (IsStopOn inputs) }
     ensures untouched { IfErr result
         (λ stop. IsUntouched stop (O.contents out.old) (O.contents out.new)) }
 {
+    let inputs = texts.inputs();
     let steps = lines.case.lines().saturating_sub(1);
     let Ok(lifts) = lifts_of(alloc, inputs.movins, inputs.steps, steps) else {
         return Err(Stop::NoMemory);
     };
-    let Ok(heading) = heading_of(alloc, lines, inputs, line) else {
+    let Ok(heading) = heading_of(rt, alloc, lines, texts, line) else {
         return Err(Stop::NoMemory);
     };
     let Ok(()) = put(out, heading.as_str()) else {
@@ -382,23 +405,25 @@ fn table_to<G: Gate, T: Threads + Wait + Sync, O: Write>(
     alloc: Global,
     gate: &G,
     workers: Workers,
-    inputs: &Inputs<'_>,
+    texts: &Texts,
     line: ViewLine<'_>,
     out: &mut O,
 ) -> Result<u8, Stop>
     ensures shown { IfOk result (λ status. HasWritten (O.contents out.old) (O.contents out.new)
-        (IsShown (IsTable line.entry.form) inputs.now status)) }
+        (λ text. OfTexts texts.now
+        (λ inputs. IsShown (IsTable line.entry.form) inputs status text))) }
     ensures status { IfOk result (λ status. status ≤ 1) }
-    ensures stopped { IfErr result (IsStopOn inputs.now) }
+    ensures stopped { IfErr result (λ stop. OfTexts texts.now (λ inputs. IsStopOn inputs stop)) }
     ensures untouched { IfErr result
         (λ stop. IsUntouched stop (O.contents out.old) (O.contents out.new)) }
 {
-    let worked = match work(rt, alloc, gate, workers, inputs, line.chunk) {
+    let inputs = texts.inputs();
+    let worked = match work(rt, alloc, gate, workers, &inputs, line.chunk) {
         Ok(worked) => worked,
         Err(stop) => return Err(stop),
     };
     let lines = worked.lines();
-    match put_table(rt, alloc, gate, workers, &lines, inputs, line, out) {
+    match put_table(rt, alloc, gate, workers, &lines, texts, line, out) {
         Ok(first) => Ok(status_on(first)),
         Err(stop) => Err(stop),
     }
@@ -431,7 +456,7 @@ fn texts_to<G: Gate, T: Threads + Wait + Sync, O: Write>(
         View::Summary => summary_to(rt, alloc, gate, workers, texts, line, out),
         View::Explain => explanation_to(rt, alloc, gate, workers, &inputs, line, out),
         View::Page => page_to(rt, alloc, gate, workers, texts, line, out),
-        View::Table => table_to(rt, alloc, gate, workers, &inputs, line, out),
+        View::Table => table_to(rt, alloc, gate, workers, texts, line, out),
     }
 }
 

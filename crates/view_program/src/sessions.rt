@@ -6,6 +6,7 @@ ghost use Rattle.view_program.specs.Sessions.{IsLeftOn};
 ghost use Rattle.view_program.specs.Shown.{IsStopOn, OfTexts};
 
 use crate::words::SessionLine;
+use crate::working::sources_beside;
 use claim_run::{Gate, Workers};
 use run_files::{Makers, Readers, Stop, Texts, status_on};
 use std::alloc::Global;
@@ -13,7 +14,6 @@ use std::io::{BufRead, Write};
 use std::sync::Wait;
 use std::thread::Threads;
 use view_sittings::{Fault, Setting, hold};
-use view_texts::sources_of;
 use what_if::Session;
 
 /// What is asked before each line.
@@ -43,7 +43,7 @@ pub fn session_to<G: Gate, T: Threads + Wait + Sync, M: Readers + Makers, I: Buf
         Ok(session) => session,
         Err(fault) => return Err(Stop::from(fault)),
     };
-    let Ok(sources) = sources_of(alloc, &inputs) else {
+    let Ok(sources) = sources_beside(rt, alloc, texts) else {
         return Err(Stop::NoMemory);
     };
     // The words are 1 to 16 already, which `clap` sees to.

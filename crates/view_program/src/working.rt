@@ -25,6 +25,7 @@ use std::thread;
 use std::thread::{Promise, PromisedHandle, Scope, Threads};
 use strength::Hull;
 use view_inputs::{Marks, Notice, cargo_notices, marks_of};
+use view_page::{Charted, Series, charted_in};
 use view_profile::{Parts, warnings_on};
 use view_texts::{Message, Sources, message_source, profile_source, steps_digest};
 use worst_values::{Findings, found_in};
@@ -91,6 +92,41 @@ pub fn work<G: Gate, R: Threads + Wait + Sync>(
             Err(AllocError) => Err(Stop::NoMemory),
         },
         Err(fault) => Err(Stop::from(RunFault::from(fault))),
+    }
+}
+
+/// What a view asks of the conditions of a port call.
+#[derive(Clone, Copy, Debug, PartialEq, Eq)]
+pub enum Asked {
+    /// What is found of them.
+    Found,
+    /// That, and the figures that a page draws.
+    Drawn,
+}
+
+/// What is found of a port call, and the figures that are drawn, where they are asked for.
+fn answer<G: Gate, R: Threads + Wait + Sync>(
+    rt: &R,
+    alloc: Global,
+    gate: &G,
+    workers: Workers,
+    asked: Asked,
+    worked: &Worked,
+) -> Result<(Findings, Option<Series>), AllocError>
+    ensures found { IfOk result (λ pair. pair.0 ≡ found_in worked.now.call) }
+    ensures few { IfOk result (λ pair. length pair.0.unmet < 2 ^ 32) }
+{
+    match asked {
+        Asked::Found => {
+            let case = worked.call.case();
+            let findings = found_in(rt, alloc, gate, workers, case, &worked.cuts, &worked.sums)?;
+            Ok((findings, None))
+        }
+        Asked::Drawn => {
+            let charted = charted_in(rt, alloc, gate, workers, &worked.lines())?;
+            let Charted { findings, series } = charted;
+            Ok((findings, Some(series)))
+        }
     }
 }
 
@@ -178,7 +214,7 @@ fn start_message<'s, E>(
 
 /// What the inputs of some texts are. Each message has a thread of its own, since nothing takes as
 /// long as the digests.
-fn sources_beside<R: Threads + Wait + Sync>(
+pub fn sources_beside<R: Threads + Wait + Sync>(
     rt: &R,
     alloc: Global,
     texts: &Texts,
@@ -272,32 +308,34 @@ fn start_looks<'s, E>(
 }
 
 /// What is found of inputs beside the port call: what they are, and what is odd of the messages and
-/// of the port call.
+/// of the port call; and the figures that are drawn, where they are asked for.
 #[derive(Drop)]
 pub struct Beside {
     pub sources: Sources,
     pub marks: Marks,
     pub looks: Looks,
+    pub series: Option<Series>,
 }
 
 /// What is found of the inputs of some texts, and beside that.
 type Both = (Seen, Beside);
 
-/// What is found of the inputs of some texts, and what is odd of these.
-type Looked = (Seen, Marks, Looks);
+/// What is found of the inputs of some texts, what is odd of these, and the figures that are drawn.
+type Looked = (Seen, Marks, Looks, Option<Series>);
 
 /// What is found, with what is found beside it, if that is there.
 fn with_sources(looked: Looked, sources: Result<Sources, AllocError>) -> Result<Both, Stop>
     ensures made { IfOk result (λ b. b.0 ≡ looked.0) }
     ensures stopped { IfErr result (λ stop. stop ≡ Stop.NoMemory) }
 {
-    let (seen, marks, looks) = looked;
+    let (seen, marks, looks, series) = looked;
     match sources {
         Ok(sources) => {
             let beside = Beside {
                 sources,
                 marks,
                 looks,
+                series,
             };
             Ok((seen, beside))
         }
@@ -311,25 +349,26 @@ fn found_with_looks<G: Gate, R: Threads + Wait + Sync>(
     alloc: Global,
     gate: &G,
     workers: Workers,
+    asked: Asked,
     texts: &Texts,
     worked: &Worked,
     marks: &Marks,
-) -> Result<(Findings, Looks), AllocError>
-    ensures found { IfOk result (λ pair. pair.0 ≡ found_in worked.now.call) }
-    ensures few { IfOk result (λ pair. length pair.0.unmet < 2 ^ 32) }
+) -> Result<(Findings, Option<Series>, Looks), AllocError>
+    ensures found { IfOk result (λ found. found.0 ≡ found_in worked.now.call) }
+    ensures few { IfOk result (λ found. length found.0.unmet < 2 ^ 32) }
 {
     thread::scope(
         thread::scope_env(),
         rt,
-        |scope| -> Result<(Findings, Looks), AllocError>
-            ensures found { IfOk result (λ pair. pair.0 ≡ found_in worked.entry.now.call) }
-            ensures few { IfOk result (λ pair. length pair.0.unmet < 2 ^ 32) }
+        |scope| -> Result<(Findings, Option<Series>, Looks), AllocError>
+            ensures found { IfOk result (λ found. found.0 ≡ found_in worked.entry.now.call) }
+            ensures few { IfOk result (λ found. length found.0.unmet < 2 ^ 32) }
         {
             let looks = start_looks(scope, alloc, texts, &worked.call, marks)?;
-            let case = worked.call.case();
-            let findings = found_in(rt, alloc, gate, workers, case, &worked.cuts, &worked.sums);
+            let found = answer(rt, alloc, gate, workers, asked, worked);
             let looks = looks.join(rt);
-            Ok((findings?, looks?))
+            let (findings, series) = found?;
+            Ok((findings, series, looks?))
         },
     )
 }
@@ -340,6 +379,7 @@ fn look_beside<G: Gate, R: Threads + Wait + Sync>(
     alloc: Global,
     gate: &G,
     workers: Workers,
+    asked: Asked,
     texts: &Texts,
     worked: Worked,
     marks: Result<Marks, AllocError>,
@@ -351,8 +391,8 @@ fn look_beside<G: Gate, R: Threads + Wait + Sync>(
         Ok(marks) => marks,
         Err(AllocError) => return Err(Stop::NoMemory),
     };
-    match found_with_looks(rt, alloc, gate, workers, texts, &worked, &marks) {
-        Ok((findings, looks)) => Ok((Seen { worked, findings }, marks, looks)),
+    match found_with_looks(rt, alloc, gate, workers, asked, texts, &worked, &marks) {
+        Ok((findings, series, looks)) => Ok((Seen { worked, findings }, marks, looks, series)),
         Err(AllocError) => Err(Stop::NoMemory),
     }
 }
@@ -363,6 +403,7 @@ fn look_at<G: Gate, R: Threads + Wait + Sync>(
     alloc: Global,
     gate: &G,
     workers: Workers,
+    asked: Asked,
     texts: &Texts,
     worked: Result<Worked, Stop>,
     marks: Result<Marks, AllocError>,
@@ -374,19 +415,21 @@ fn look_at<G: Gate, R: Threads + Wait + Sync>(
         → IfErr worked (IsStopOn inputs) → IfErr result (IsStopOn inputs) }
 {
     match worked {
-        Ok(worked) => look_beside(rt, alloc, gate, workers, texts, worked, marks),
+        Ok(worked) => look_beside(rt, alloc, gate, workers, asked, texts, worked, marks),
         Err(stop) => Err(stop),
     }
 }
 
-/// What is found of the inputs of some texts; and beside it, in threads of their own, what these
-/// are and what is odd of them. For one worker too: it is the conditions that workers share, and
-/// the digests alone take about half as long as they do by one.
+/// What is found of the inputs of some texts, and the figures that are drawn, where they are asked
+/// for; and beside it, in threads of their own, what these are and what is odd of them. For one
+/// worker too: it is the conditions that workers share, and the digests alone take about half as
+/// long as they do by one.
 pub fn see_beside<G: Gate, R: Threads + Wait + Sync>(
     rt: &R,
     alloc: Global,
     gate: &G,
     workers: Workers,
+    asked: Asked,
     texts: &Texts,
     chunk: u32,
 ) -> Result<Both, Stop>
@@ -415,7 +458,7 @@ pub fn see_beside<G: Gate, R: Threads + Wait + Sync>(
             };
             let worked = work(rt, alloc, gate, workers, &inputs, chunk);
             let marks = marks.join(rt);
-            let looked = look_at(rt, alloc, gate, workers, texts, worked, marks);
+            let looked = look_at(rt, alloc, gate, workers, asked, texts, worked, marks);
             let sources = sources.join(rt);
             match looked {
                 Ok(looked) => with_sources(looked, sources),

@@ -13,4 +13,5 @@ mod tables;
 
 pub use forms::{Form, add_json_text};
 pub use moved::MovedBy;
+pub use steps::op_at;
 pub use tables::{TableFault, csv_heading, write_lines};

@@ -132,8 +132,9 @@ fn add_json_step(
     }
 }
 
-/// The step of a line; none leads to the condition on arrival.
-fn op_at<'a>(case: Case<'a>, k: u32) -> Option<&'a Op> {
+/// The step that leads to the condition of line `k`; none leads to that on arrival, which is of
+/// line 0, and none to a line behind the last.
+pub fn op_at<'a>(case: Case<'a>, k: u32) -> Option<&'a Op> {
     case.sequence.ops().get((k as usize).checked_sub(1)?)
 }
 

@@ -24,9 +24,7 @@ pub use listings::listing;
 pub use records::{end_line, run_line};
 pub use rows::{RowText, percent_text, row_text, tightest};
 pub use sheets::{add_sheet, condition_rows, load_texts, row_by};
-pub use sources::{
-    Message, Sources, digest_of, message_source, profile_source, sources_of, steps_digest,
-};
+pub use sources::{Message, Sources, digest_of, message_source, profile_source, steps_digest};
 pub use steps::{deed_by, lift_at};
 pub use summaries::{
     Odd, VERSION, add_worst_table, fails_words, summary_front, tightest_line, verdict_line,

@@ -1,7 +1,7 @@
 //! Conditions in a list, a line for each.
 use crate::rows::row_text;
 use crate::sheets::{first_unmet, row_by};
-use crate::steps::{lift_at, op_at};
+use crate::steps::lift_at;
 use criteria::Criterion;
 use lift_sequence::Op;
 use plain_text::{add_line, front, in_thousandths, shown};
@@ -10,7 +10,7 @@ use seq_report::{Lines, cause_word};
 use std::alloc::{AllocError, Global};
 use std::cmp::Ordering;
 use view_figures::{Condition, Figures, Inside, condition_at};
-use view_table::MovedBy;
+use view_table::{MovedBy, op_at};
 use worst_values::Limit;
 
 /// The heading of a list.

@@ -1,7 +1,6 @@
 //! What the inputs of a run are: what the messages say of themselves, and the digest of each text.
 use edifact_text::Kind;
 use plain_text::shown_line;
-use port_call::Inputs;
 use sha2::{Digest, Sha256};
 use ship_profile::ProfileBytes;
 use std::alloc::{AllocError, Global};
@@ -97,19 +96,4 @@ pub fn steps_digest(alloc: Global, text: Option<&[u8]>) -> Result<Option<String>
         Some(text) => Ok(Some(digest_of(alloc, text)?)),
         None => Ok(None),
     }
-}
-
-/// What the inputs of a run are.
-pub fn sources_of(alloc: Global, inputs: &Inputs<'_>) -> Result<Sources, AllocError> {
-    let plan = message_source(alloc, inputs.baplie, Kind::Baplie)?;
-    let moves = message_source(alloc, inputs.movins, Kind::Movins)?;
-    let (profile, name) = profile_source(alloc, &inputs.profile)?;
-    let steps = steps_digest(alloc, inputs.steps)?;
-    Ok(Sources {
-        profile,
-        name,
-        plan,
-        moves,
-        steps,
-    })
 }

@@ -6,7 +6,7 @@ use std::alloc::{AllocError, Global};
 use stow_messages::Lift;
 use units_core::Cell;
 use view_inputs::cell_text;
-use view_table::MovedBy;
+use view_table::{MovedBy, op_at};
 
 /// What leads to a condition, as the report's column LIFT has it.
 pub fn lift_text(alloc: Global, op: Option<&Op>) -> Result<String, AllocError> {
@@ -32,11 +32,6 @@ pub fn lift_text(alloc: Global, op: Option<&Op>) -> Result<String, AllocError> {
             Ok(format!(in alloc; "R{from}>{to}")?)
         }
     }
-}
-
-/// The step of a number; `None` of 0, which is the arrival, and behind the last.
-pub fn op_at<'a>(case: Case<'a>, step: u32) -> Option<&'a Op> {
-    case.sequence.ops().get((step as usize).checked_sub(1)?)
 }
 
 /// What leads to the condition of a step of a case.

@@ -21,7 +21,7 @@ pub struct Findings {
 
 impl Findings {
     /// Nothing yet.
-    pub(crate) fn new(alloc: Global) -> Findings
+    pub fn new(alloc: Global) -> Findings
         ensures length { length result.rows ≡ 14 }
         ensures none { (j : ℕ) → row_of result.rows j ≡ None }
         ensures unmet { result.unmet ≡ [] }
@@ -43,7 +43,7 @@ impl Findings {
     }
 
     /// Joins what is found over the lines behind.
-    pub(crate) fn join(&mut self, behind: &Findings) -> Result<(), AllocError>
+    pub fn join(&mut self, behind: &Findings) -> Result<(), AllocError>
         ensures length { length self.new.rows ≡ length self.old.rows }
         ensures rows { (j : ℕ) → j < 14 → row_of self.new.rows j
             ≡ joined (row_of self.old.rows j) (row_of behind.now.rows j) }

@@ -3,7 +3,7 @@
 //!
 //! [`found_in`] answers both ([`Findings`]): workers go through chunks of lines, and what they find
 //! is joined in the order of the lines. It is the same for every number of workers, every gate and
-//! every cut.
+//! every cut. Who asks more of each condition than this goes through the lines by [`note_line`].
 //!
 //! The definitions are `Worst`, `Limits` and `Findings` of `specs/`.
 #![tactic(auto)]
@@ -32,3 +32,4 @@ pub use rows::Rows;
 pub use stretches::{Stretch, Stretches};
 pub use unmet::{NOTHING_UNMET, Unmet, unmet_of};
 pub use values::Value;
+pub use walks::note_line;

@@ -10,6 +10,7 @@ use ship_profile::Frame;
 use units_core::Frac;
 
 /// The size of a number with a minus before it, which every number of the type has.
+#[inline(always)]
 pub fn size_below(n: i128) -> i128
     ensures { result ≡ neg_ℤ (pos (unsigned_abs n)) }
 {
@@ -17,6 +18,7 @@ pub fn size_below(n: i128) -> i128
 }
 
 /// How safe a load is by a limit.
+#[inline(always)]
 pub fn part_of(load: i128, limit: i64, step: u32, place: u32) -> Value
     ensures { candidate_of result
         ≡ record { step = step; place = place; safety = part_of load limit } }
@@ -68,6 +70,7 @@ pub fn worst_shear(frames: &[Frame], shear: &[i128; 16], step: u32) -> Option<Va
 }
 
 /// The limit of a bending moment, by its sign.
+#[inline(always)]
 pub fn bending_limit(frame: &Frame, load: i128) -> i64
     ensures { result ≡ bending_limit frame.now load }
 {

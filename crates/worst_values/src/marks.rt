@@ -21,6 +21,7 @@ const GREATEST: i128 = 10_000_000_000_000_000_000_000_000_000_000_000;
 const GREATEST_DIVISOR: i128 = 10_000_000_000_000_000_000_000_000_000;
 
 /// Whether a numerator is one that may be compared with a mark.
+#[inline(always)]
 fn is_narrow(num: i128) -> bool
     ensures { result ≡ true → unsigned_abs num ≤ 10 ^ 34 }
 {
@@ -28,6 +29,7 @@ fn is_narrow(num: i128) -> bool
 }
 
 /// A numerator in parts.
+#[inline(always)]
 fn in_parts(num: i128) -> i128
     requires { unsigned_abs num ≤ 10 ^ 34 }
     ensures { result ≡ num *ℤ pos 4096 }
@@ -36,6 +38,7 @@ fn in_parts(num: i128) -> i128
 }
 
 /// A mark over a divisor.
+#[inline(always)]
 fn mark_over(mark: i128, den: i128) -> i128
     requires mark { unsigned_abs mark ≤ 2 ^ 31 }
     requires den { unsigned_abs den ≤ 10 ^ 28 }
@@ -45,6 +48,7 @@ fn mark_over(mark: i128, den: i128) -> i128
 }
 
 /// Whether a fraction is surely not less than a mark.
+#[inline(always)]
 fn is_from(value: Frac, mark: i32) -> bool
     ensures { result ≡ true
         → is_below (value.num over value.den) (mark over pos 4096) ≡ false }
@@ -56,6 +60,7 @@ fn is_from(value: Frac, mark: i32) -> bool
 }
 
 /// Whether a value is surely not worse than a mark.
+#[inline(always)]
 pub fn is_value_from(value: &Value, mark: i32) -> bool
     ensures { result ≡ true → is_worse (candidate_of value.now).safety (mark_of mark) ≡ false }
 {

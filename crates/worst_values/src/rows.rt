@@ -1,5 +1,5 @@
-ghost use Rattle.std.specs.Prelude.{◌≡◌, ◌≢◌, ℕ, ◌<◌, length, option_map, None};
-ghost use Rattle.worst_values.specs.Rows.{row_of};
+ghost use Rattle.std.specs.Prelude.{◌≡◌, ◌≢◌, ℕ, ◌<◌, length, option_map, None, true};
+ghost use Rattle.worst_values.specs.Rows.{is_marked, row_of};
 ghost use Rattle.worst_values.specs.Worst.{candidate_of, joined};
 
 use crate::row::Row;
@@ -41,6 +41,15 @@ impl Rows {
         ensures { option_map candidate_of result ≡ row_of self.now row }
     {
         self.rows[row].worst
+    }
+
+    /// A mark that the value of a row is worse than, where there's one.
+    #[inline(always)]
+    pub(crate) fn mark(&self, row: usize) -> Option<i32>
+        requires { row < 14 }
+        ensures { is_marked (row_of self.now row) result ≡ true }
+    {
+        self.rows[row].mark
     }
 
     /// Joins to a row what is found behind.

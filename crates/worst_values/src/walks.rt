@@ -4,7 +4,8 @@ ghost use Rattle.units_core.specs.Ratio.{Ratio};
 ghost use Rattle.moment_sums.specs.Bounded.{IsBounded};
 ghost use Rattle.moment_sums.specs.Kept.{values};
 ghost use Rattle.strength.specs.Hull.{IsHullOf};
-ghost use Rattle.criteria.specs.Exact.{condition_by};
+ghost use Rattle.criteria.specs.Assessment.{assessment_of};
+ghost use Rattle.criteria.specs.Exact.{IsExact, condition_by};
 ghost use Rattle.criteria.specs.Least.{IsLeast};
 ghost use Rattle.criteria.specs.Measures.{AreMeasures};
 ghost use Rattle.port_call.specs.Views.{case_in_view};
@@ -21,6 +22,7 @@ use crate::noting::{note_bendings, note_shears};
 use crate::rows::Rows;
 use crate::unmet::{unmet_of, unmet_outside};
 use criteria::{Exact, Nearby, exact_into};
+use hydrostat::Outside;
 use moment_sums::Totals;
 use port_call::Case;
 use running_sums::walk_on;
@@ -72,8 +74,9 @@ fn note_condition(profile: &Profile, exact: &Exact, strains: &Strains, step: u32
     }
 }
 
-/// Joins line `k`, with this aboard.
-fn note_line(
+/// Joins line `k`, with this aboard, and gives its exact numbers, or the table outside of which it
+/// lies, to whom it asks more of them. Its loads are worked out in `strains`.
+pub fn note_line(
     profile: &Profile,
     hull: &Hull,
     k: u32,
@@ -81,7 +84,7 @@ fn note_line(
     near: &mut Nearby,
     strains: &mut Strains,
     found: &mut Findings,
-) -> Result<(), AllocError>
+) -> Result<Result<Exact, Outside>, AllocError>
     requires of { IsHullOf hull.now profile.now.ship }
     requires bounded { IsBounded (values sum.now) }
     ensures length { length found.new.rows ≡ length found.old.rows }
@@ -90,13 +93,19 @@ fn note_line(
         (worst_of (candidates_with profile.now j k (values sum.now))) }
     ensures unmet { OnOk result (found.new.unmet
         ≡ found.old.unmet ++ unmet_with profile.now (values sum.now) ∷ []) }
+    ensures exact { IfOk result (λ exact. IsExact exact strains.new profile.now.ship
+        (assessment_of profile.now (values sum.now))) }
 {
     match exact_into(profile, hull, sum, near, strains) {
         Ok(exact) => {
             note_condition(profile, &exact, strains, k, &mut found.rows);
-            found.unmet.push(unmet_of(profile, &exact, strains))
+            found.unmet.push(unmet_of(profile, &exact, strains))?;
+            Ok(Ok(exact))
         }
-        Err(outside) => found.unmet.push(unmet_outside(outside)),
+        Err(outside) => {
+            found.unmet.push(unmet_outside(outside))?;
+            Ok(Err(outside))
+        }
     }
 }
 
@@ -116,7 +125,7 @@ pub fn found_in_chunk(
     let mut near = Nearby::default();
     let mut strains = Strains::default();
     for k in chunk.start..chunk.end {
-        note_line(
+        let _ = note_line(
             case.profile,
             hull,
             k,

@@ -1,4 +1,4 @@
-use Rattle.std.proofs.Common.{rules, ◌∙◌, ap, refl, get_or, ℕ, ℤ, pos, FitsSigned, to_z-of_z}
+use Rattle.std.proofs.Common.{rules, ◌∙◌, ap, refl, get_or, ℕ, ℤ, pos, FitsSigned, to_z, to_z-of_z}
 use Rattle.std.specs.Int.{int_max, w64, w128}
 use Rattle.units_core.specs.Interpolation.{at}
 use Rattle.units_core.specs.declared.frames.Frame.{Frame}
@@ -12,14 +12,11 @@ loop-i-preserved c =
     let bending : ℕ → ℤ = λ i. at c.args.bending.now i in
     let frames = c.args.frames.now in
     let load = get_or c.args.bending.now c.loop-i.i (pos 0) in
-    let r : FitsSigned w128 c.max-most.result = search rules in
-    let p : FitsSigned w128 c.percent_of.result = search rules in
+    let r : FitsSigned w128 c.percent_with-most.result = search rules in
     let f : FitsSigned w128 load = search rules in
     let g : FitsSigned w64 c.bending_limit.result = search rules in
     let limit = simp (to_z-of_z f) at c.bending_limit.ensures in
-    let percent = (simp (to_z-of_z f, to_z-of_z g) at c.percent_of.ensures) ∙ ap (λ (m : ℤ). percent_of load m) limit in
-    let step = (simp (to_z-of_z p) at c.max-most.ensures.value) in
+    let step = c.percent_with-most.ensures ∙ (λ i. int_max (to_z w128 c.loop-i.most-bits) (percent_of (to_z-of_z f i) (to_z-of_z g i))) ∙ (λ i. int_max (to_z w128 c.loop-i.most-bits) (percent_of load (limit i))) in
     simp (to_z-of_z r)
     (frame_more (λ (i : ℕ) (fr : Frame). percent_of (bending i) (bending_limit fr (bending i))) (bending_percents bending) (λ i fr more. refl) frames c.loop-i.i c.index-frames-i.result
-    _ c.max-most.result (bending_percent bending frames) c.loop-i-test.true c.index-frames-i.is c.loop-i.invariant
-    (step ∙ ap (int_max _) percent))
+    _ c.percent_with-most.result (bending_percent bending frames) c.loop-i-test.true c.index-frames-i.is c.loop-i.invariant step)

@@ -1,4 +1,4 @@
-use Rattle.std.proofs.Common.{rules, ◌∙◌, ap, sym, subst, refl, get_or, ℕ, ℤ, pos, FitsSigned, to_z-of_z}
+use Rattle.std.proofs.Common.{rules, ◌∙◌, ap, sym, subst, refl, get_or, ℕ, ℤ, pos, FitsSigned, to_z, to_z-of_z}
 use Rattle.std.specs.Int.{int_max, w64, w128}
 use Rattle.units_core.specs.Interpolation.{at}
 use Rattle.units_core.specs.declared.frames.Frame.{Frame}
@@ -12,14 +12,11 @@ loop-i-preserved c =
     let frames = c.args.frames.now in
     let frame = c.index-frames-i.result in
     let load = get_or c.args.shear.now c.loop-i.i (pos 0) in
-    let r : FitsSigned w128 c.max-most.result = search rules in
-    let p : FitsSigned w128 c.percent_of.result = search rules in
+    let r : FitsSigned w128 c.percent_with-most.result = search rules in
     let f : FitsSigned w128 load = search rules in
     let own : FitsSigned w64 frame.shear_max = search rules in
     let g = subst (λ (fr : Frame). FitsSigned w64 fr.shear_max) c.index-frames-i.is own in
-    let percent = (simp (to_z-of_z f, to_z-of_z g) at c.percent_of.ensures) ∙ ap (λ (fr : Frame). percent_of load fr.shear_max) (sym c.index-frames-i.is) in
-    let step = (simp (to_z-of_z p) at c.max-most.ensures.value) in
+    let step = c.percent_with-most.ensures ∙ (λ i. int_max (to_z w128 c.loop-i.most-bits) (percent_of (to_z-of_z f i) (to_z-of_z g i))) ∙ (λ i. int_max (to_z w128 c.loop-i.most-bits) (percent_of load (sym c.index-frames-i.is i).shear_max)) in
     simp (to_z-of_z r)
     (frame_more (λ (i : ℕ) (fr : Frame). percent_of (shear i) fr.shear_max) (shear_percents shear) (λ i fr more. refl) frames c.loop-i.i frame
-    _ c.max-most.result (shear_percent shear frames) c.loop-i-test.true c.index-frames-i.is c.loop-i.invariant
-    (step ∙ ap (int_max _) percent))
+    _ c.percent_with-most.result (shear_percent shear frames) c.loop-i-test.true c.index-frames-i.is c.loop-i.invariant step)

@@ -24,11 +24,7 @@ pub returns-in-Table-clause-shown : goal.returns-in-Table-clause-shown
 returns-in-Table-clause-shown g c =
     let line = c.args.line in
     IfOk-weaker c.table_to.result _ _
-    (λ status h. (h.0, (c.inputs-inputs.result, c.inputs-inputs.ensures, subst (λ (view : View). IsShown (IsTextBy view line.condition line.form) c.inputs-inputs.result status h.0) (sym c.in-Table.is) h.1), h.2))
-    c.table_to.ensures.shown
-
-pub returns-in-Table-clause-stopped : goal.returns-in-Table-clause-stopped
-returns-in-Table-clause-stopped g c = IfErr-weaker c.table_to.result _ _ (λ stop h. (c.inputs-inputs.result, c.inputs-inputs.ensures, h)) c.table_to.ensures.stopped
+    (λ status h. (h.0, (h.1.0, h.1.1, subst (λ (view : View). IsShown (IsTextBy view line.condition line.form) h.1.0 status h.0) (sym c.in-Table.is) h.1.2), h.2)) c.table_to.ensures.shown
 
 pub returns-in-Page-clause-shown : goal.returns-in-Page-clause-shown
 returns-in-Page-clause-shown g c =

@@ -19,19 +19,19 @@ loop-i-preserved c =
     let frame = c.index-frames-i.result in
     let load = get_or c.args.bending.now i (pos 0) in
     let f : FitsSigned w128 load = search rules in
-    let g : FitsSigned w64 c.bending_limit.result = search rules in
-    let part = simp (to_z-of_z f, to_z-of_z g) at c.part_of-part.ensures in
-    let limit = simp (to_z-of_z f) at c.bending_limit.ensures in
+    let g : FitsSigned w64 c.bending_limit-limit.result = search rules in
+    let step = simp (to_z-of_z f, to_z-of_z g) at c.note_load.ensures.here in
+    let limit = simp (to_z-of_z f) at c.bending_limit-limit.ensures in
     let at_frame : Frame → ℕ → Candidate = λ fr k. record { step = c.args.step; place = k; safety = part_of (at c.args.bending.now k) (bending_limit fr (at c.args.bending.now k)) } in
     let all : List Frame → ℕ → List Candidate = λ fs k. bendings (λ j. at c.args.bending.now j) c.args.step fs k in
     record {
-      length = c.note.ensures.length ∙ inv.length;
+      length = c.note_load.ensures.length ∙ inv.length;
       here =
-          frame_more at_frame all (λ fr more k. refl) c.args.frames.now i frame before (row_of c.note.new.self row)
+          frame_more at_frame all (λ fr more k. refl) c.args.frames.now i frame before (row_of c.note_load.new.rows row)
           (joined (row_of c.args.rows.now row) (worst_of (all c.args.frames.now 0))) c.loop-i-test.true c.index-frames-i.is
           inv.here
-          (c.note.ensures.here ∙ ap (λ (x : Candidate). joined before (Some x)) (part ∙ ap (λ (m : ℤ). record { step = c.args.step; place = i; safety = part_of load m }) limit));
-      others = λ j apart. c.note.ensures.others j apart ∙ inv.others j apart;
+          (step ∙ ap (λ (m : ℤ). joined before (Some (record { step = c.args.step; place = i; safety = part_of load m }))) limit);
+      others = λ j apart. c.note_load.ensures.others j apart ∙ inv.others j apart;
     }
 
 pub returns-clause-here : goal.returns-clause-here

@@ -21,17 +21,17 @@ loop-i-preserved c =
     let f : FitsSigned w128 load = search rules in
     let own : FitsSigned w64 frame.shear_max = search rules in
     let g = subst (λ (fr : Frame). FitsSigned w64 fr.shear_max) c.index-frames-i.is own in
-    let part = simp (to_z-of_z f, to_z-of_z g) at c.part_of-part.ensures in
+    let step = simp (to_z-of_z f, to_z-of_z g) at c.note_load.ensures.here in
     let at_frame : Frame → ℕ → Candidate = λ fr k. record { step = c.args.step; place = k; safety = part_of (at c.args.shear.now k) fr.shear_max } in
     let all : List Frame → ℕ → List Candidate = λ fs k. shears (λ j. at c.args.shear.now j) c.args.step fs k in
     record {
-      length = c.note.ensures.length ∙ inv.length;
+      length = c.note_load.ensures.length ∙ inv.length;
       here =
-          frame_more at_frame all (λ fr more k. refl) c.args.frames.now i frame before (row_of c.note.new.self row)
+          frame_more at_frame all (λ fr more k. refl) c.args.frames.now i frame before (row_of c.note_load.new.rows row)
           (joined (row_of c.args.rows.now row) (worst_of (all c.args.frames.now 0))) c.loop-i-test.true c.index-frames-i.is
           inv.here
-          (c.note.ensures.here ∙ ap (λ (x : Candidate). joined before (Some x)) (part ∙ (λ j. record { step = c.args.step; place = i; safety = part_of load (sym c.index-frames-i.is j).shear_max })));
-      others = λ j apart. c.note.ensures.others j apart ∙ inv.others j apart;
+          (step ∙ (λ j. joined before (Some (record { step = c.args.step; place = i; safety = part_of load (sym c.index-frames-i.is j).shear_max }))));
+      others = λ j apart. c.note_load.ensures.others j apart ∙ inv.others j apart;
     }
 
 pub returns-clause-here : goal.returns-clause-here
