@@ -66,7 +66,7 @@ pub fn charted_in<G: Gate, R: Threads + Wait + Sync>(
         &Charting { lines: &*lines },
     )?;
     let mut findings = Findings::new(alloc);
-    let mut series = Series::new(alloc);
+    let mut series = Series::with_capacity(alloc, lines.case.lines() as usize)?;
     for part in &parts {
         findings.join(&part.findings)?;
         series.append(&part.series, lines.case.profile.frames())?;

@@ -27,7 +27,7 @@ use std::thread::Threads;
 use strength::{Hull, Strains};
 use view_figures::row_of;
 use view_table::add_json_text;
-use view_texts::{lift_at, row_text};
+use view_texts::{lift_at, value_text};
 use worst_values::Limit;
 
 /// Marks the condition of a step.
@@ -88,8 +88,21 @@ fn first_kept(kept: &[bool]) -> Option<u32> {
     None
 }
 
+/// Whether HTML has a text as it is.
+fn is_plain(words: &str) -> bool {
+    for byte in words.bytes() {
+        if byte == b'<' {
+            return false;
+        }
+    }
+    true
+}
+
 /// Adds a text of JSON that may stand in HTML.
 fn add_json(alloc: Global, text: &mut String, words: &str) -> Result<(), AllocError> {
+    if is_plain(words) {
+        return add_json_text(text, words.as_bytes());
+    }
     let mut json = String::new(alloc);
     add_json_text(&mut json, words.as_bytes())?;
     for byte in json.as_str().bytes() {
@@ -102,7 +115,7 @@ fn add_json(alloc: Global, text: &mut String, words: &str) -> Result<(), AllocEr
 }
 
 /// A limit's value of a condition, as its row has it, with the side on which it is.
-fn value_text(
+fn value_of(
     alloc: Global,
     profile: &Profile,
     exact: &Exact,
@@ -114,7 +127,7 @@ fn value_text(
     requires least { IsLeast exact.now.least }
 {
     match row_of(profile, exact, levers, strains, limit) {
-        Some(row) => Ok((row_text(alloc, &row, 0)?.value, row.side)),
+        Some(row) => Ok((value_text(alloc, &row)?, row.side)),
         None => Ok((String::new(alloc), Ordering::Equal)),
     }
 }
@@ -138,14 +151,14 @@ fn add_figures(
     };
     let levers = &levers;
     let gm = in_thousandths(alloc, plotted.gm)?;
-    let (list, side) = value_text(alloc, profile, exact, levers, strains, Limit::List)?;
+    let (list, side) = value_of(alloc, profile, exact, levers, strains, Limit::List)?;
     let side = match side {
         Ordering::Greater => "S ",
         Ordering::Less => "P ",
         Ordering::Equal => "",
     };
-    let (aft, _) = value_text(alloc, profile, exact, levers, strains, Limit::DraughtAft)?;
-    let (fwd, _) = value_text(
+    let (aft, _) = value_of(alloc, profile, exact, levers, strains, Limit::DraughtAft)?;
+    let (fwd, _) = value_of(
         alloc,
         profile,
         exact,

@@ -1,4 +1,4 @@
-ghost use Rattle.std.specs.Prelude.{◌≡◌, ◌++◌, [], OnOk};
+ghost use Rattle.std.specs.Prelude.{◌≡◌, ◌++◌, [], IfOk, OnOk};
 ghost use Rattle.criteria.specs.Least.{IsLeast};
 ghost use Rattle.view_page.specs.Series.{figure_of};
 
@@ -87,14 +87,13 @@ impl Plotted {
 }
 
 impl Series {
-    /// No condition.
-    pub(crate) fn new(alloc: Global) -> Series
-        ensures { result ≡ [] }
+    /// No condition, and room for so many.
+    pub(crate) fn with_capacity(alloc: Global, conditions: usize) -> Result<Series, AllocError>
+        ensures { IfOk result (λ s. s ≡ []) }
     {
-        Series {
-            plotted: Vec::new(alloc),
-            beside: Beside::new(alloc),
-        }
+        let plotted = Vec::with_capacity(alloc, conditions)?;
+        let beside = Beside::with_capacity(alloc, conditions)?;
+        Ok(Series { plotted, beside })
     }
 
     /// The figures of the conditions.
@@ -124,14 +123,16 @@ impl Series {
 }
 
 impl Beside {
-    /// No condition.
-    pub(crate) fn new(alloc: Global) -> Beside {
-        Beside {
-            least_gm: Vec::new(alloc),
-            shares: Vec::new(alloc),
+    /// No condition, and room for so many.
+    pub(crate) fn with_capacity(alloc: Global, conditions: usize) -> Result<Beside, AllocError> {
+        let least_gm = Vec::with_capacity(alloc, conditions)?;
+        let shares = Vec::with_capacity(alloc, conditions)?;
+        Ok(Beside {
+            least_gm,
+            shares,
             reaches: Reaches::default(),
             arrival: None,
-        }
+        })
     }
 
     /// Notes the condition of step `k`, which lies within the ship's tables.

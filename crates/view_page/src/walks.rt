@@ -117,8 +117,9 @@ pub fn charted_in_chunk(
 {
     let profile = case.profile;
     let mut findings = Findings::new(alloc);
-    let mut plotted = Vec::new(alloc);
-    let mut beside = Beside::new(alloc);
+    let lines = chunk.end.saturating_sub(chunk.start) as usize;
+    let mut plotted = Vec::with_capacity(alloc, lines)?;
+    let mut beside = Beside::with_capacity(alloc, lines)?;
     let mut sum = chunk.first;
     let mut near = Nearby::default();
     let mut figures = RoundedFigures::default();

@@ -22,7 +22,7 @@ pub use differences::changes;
 pub use explanations::explanation_of;
 pub use listings::listing;
 pub use records::{end_line, run_line};
-pub use rows::{RowText, percent_text, row_text, tightest};
+pub use rows::{RowText, percent_text, row_text, tightest, value_text};
 pub use sheets::{add_sheet, condition_rows, load_texts, row_by};
 pub use sources::{Message, Sources, digest_of, message_source, profile_source, steps_digest};
 pub use steps::{deed_by, lift_at};

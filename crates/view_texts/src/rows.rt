@@ -145,31 +145,38 @@ fn figure(alloc: Global, limit: Limit, number: i128) -> Result<String, AllocErro
     }
 }
 
-/// The value, the limit and the margin of a reading.
-fn reading_texts(
-    alloc: Global,
-    limit: Limit,
-    reading: Reading,
-) -> Result<(String, String, String), AllocError> {
-    let value = figure(alloc, limit, reading.value)?;
-    let most = figure(alloc, limit, reading.limit)?;
-    let margin = figure(alloc, limit, reading.margin)?;
-    Ok((value, most, margin))
+/// The value of a row in words.
+pub fn value_text(alloc: Global, row: &Row) -> Result<String, AllocError> {
+    match row.figures {
+        Figures::Reading(reading) => figure(alloc, row.limit, reading.value),
+        Figures::List(reading) => match reading.value {
+            Some((value, _)) => in_hundredths(alloc, value),
+            None => String::from_str(alloc, ">45.00"),
+        },
+        Figures::NoList(_) => String::from_str(alloc, "-"),
+    }
 }
 
-/// Those of the list.
-fn list_texts(alloc: Global, reading: ListReading) -> Result<(String, String, String), AllocError> {
-    let limit = in_hundredths(alloc, reading.limit)?;
-    match reading.value {
-        Some((value, margin)) => {
-            let value = in_hundredths(alloc, value)?;
-            let margin = in_hundredths(alloc, margin)?;
-            Ok((value, limit, margin))
+/// The limit and the margin of a row in words.
+fn limit_texts(alloc: Global, row: &Row) -> Result<(String, String), AllocError> {
+    match row.figures {
+        Figures::Reading(reading) => {
+            let limit = figure(alloc, row.limit, reading.limit)?;
+            let margin = figure(alloc, row.limit, reading.margin)?;
+            Ok((limit, margin))
         }
-        None => {
-            let value = String::from_str(alloc, ">45.00")?;
-            let margin = String::from_str(alloc, "<-0.01")?;
-            Ok((value, limit, margin))
+        Figures::List(reading) => {
+            let limit = in_hundredths(alloc, reading.limit)?;
+            let margin = match reading.value {
+                Some((_, margin)) => in_hundredths(alloc, margin)?,
+                None => String::from_str(alloc, "<-0.01")?,
+            };
+            Ok((limit, margin))
+        }
+        Figures::NoList(limit) => {
+            let limit = in_hundredths(alloc, limit)?;
+            let margin = String::from_str(alloc, "-")?;
+            Ok((limit, margin))
         }
     }
 }
@@ -190,24 +197,11 @@ fn used_text(alloc: Global, row: &Row) -> Result<String, AllocError> {
     }
 }
 
-/// The three figures of a row.
-fn figure_texts(alloc: Global, row: &Row) -> Result<(String, String, String), AllocError> {
-    match row.figures {
-        Figures::Reading(reading) => reading_texts(alloc, row.limit, reading),
-        Figures::List(reading) => list_texts(alloc, reading),
-        Figures::NoList(limit) => {
-            let value = String::from_str(alloc, "-")?;
-            let limit = in_hundredths(alloc, limit)?;
-            let margin = String::from_str(alloc, "-")?;
-            Ok((value, limit, margin))
-        }
-    }
-}
-
 /// A row in words, of the condition of a step.
 pub fn row_text(alloc: Global, row: &Row, step: u32) -> Result<RowText, AllocError> {
     let name = name_of(alloc, row)?;
-    let (value, limit, margin) = figure_texts(alloc, row)?;
+    let value = value_text(alloc, row)?;
+    let (limit, margin) = limit_texts(alloc, row)?;
     let used = used_text(alloc, row)?;
     let unit = match row.figures {
         Figures::NoList(_) => "",

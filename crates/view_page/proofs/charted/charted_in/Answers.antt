@@ -19,7 +19,7 @@ loop-part-init g c = record {
   length = c.new-findings.ensures.length;
   each = λ j low. c.new-findings.ensures.none j ∙ sym worst_none;
   unmet = c.new-findings.ensures.unmet;
-  plotted = c.new-series.ensures;
+  plotted = c.in_ok-series.ensures;
 }
 
 pub loop-part-preserved : goal.loop-part-preserved

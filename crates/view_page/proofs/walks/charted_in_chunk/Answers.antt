@@ -19,7 +19,7 @@ loop-k-init c =
       length = c.new-findings.ensures.length;
       each = λ j low. c.new-findings.ensures.none j ∙ sym (over_none case start j);
       unmet = c.new-findings.ensures.unmet ∙ sym (unmet_none case start);
-      plotted = c.new-plotted.ensures.items ∙ sym (plotted_none case start);
+      plotted = c.in_ok-plotted.ensures.items ∙ sym (plotted_none case start);
       sum = c.requires.chunk.sum;
     }
 
