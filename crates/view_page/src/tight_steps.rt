@@ -6,14 +6,29 @@ use view_figures::Greatest;
 /// How many of the tightest steps are listed.
 const TIGHTEST: usize = 10;
 
-/// Whether a step is further than so many from each of some others.
-fn is_apart(steps: &[u32], step: u32, apart: u32) -> bool {
-    for other in steps {
-        if other.abs_diff(step) <= apart {
-            return false;
+/// The first condition from one on that is further than so many from each of some others.
+fn first_apart(steps: &[u32], from: u32, apart: u32) -> u32 {
+    let mut first = from;
+    // behind one of them may begin what is too near to another, which was looked at before
+    for _ in 0..steps.len() {
+        for other in steps {
+            if other.abs_diff(first) <= apart {
+                first = other.saturating_add(apart).saturating_add(1);
+            }
         }
     }
-    true
+    first
+}
+
+/// Where the conditions from such a one on end that are so.
+fn end_apart(steps: &[u32], first: u32, apart: u32, conditions: u32) -> u32 {
+    let mut end = conditions;
+    for other in steps {
+        if *other > first {
+            end = end.min(other.saturating_sub(apart));
+        }
+    }
+    end
 }
 
 /// A step, and how much of a limit it uses.
@@ -31,20 +46,38 @@ fn is_tighter(found: &Option<Tight>, share: Option<Frac>) -> bool {
     }
 }
 
-/// The condition that uses most of a limit, of several the first, among those further than so many
-/// from each of some others.
-fn next_tightest(shares: &[Option<Frac>], steps: &[u32], apart: u32) -> Option<u32> {
-    let mut found: Option<Tight> = None;
-    let mut step = 0u32;
-    for share in shares {
-        // whether it is apart is seen at less cost
-        if is_apart(steps, step, apart) && is_tighter(&found, *share) {
-            found = Some(Tight {
-                step,
-                used: Greatest::of(*share),
-            });
+/// The tighter of a condition and some of those behind it.
+fn tighter_in(
+    found: Option<Tight>,
+    shares: &[Option<Frac>],
+    first: u32,
+    end: u32,
+) -> Option<Tight> {
+    let mut found = found;
+    for step in first..end {
+        if let Some(share) = shares.get(step as usize) {
+            if is_tighter(&found, *share) {
+                found = Some(Tight {
+                    step,
+                    used: Greatest::of(*share),
+                });
+            }
         }
-        step = step.saturating_add(1);
+    }
+    found
+}
+
+/// The condition that uses most of a limit, of several the first, among those further than so many
+/// from each of some others. There is at most one run of such conditions more than others.
+fn next_tightest(shares: &[Option<Frac>], steps: &[u32], apart: u32) -> Option<u32> {
+    let conditions = u32::try_from(shares.len()).unwrap_or(u32::MAX);
+    let mut found: Option<Tight> = None;
+    let mut from = 0u32;
+    for _ in 0..=steps.len() {
+        let first = first_apart(steps, from, apart);
+        let end = end_apart(steps, first, apart, conditions);
+        found = tighter_in(found, shares, first, end);
+        from = end.max(first);
     }
     match found {
         Some(tight) => Some(tight.step),
