@@ -1,6 +1,6 @@
 //! The exact order of fractions, and how they are printed.
 use crate::checks::same;
-use fractions::{down, is_less, order, up};
+use fractions::{down, is_from_mark, is_less, is_up_to_mark, mark_above, mark_below, order, up};
 use std::cmp::Ordering;
 use units_core::Frac;
 
@@ -45,4 +45,35 @@ fn fractions_in_print(rt: HostRuntime) {
     same(&rt, up(Frac { num: 7, den: 3 }, 100), 234);
     same(&rt, down(Frac { num: -7, den: 3 }, 100), -234);
     same(&rt, up(Frac { num: -7, den: 3 }, 100), -233);
+}
+
+// 5/3 are 6,826.67 of 4,096 parts, and -5/3 as many below 0. A number of 35 digits is compared with
+// no mark, nor one of 2^31 parts.
+#[test]
+fn marks_beside_fractions(rt: HostRuntime) {
+    let five = Frac { num: 5, den: 3 };
+    let below = Frac { num: -5, den: 3 };
+    same(&rt, mark_above(five), Some(6_827));
+    same(&rt, mark_below(five), Some(6_826));
+    same(&rt, mark_above(below), Some(-6_826));
+    same(&rt, mark_below(below), Some(-6_827));
+    same(
+        &rt,
+        [is_from_mark(five, 6_826), is_from_mark(five, 6_827)],
+        [true, false],
+    );
+    same(
+        &rt,
+        [is_up_to_mark(five, 6_826), is_up_to_mark(five, 6_827)],
+        [false, true],
+    );
+    same(&rt, mark_above(LONG), None);
+    same(
+        &rt,
+        mark_above(Frac {
+            num: 524_288,
+            den: 1,
+        }),
+        None,
+    );
 }

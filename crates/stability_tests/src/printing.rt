@@ -1,10 +1,12 @@
 //! Figures as a planner reads them, with numbers worked out beside them.
+ghost use Rattle.std.specs.Prelude.{pos, ◌≤ℤ◌};
+
 use crate::checks::same;
 use plain_text::{in_hundredths, in_ten_thousandths, in_tenths, in_thousandths};
 use std::test::Fail;
 use units_core::Frac;
 use view_figures::{
-    Reading, area_reading, at_least, at_most, is_more, list_reading, share_of, used_of,
+    Greatest, Reading, area_reading, at_least, at_most, is_more, list_reading, share_of, used_of,
 };
 
 // 149.6 is printed as 149, and lacks 0.4, which is printed as -1; 150.4 has 0.4 to spare.
@@ -196,6 +198,42 @@ fn shares_in_their_order(rt: HostRuntime) {
         ],
         [true, false, false, true, false, false],
     );
+}
+
+/// A share of so many parts of so many, as it is looked at below.
+fn parts(num: i128, den: i128) -> Option<Frac>
+    requires { pos 1 ≤ℤ den }
+{
+    Some(Frac { num, den })
+}
+
+/// The numerator of a share.
+fn numerator(share: Option<Frac>) -> Option<i128> {
+    Some(share?.num)
+}
+
+// 3 of 5 are 2,457.6 of 4,096 parts. 60,000 of 100,000 are as many, and 60,005 are 2,457.8: in the
+// same part, and more. What no number tells stays the greatest.
+#[test]
+fn greatest_of_shares(rt: HostRuntime) {
+    let mut greatest = Greatest::of(parts(3, 5));
+    same(
+        &rt,
+        [
+            greatest.is_below(parts(1, 2)),
+            greatest.is_below(parts(60_000, 100_000)),
+            greatest.is_below(parts(60_005, 100_000)),
+            greatest.is_below(None),
+        ],
+        [false, false, true, true],
+    );
+    greatest.note(parts(60_000, 100_000));
+    same(&rt, numerator(greatest.share), Some(3));
+    greatest.note(parts(60_005, 100_000));
+    same(&rt, numerator(greatest.share), Some(60_005));
+    greatest.note(None);
+    greatest.note(parts(7, 2));
+    same(&rt, greatest.share.is_none(), true);
 }
 
 #[test]

@@ -1,77 +1,69 @@
-//! The greatest of some shares. Nearly all are far below it, which is seen at a fraction of the
-//! cost of an exact comparison.
+//! The greatest of some shares. Nearly all are far below it, which a mark shows at a fraction of
+//! the cost of an exact comparison.
+ghost use Rattle.std.specs.Prelude.{◌≡◌, Option, true, false};
+ghost use Rattle.units_core.specs.declared.fractions.Frac.{Frac};
+ghost use Rattle.view_figures.specs.Shares.{greater_of, is_marked, is_more};
+
 use crate::shares::is_more;
-use units_core::{Frac, floor};
-
-/// Of so many parts to one is what most shares are compared with.
-const PARTS: i128 = 65_536;
-
-/// The greatest numerator, divisor and number of parts that are compared so: no product is too
-/// great for 127 bits.
-const GREATEST: i128 = 1 << 110;
-
-const GREATEST_DIVISOR: i128 = 1 << 105;
-
-const GREATEST_PARTS: i128 = 1 << 20;
+use fractions::{is_up_to_mark, mark_below};
+use units_core::Frac;
 
 /// The greatest of some shares; one that no number tells is more than any.
 #[derive(Clone, Copy, Debug)]
 pub struct Greatest {
-    share: Option<Frac>,
-    /// It in parts, rounded down, where it may be told so.
-    parts: Option<i128>,
+    pub share: Option<Frac>,
+    /// A mark that it isn't less than, where there's one.
+    mark: Option<i32>,
+    pub ghost marked: { is_marked share mark ≡ true },
 }
 
-/// A share in parts, rounded down, where it may be told so.
-fn parts_of(share: Option<Frac>) -> Option<i128> {
-    let Frac { num, den } = share?;
-    if num < 0 || num > GREATEST {
-        return None;
+/// A mark that a share isn't less than, where there's one.
+#[tactic(auto, using(crate::proofs::MarkLemmas::marked_by))]
+fn mark_of(share: Option<Frac>) -> Option<i32>
+    ensures { is_marked share result ≡ true }
+{
+    match share {
+        Some(share) => mark_below(share),
+        None => None,
     }
-    let parts = floor(Frac {
-        num: num.wrapping_mul(PARTS),
-        den,
-    });
-    if parts > GREATEST_PARTS {
-        return None;
-    }
-    Some(parts)
 }
 
-/// Whether a share is surely no more than one of which these are the parts.
-fn is_within(share: Option<Frac>, parts: Option<i128>) -> bool {
-    let (Some(share), Some(parts)) = (share, parts) else {
-        return false;
-    };
-    if share.num > GREATEST || share.den > GREATEST_DIVISOR {
-        return false;
+/// Whether a share is surely no more than one of this mark.
+#[tactic(auto, using(crate::proofs::MarkLemmas::no_more_on))]
+fn is_within(share: Option<Frac>, mark: Option<i32>) -> bool
+    ensures { result ≡ true → (greatest : Option Frac) → is_marked greatest mark ≡ true
+        → is_more share greatest ≡ false }
+{
+    match (share, mark) {
+        (Some(share), Some(mark)) => is_up_to_mark(share, mark),
+        _ => false,
     }
-    share.num.wrapping_mul(PARTS) <= share.den.wrapping_mul(parts)
 }
 
 impl Greatest {
     /// That of one share.
-    pub fn of(share: Option<Frac>) -> Greatest {
+    pub fn of(share: Option<Frac>) -> Greatest
+        ensures { result.share ≡ share }
+    {
         Greatest {
             share,
-            parts: parts_of(share),
+            mark: mark_of(share),
         }
     }
 
-    /// Whether another share is more.
-    pub fn is_below(&self, share: Option<Frac>) -> bool {
-        !is_within(share, self.parts) && is_more(share, self.share)
+    /// Whether another share is more ([`is_more`](crate::is_more)).
+    pub fn is_below(&self, share: Option<Frac>) -> bool
+        ensures { result ≡ is_more share self.now.share }
+    {
+        !is_within(share, self.mark) && is_more(share, self.share)
     }
 
-    /// Joins a share.
-    pub fn note(&mut self, share: Option<Frac>) {
+    /// Joins a share: of equal ones the first stays.
+    pub fn note(&mut self, share: Option<Frac>)
+        ensures { self.new.share ≡ greater_of self.old.share share }
+    {
         if self.is_below(share) {
             *self = Greatest::of(share);
         }
-    }
-
-    /// It.
-    pub fn share(&self) -> Option<Frac> {
-        self.share
     }
 }

@@ -6,7 +6,7 @@
 //! up ([`Used`]). [`condition_at`] gives the table of limits of a condition, how the ship floats,
 //! her levers and loads, and what is missing to her limits.
 //!
-//! The definitions are `Readings` of `specs/`.
+//! The definitions are `Readings` and `Shares` of `specs/`.
 #![tactic(auto)]
 
 mod afloat;

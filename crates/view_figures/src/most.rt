@@ -1,6 +1,7 @@
 //! How much of its limits a condition uses at most, without what is printed of them.
 ghost use Rattle.std.specs.Prelude.{◌≡◌, ◌*◌, ◌^◌, ◌<◌, ◌≤◌, length, pos, ◌≤ℤ◌, unsigned_abs};
 ghost use Rattle.criteria.specs.Least.{IsLeast};
+ghost use Rattle.view_figures.specs.Shares.{greater_of};
 
 use crate::areas::fine_area;
 use crate::greatest::Greatest;
@@ -24,7 +25,9 @@ const NOTHING: Option<Frac> = Some(Frac { num: 0, den: 1 });
 const LEVER_MOST: i128 = 1_000_000_000_000_000_000_000_000_000_000_000_000;
 
 /// The greater of two shares.
-fn more(one: Option<Frac>, other: Option<Frac>) -> Option<Frac> {
+fn more(one: Option<Frac>, other: Option<Frac>) -> Option<Frac>
+    ensures { result ≡ greater_of one other }
+{
     if is_more(other, one) { other } else { one }
 }
 
@@ -220,5 +223,5 @@ pub fn most_used(profile: &Profile, exact: &Exact, strains: &Strains) -> Option<
     note_draughts(&mut most, profile, a);
     note_curve(&mut most, &exact.curve);
     note_stability(&mut most, a, exact.least);
-    most.share()
+    most.share
 }

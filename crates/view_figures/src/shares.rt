@@ -3,6 +3,7 @@ ghost use Rattle.std.specs.Prelude.{IfSome, IsSomeAnd};
 ghost use Rattle.units_core.specs.Ratio.{Is, IsFloor, Ratio, ◌over◌, ◌⊘◌};
 ghost use Rattle.fractions.specs.Rounded.{up};
 ghost use Rattle.view_figures.specs.Readings.{IsPercent};
+ghost use Rattle.view_figures.specs.Shares.{is_more};
 
 use fractions::{is_less, up};
 use units_core::{Frac, floor};
@@ -146,7 +147,9 @@ pub fn used_of(part: Frac, all: Frac) -> Used
 }
 
 /// Whether one share is more than another; one that no number tells is more than any.
-pub fn is_more(one: Option<Frac>, other: Option<Frac>) -> bool {
+pub fn is_more(one: Option<Frac>, other: Option<Frac>) -> bool
+    ensures { result ≡ is_more one other }
+{
     match (one, other) {
         (_, None) => false,
         (None, Some(_)) => true,

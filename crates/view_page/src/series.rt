@@ -1,4 +1,4 @@
-ghost use Rattle.std.specs.Prelude.{◌≡◌, ◌++◌, [], IfOk, OnOk};
+ghost use Rattle.std.specs.Prelude.{◌≡◌, ◌++◌, [], None, IfOk, OnOk, slice_index_or};
 ghost use Rattle.criteria.specs.Least.{IsLeast};
 ghost use Rattle.view_page.specs.Series.{figure_of};
 
@@ -104,7 +104,9 @@ impl Series {
     }
 
     /// The figures of the condition of a step, if it lies within the ship's tables.
-    pub fn at(&self, step: u32) -> Option<Plotted> {
+    pub fn at(&self, step: u32) -> Option<Plotted>
+        ensures { result ≡ slice_index_or self.now step None }
+    {
         *self.plotted.get(step as usize)?
     }
 

@@ -1,7 +1,7 @@
 -- Bookkeeping: the worst value of each row of a table, and a mark that it is worse than.
-use Rattle.std.specs.Prelude.{ℕ, ℤ, pos, Bool, true, false, List, slice_index_or, Option, None}
+use Rattle.std.specs.Prelude.{ℕ, ℤ, Bool, true, false, List, slice_index_or, Option, None}
 use Rattle.std.specs.Prelude.{Some}
-use Rattle.units_core.specs.Ratio.{◌over◌}
+use Rattle.fractions.specs.Marks.{at_mark}
 use Rattle.worst_values.specs.Lowest.{lowest}
 use Rattle.worst_values.specs.Worst.{Candidate, Safety, is_worse}
 
@@ -9,9 +9,9 @@ use Rattle.worst_values.specs.Worst.{Candidate, Safety, is_worse}
 abbrev pub row_of : List (Option Candidate) → ℕ → Option Candidate
 row_of rows j = slice_index_or rows j None
 
--- a mark, in parts of which there are 4096 to one
+-- a mark
 abbrev pub mark_of : ℤ → Safety
-mark_of m = record { beyond = false; by = lowest (m over pos 4096) }
+mark_of m = record { beyond = false; by = lowest (at_mark m) }
 
 -- the value of a row is worse than its mark, if it has one
 abbrev pub is_marked : Option Candidate → Option ℤ → Bool

@@ -3,7 +3,7 @@ ghost use Rattle.worst_values.specs.Rows.{is_marked};
 ghost use Rattle.worst_values.specs.Worst.{candidate_of, joined};
 
 use crate::joining::is_worse;
-use crate::marks::{is_value_from, mark_above};
+use crate::marks::{is_value_from, mark_of_value};
 use crate::values::Value;
 
 /// The worst value of a row, where one was found, and a mark that it is worse than.
@@ -31,7 +31,7 @@ impl Row {
     {
         Row {
             worst: Some(worst),
-            mark: mark_above(&worst),
+            mark: mark_of_value(&worst),
         }
     }
 

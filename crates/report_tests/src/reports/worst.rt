@@ -2,11 +2,14 @@
 use super::inputs;
 use super::searches::HEAVY_SECOND;
 use crate::checks::{holds, same};
+use box_ship::LOAD_TO_STARBOARD;
 use claim_run::{Open, Workers};
 use port_call::PortCall;
 use running_sums::sums_of;
-use seq_report::{Criterion, CutPlan, cuts_of};
+use seq_report::{Criterion, CutPlan, Lines, cuts_of};
 use std::test::Fail;
+use strength::Hull;
+use view_page::charted_in;
 use worst_values::{Limit, found_in, limit_at};
 
 // The second load lists the ship beyond her limit, so that she lists most at step 2, and her GM is
@@ -33,5 +36,45 @@ fn worst_of_two_loads(rt: HostRuntime) -> Result<(), Fail> {
     same(&rt, last.lines, 1);
     holds(&rt, last.unmet[7]);
     holds(&rt, !last.unmet[0]);
+    Ok(())
+}
+
+// 20.5 t on a ship of 2,050 t to the metre: she lies 10 mm deeper, and lists to starboard.
+#[test]
+fn found_and_drawn_at_once(rt: HostRuntime) -> Result<(), Fail> {
+    let Ok(call) = PortCall::read(rt.alloc(), &inputs(LOAD_TO_STARBOARD)) else {
+        panic!(&rt; "the inputs are refused")
+    };
+    let case = call.case();
+    let Ok(cuts) = cuts_of(rt.alloc(), CutPlan::Every(1), case.lines()) else {
+        panic!(&rt; "the cuts are refused")
+    };
+    let workers = Workers::new(2).ok_or("no workers")?;
+    let sums = sums_of(&rt, rt.alloc(), &Open, workers, &call, &cuts)?;
+    let lines = Lines {
+        case,
+        hull: Hull::new(case.profile),
+        cuts: &cuts,
+        sums: &sums,
+    };
+    let charted = charted_in(&rt, rt.alloc(), &Open, workers, &lines)?;
+    same(&rt, charted.findings.first_failing(), None);
+    same(
+        &rt,
+        charted.findings.rows.get(7).map(|list| list.step),
+        Some(1),
+    );
+    same(&rt, charted.series.plotted().len(), 2);
+    same(
+        &rt,
+        charted.series.at(0).map(|drawn| drawn.aft),
+        Some(4_000),
+    );
+    same(
+        &rt,
+        charted.series.at(1).map(|drawn| drawn.aft),
+        Some(4_010),
+    );
+    same(&rt, charted.series.at(2).is_none(), true);
     Ok(())
 }

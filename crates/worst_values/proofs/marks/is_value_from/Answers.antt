@@ -12,7 +12,7 @@ returns-then-not-value c =
     let by = c.args.value.now.by in
     let m = c.args.mark in
     let f : FitsSigned w32 m = search rules in
-    let from = simp (to_z-of_z f) at c.is_from.ensures in
+    let from = simp (to_z-of_z f) at c.is_from_mark.ensures in
     λ held.
     ap (λ (b : Bool). is_worse (record { beyond = b; by = lowest (by.num over by.den) }) (mark_of m)) c.if-not-value.true
     ∙ not_below_mark by.num by.den m by.positive (from held)

@@ -1,7 +1,7 @@
 use Rattle.std.proofs.Common.{rules, ◌^◌, ◌*ℤ◌, pos, FitsSigned, to_z-of_z, arith}
 use Rattle.std.specs.Int.{w128}
 use Rattle.units_core.proofs.Signed.{exact, product_within, fits_within}
-use Rattle.worst_values.proofs.marks.in_parts.Goals as goal
+use Rattle.fractions.proofs.marks.in_parts.Goals as goal
 
 pub overflow_mul-result : goal.overflow_mul-result
 overflow_mul-result c =
