@@ -13,8 +13,6 @@ pub const NOBODY: u32 = u32::MAX;
 #[derive(Clone, Copy, Debug)]
 pub struct Berth {
     pub cell: Cell,
-    /// Where the cell stands in the order of the list.
-    rank: u32,
     /// The number of the item of the bay plan that the container came as, or of its load, behind
     /// these.
     pub who: u32,
@@ -33,6 +31,9 @@ pub struct Berth {
 #[derive(Debug, Drop)]
 pub struct Cargo {
     berths: Vec<Berth>,
+    /// Where each of them stands in that order: these are kept together, since every step is looked
+    /// up among them.
+    ranks: Vec<u32>,
 }
 
 /// Where a cell stands in that order. It is less than 2^32.
@@ -70,7 +71,6 @@ impl Cargo {
         for row in rows {
             berths.push(Berth {
                 cell: row.cell,
-                rank: rank(row.cell),
                 who: NOBODY,
                 since: 0,
                 taken: NOBODY,
@@ -79,8 +79,12 @@ impl Cargo {
                 last: 0,
             })?;
         }
-        berths.sort_unstable_by_key(|berth| berth.rank);
-        let mut cargo = Cargo { berths };
+        berths.sort_unstable_by_key(|berth| rank(berth.cell));
+        let mut ranks = Vec::with_capacity(alloc, berths.len())?;
+        for berth in &berths {
+            ranks.push(rank(berth.cell))?;
+        }
+        let mut cargo = Cargo { berths, ranks };
         cargo.find_sides();
         Ok(cargo)
     }
@@ -106,8 +110,8 @@ impl Cargo {
     /// The first place, from one on, of those that are at least of a rank.
     fn next_from(&self, from: usize, least: u32) -> usize {
         let mut place = from;
-        for berth in self.berths.get(from..).unwrap_or(&[]) {
-            if berth.rank >= least {
+        for rank in self.ranks.get(from..).unwrap_or(&[]) {
+            if *rank >= least {
                 break;
             }
             place = place.saturating_add(1);
@@ -120,16 +124,10 @@ impl Cargo {
         self.berths.as_slice()
     }
 
-    /// The first place of those that are at least of a rank.
-    fn place_from(&self, least: u32) -> usize {
-        self.berths
-            .as_slice()
-            .partition_point(|berth| berth.rank < least)
-    }
-
-    /// The place of a cell.
-    fn place(&self, cell: Cell) -> Option<usize> {
-        let place = self.place_from(rank(cell));
+    /// The place of a cell among them; nothing where the ship has no such cell.
+    pub fn place(&self, cell: Cell) -> Option<usize> {
+        let least = rank(cell);
+        let place = self.ranks.as_slice().partition_point(|rank| *rank < least);
         let berth = self.berths.get(place)?;
         if berth.cell == cell {
             Some(place)
@@ -143,21 +141,23 @@ impl Cargo {
         self.berths.get(self.place(cell)?)
     }
 
-    /// Puts somebody into a cell.
-    pub fn put(&mut self, cell: Cell, who: u32, step: u32) {
-        if let Some(place) = self.place(cell) {
-            if let Some(berth) = self.berths.get_mut(place) {
-                berth.who = who;
-                berth.since = step;
-            }
+    /// Puts somebody into the cell at a place.
+    pub fn put_at(&mut self, place: usize, who: u32, step: u32) {
+        if let Some(berth) = self.berths.get_mut(place) {
+            berth.who = who;
+            berth.since = step;
         }
     }
 
-    /// Takes who stands in a cell out of it.
-    pub fn take(&mut self, cell: Cell, step: u32) -> u32 {
-        let Some(place) = self.place(cell) else {
-            return NOBODY;
-        };
+    /// Puts somebody into a cell.
+    pub fn put(&mut self, cell: Cell, who: u32, step: u32) {
+        if let Some(place) = self.place(cell) {
+            self.put_at(place, who, step);
+        }
+    }
+
+    /// Takes who stands in the cell at a place out of it.
+    pub fn take_at(&mut self, place: usize, step: u32) -> u32 {
         match self.berths.get_mut(place) {
             Some(berth) => {
                 let who = berth.who;
@@ -170,6 +170,14 @@ impl Cargo {
         }
     }
 
+    /// Takes who stands in a cell out of it.
+    pub fn take(&mut self, cell: Cell, step: u32) -> u32 {
+        match self.place(cell) {
+            Some(place) => self.take_at(place, step),
+            None => NOBODY,
+        }
+    }
+
     /// The cells beside a cell.
     fn beside(&self, berth: &Berth) -> &[Berth] {
         self.berths
@@ -177,10 +185,12 @@ impl Cargo {
             .unwrap_or(&[])
     }
 
-    /// The least cell, by bay and tier, above a cell in which a container stands: those beside it
-    /// are in that order.
-    pub fn above(&self, cell: Cell) -> Option<Cell> {
-        for berth in self.beside(self.berth(cell)?) {
+    /// The least cell, by bay and tier, above the one at a place in which a container stands: those
+    /// beside it are in that order.
+    pub fn above(&self, place: usize) -> Option<Cell> {
+        let berth = self.berths.get(place)?;
+        let cell = berth.cell;
+        for berth in self.beside(berth) {
             let other = berth.cell;
             if berth.who != NOBODY && other.tier > cell.tier {
                 let level = Cell {
@@ -195,20 +205,24 @@ impl Cargo {
         None
     }
 
-    /// Whether the ship has a cell below a cell, on its side of the deck, and nobody stands in it
-    /// or overlaps it.
-    pub fn hangs_over(&self, cell: Cell) -> bool {
-        let Some(before) = self.place_from(rank(cell)).checked_sub(1) else {
+    /// The cell at a place, and the one before it in the order.
+    fn with_before(&self, place: usize) -> Option<(Cell, &Berth)> {
+        let berth = self.berths.get(place)?;
+        let before = self.berths.get(place.checked_sub(1)?)?;
+        Some((berth.cell, before))
+    }
+
+    /// Whether the ship has a cell below the one at a place, on its side of the deck, and nobody
+    /// stands in it or overlaps it.
+    pub fn hangs_over(&self, place: usize) -> bool {
+        let Some((cell, before)) = self.with_before(place) else {
             return false;
         };
-        let Some(berth) = self.berths.get(before) else {
-            return false;
-        };
-        let below = berth.cell;
+        let below = before.cell;
         if rank_of_bay(below, below.bay) != rank_of_bay(cell, cell.bay) {
             return false;
         }
-        for other in self.beside(berth) {
+        for other in self.beside(before) {
             if other.who != NOBODY && conflicts(other.cell, below) {
                 return false;
             }
@@ -240,11 +254,16 @@ pub fn arrive(alloc: Global, rows: &[CellRow], items: &[Item]) -> Result<Cargo, 
     Ok(cargo)
 }
 
+/// The number of the container that a step loads.
+pub fn number_of_load(items: &[Item], step: u32) -> u32 {
+    count_of(items.len()).saturating_add(step).saturating_sub(1)
+}
+
 /// Does a step, which can be done, and gives who it moves.
 pub fn do_step(cargo: &mut Cargo, items: &[Item], op: &Op, step: u32) -> u32 {
     match op {
         Op::Lift(Lift::Load(item)) => {
-            let who = count_of(items.len()).saturating_add(step).saturating_sub(1);
+            let who = number_of_load(items, step);
             cargo.put(item.cell, who, step);
             who
         }

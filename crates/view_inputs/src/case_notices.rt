@@ -1,5 +1,5 @@
 //! What is odd of a whole port call: of its messages beside one another, and of its steps.
-use crate::cargo::{Cargo, NOBODY, arrive, do_step, item_of};
+use crate::cargo::{Cargo, NOBODY, arrive, item_of, number_of_load};
 use crate::cells::{CellRow, cell_text, cells_in};
 use crate::entries::Entry;
 use crate::identity::{Identity, identity_of};
@@ -205,21 +205,30 @@ struct Walk<'a> {
 }
 
 impl<'a> Walk<'a> {
-    /// Notes a container that was taken out of a cell.
-    fn note_taken(&mut self, step: u32, cell: Cell) {
-        if let Some(above) = self.cargo.above(cell) {
+    /// Takes a container out of a cell, and notes where another stands above it.
+    fn take(&mut self, step: u32, cell: Cell) -> u32 {
+        let Some(place) = self.cargo.place(cell) else {
+            return NOBODY;
+        };
+        let who = self.cargo.take_at(place, step);
+        if let Some(above) = self.cargo.above(place) {
             self.odd.under.note(Under {
                 lift: OddLift { step, cell },
                 above,
             });
         }
+        who
     }
 
-    /// Notes a container that is about to be put into a cell.
-    fn note_put(&mut self, step: u32, cell: Cell) {
-        if self.cargo.hangs_over(cell) {
+    /// Puts a container into a cell, and notes where nobody stands below it.
+    fn put(&mut self, step: u32, cell: Cell, who: u32) {
+        let Some(place) = self.cargo.place(cell) else {
+            return;
+        };
+        if self.cargo.hangs_over(place) {
             self.odd.hanging.note(OddLift { step, cell });
         }
+        self.cargo.put_at(place, who, step);
     }
 
     /// Notes a discharge of a lift by the mass that its group names.
@@ -252,22 +261,18 @@ impl<'a> Walk<'a> {
                         cell: item.cell,
                     });
                 }
-                self.note_put(step, item.cell);
-                let _ = do_step(&mut self.cargo, self.items, op, step);
+                self.put(step, item.cell, number_of_load(self.items, step));
             }
             Op::Lift(Lift::Discharge { cell, .. }) => {
-                let who = self.cargo.take(*cell, step);
+                let who = self.take(step, *cell);
                 if let Some(item) = item_of(self.items, self.ops, who) {
                     drop_name(&mut self.names, item);
                     self.note_mass(step, lift, item.kg.get());
                 }
-                self.note_taken(step, *cell);
             }
             Op::Restow { from, to, .. } => {
-                let who = self.cargo.take(*from, step);
-                self.note_taken(step, *from);
-                self.note_put(step, *to);
-                self.cargo.put(*to, who, step);
+                let who = self.take(step, *from);
+                self.put(step, *to, who);
             }
             Op::Fill { .. } => {}
         }
@@ -275,13 +280,26 @@ impl<'a> Walk<'a> {
     }
 }
 
-/// The identifications of the items of a bay plan; of each whether it is for the port.
+/// How many steps load a container.
+fn loads_in(ops: &[Op]) -> usize {
+    let mut loads = 0usize;
+    for op in ops {
+        if matches!(op, Op::Lift(Lift::Load(_))) {
+            loads = loads.saturating_add(1);
+        }
+    }
+    loads
+}
+
+/// The identifications of the items of a bay plan, of each whether it is for the port; and room for
+/// those of so many loads.
 fn names_of(
     alloc: Global,
     items: &[Item],
     entries: &[Entry],
+    loads: usize,
 ) -> Result<Identifications, AllocError> {
-    let mut names = IndexMap::new(alloc);
+    let mut names = IndexMap::with_capacity(alloc, items.len().saturating_add(loads))?;
     let mut place = 0usize;
     for item in items {
         let is_for_port = match entries.get(place) {
@@ -477,7 +495,7 @@ fn add_cargo(
         ops,
         entries: told.lifts,
         cargo: arrive(alloc, told.cells, items)?,
-        names: names_of(alloc, items, told.items)?,
+        names: names_of(alloc, items, told.items, loads_in(ops))?,
         has_some_for_port: told.items.iter().any(|entry| entry.is_for_port),
         odd: OddSteps {
             loaded_twice: Occurs::never(),

@@ -68,12 +68,14 @@ fn aboard_step_by_step(rt: HostRuntime) -> Result<(), Fail> {
     ];
     let mut cargo = arrive(alloc, &rows, &items)?;
     same(&rt, cargo.berths().len(), 3);
-    holds(&rt, cargo.above(low).is_none());
-    holds(&rt, !cargo.hangs_over(middle) && cargo.hangs_over(high));
+    let places = [cargo.place(low), cargo.place(middle), cargo.place(high)];
+    same(&rt, places, [Some(0), Some(1), Some(2)]);
+    holds(&rt, cargo.above(0).is_none());
+    holds(&rt, !cargo.hangs_over(1) && cargo.hangs_over(2));
     same(&rt, do_step(&mut cargo, &items, &ops[0], 1), 1);
-    holds(&rt, cargo.above(low) == Some(middle));
+    holds(&rt, cargo.above(0) == Some(middle));
     same(&rt, do_step(&mut cargo, &items, &ops[1], 2), 0);
-    holds(&rt, cargo.hangs_over(middle));
+    holds(&rt, cargo.hangs_over(1));
     same(&rt, do_step(&mut cargo, &items, &ops[2], 3), 1);
     let Some(berth) = cargo.berth(low) else {
         panic!(&rt; "there is no such cell")
