@@ -1,7 +1,8 @@
 //! Marks. Of values that are compared one after another most are far from the greatest or the least
 //! of them, and against a short fraction beside that one this is seen at a fraction of the cost of
 //! an exact comparison.
-ghost use Rattle.std.specs.Prelude.{◌≡◌, ◌^◌, ◌≤◌, ◌*ℤ◌, pos, unsigned_abs, true, false, IfSome};
+ghost use Rattle.std.specs.Prelude.{◌≡◌, ◌*◌, ◌^◌, ◌≤◌, ◌*ℤ◌, pos, unsigned_abs, true, false};
+ghost use Rattle.std.specs.Prelude.{IfSome};
 ghost use Rattle.units_core.specs.Ratio.{◌over◌};
 ghost use Rattle.fractions.specs.Marks.{at_mark};
 ghost use Rattle.fractions.specs.Order.{is_below};
@@ -18,12 +19,26 @@ const GREATEST: i128 = 10_000_000_000_000_000_000_000_000_000_000_000;
 /// The greatest divisor.
 const GREATEST_DIVISOR: i128 = 10_000_000_000_000_000_000_000_000_000;
 
+/// The greatest mark that longer divisors are compared with, and the greatest of these: shares of a
+/// limit have such divisors.
+const SHORT: i32 = 1_048_576;
+
+const LONG_DIVISOR: i128 = 40_000_000_000_000_000_000_000_000_000_000;
+
 /// Whether a numerator is one that may be compared with a mark.
 #[inline(always)]
 fn is_narrow(num: i128) -> bool
     ensures { result ≡ true → unsigned_abs num ≤ 10 ^ 34 }
 {
     -GREATEST <= num && num <= GREATEST
+}
+
+/// Whether a mark is short.
+#[inline(always)]
+fn is_short_mark(mark: i32) -> bool
+    ensures { result ≡ true → unsigned_abs mark ≤ 2 ^ 20 }
+{
+    -SHORT <= mark && mark <= SHORT
 }
 
 /// A numerator in parts.
@@ -40,6 +55,16 @@ fn in_parts(num: i128) -> i128
 fn mark_over(mark: i128, den: i128) -> i128
     requires mark { unsigned_abs mark ≤ 2 ^ 31 }
     requires den { unsigned_abs den ≤ 10 ^ 28 }
+    ensures { result ≡ mark *ℤ den }
+{
+    mark * den
+}
+
+/// The same of a short mark and a long divisor.
+#[inline(always)]
+fn short_mark_over(mark: i128, den: i128) -> i128
+    requires mark { unsigned_abs mark ≤ 2 ^ 20 }
+    requires den { unsigned_abs den ≤ 4 * 10 ^ 31 }
     ensures { result ≡ mark *ℤ den }
 {
     mark * den
@@ -63,8 +88,8 @@ pub fn is_from_mark(value: Frac, mark: i32) -> bool
 pub fn is_up_to_mark(value: Frac, mark: i32) -> bool
     ensures { result ≡ true → is_below (at_mark mark) (value.num over value.den) ≡ false }
 {
-    if is_narrow(value.num) && value.den <= GREATEST_DIVISOR {
-        return !(mark_over(i128::from(mark), value.den) < in_parts(value.num));
+    if is_narrow(value.num) && value.den <= LONG_DIVISOR && is_short_mark(mark) {
+        return !(short_mark_over(i128::from(mark), value.den) < in_parts(value.num));
     }
     false
 }

@@ -142,7 +142,7 @@ impl Cargo {
     }
 
     /// Puts somebody into the cell at a place.
-    pub fn put_at(&mut self, place: usize, who: u32, step: u32) {
+    pub(crate) fn put_at(&mut self, place: usize, who: u32, step: u32) {
         if let Some(berth) = self.berths.get_mut(place) {
             berth.who = who;
             berth.since = step;
@@ -157,7 +157,7 @@ impl Cargo {
     }
 
     /// Takes who stands in the cell at a place out of it.
-    pub fn take_at(&mut self, place: usize, step: u32) -> u32 {
+    pub(crate) fn take_at(&mut self, place: usize, step: u32) -> u32 {
         match self.berths.get_mut(place) {
             Some(berth) => {
                 let who = berth.who;

@@ -1,8 +1,9 @@
 //! The curves by step: which points of each are drawn, worked out once for its chart and for the
 //! script.
-use crate::decimation::{drawn, number};
+use crate::decimation::drawn;
 use crate::series::{Figure, Series, curve_of};
 use claim_run::{Gate, Job, Workers, run};
+use plain_text::count_of;
 use std::alloc::{AllocError, Global};
 use std::marker::Model;
 use std::sync::Wait;
@@ -69,7 +70,7 @@ fn points_of(alloc: Global, figures: &[Option<i128>]) -> Result<Vec<CurvePoint>,
     for at in &drawn(alloc, figures)? {
         if let Some(Some(figure)) = figures.get(*at) {
             points.push(CurvePoint {
-                step: number(*at),
+                step: count_of(*at),
                 figure: *figure,
                 is_broken: is_broken(figures, before, *at),
             })?;

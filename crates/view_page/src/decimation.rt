@@ -5,6 +5,7 @@ ghost use Rattle.view_page.specs.Decimation.{AreAdded, AreFound, EndsWith, IsAdd
 ghost use Rattle.view_page.specs.Decimation.{IsDrawnIn, IsGreatest, IsLeast, IsOffered};
 ghost use Rattle.view_page.specs.Decimation.{figure_at, start_of};
 
+use plain_text::count_of;
 use std::alloc::{AllocError, Global};
 use view_texts::Run;
 
@@ -257,8 +258,8 @@ pub fn drawn_runs(alloc: Global, runs: &[Run], conditions: usize) -> Result<Vec<
     }
     let mut open: Option<Run> = None;
     for stretch in 0..STRETCHES {
-        let start = number(start_of(stretch, conditions));
-        let end = number(start_of(stretch + 1, conditions));
+        let start = count_of(start_of(stretch, conditions));
+        let end = count_of(start_of(stretch + 1, conditions));
         if touches(runs, start, end) {
             let first = match open {
                 Some(run) => run.first,
@@ -277,9 +278,4 @@ pub fn drawn_runs(alloc: Global, runs: &[Run], conditions: usize) -> Result<Vec<
         drawn.push(run)?;
     }
     Ok(drawn)
-}
-
-/// The number of a condition.
-pub fn number(condition: usize) -> u32 {
-    u32::try_from(condition).unwrap_or(u32::MAX)
 }

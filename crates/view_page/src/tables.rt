@@ -4,7 +4,7 @@ use crate::loads::Reaches;
 use crate::scales::Tenths;
 use crate::tight_steps::tight_steps;
 use criteria::Criterion;
-use plain_text::in_thousandths;
+use plain_text::{count_of, in_thousandths};
 use port_call::Case;
 use seq_report::Lines;
 use ship_profile::Profile;
@@ -166,15 +166,10 @@ pub fn add_frames(
         if let (Some(row), Some(reach)) = (row, reaches.frames.get(number)) {
             let steps = (reach.shear.step, reach.bending.step);
             number = number.saturating_add(1);
-            add_frame(alloc, text, count(number), row, steps)?;
+            add_frame(alloc, text, count_of(number), row, steps)?;
         }
     }
     text.push_str("</tbody></table></figure>")
-}
-
-/// A number of a few things.
-fn count(number: usize) -> u32 {
-    u32::try_from(number).unwrap_or(u32::MAX)
 }
 
 /// Adds a tight step by its tightest row.

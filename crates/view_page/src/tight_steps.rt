@@ -1,4 +1,5 @@
 //! The steps that use most of a limit.
+use plain_text::count_of;
 use std::alloc::{AllocError, Global};
 use units_core::Frac;
 use view_figures::Greatest;
@@ -70,7 +71,7 @@ fn tighter_in(
 /// The condition that uses most of a limit, of several the first, among those further than so many
 /// from each of some others. There is at most one run of such conditions more than others.
 fn next_tightest(shares: &[Option<Frac>], steps: &[u32], apart: u32) -> Option<u32> {
-    let conditions = u32::try_from(shares.len()).unwrap_or(u32::MAX);
+    let conditions = count_of(shares.len());
     let mut found: Option<Tight> = None;
     let mut from = 0u32;
     for _ in 0..=steps.len() {
@@ -88,7 +89,7 @@ fn next_tightest(shares: &[Option<Frac>], steps: &[u32], apart: u32) -> Option<u
 /// The tightest steps: each uses most of a limit among those further from all before it than a
 /// twentieth of all conditions.
 pub fn tight_steps(alloc: Global, shares: &[Option<Frac>]) -> Result<Vec<u32>, AllocError> {
-    let conditions = u32::try_from(shares.len()).unwrap_or(u32::MAX);
+    let conditions = count_of(shares.len());
     let apart = (conditions / 20).max(1);
     let mut steps = Vec::new(alloc);
     for _ in 0..TIGHTEST {
