@@ -6,28 +6,16 @@ use Rattle.std.proofs.lemmas.List.{get_or-map, length-map}
 use Rattle.std.proofs.lemmas.Option.{none-some}
 use Rattle.std.proofs.lemmas.List.Sums.{fold_more, sum_by-cons}
 use Rattle.units_core.specs.declared.frames.Frame.{Frame}
-use Rattle.lift_sequence.specs.declared.operations.Op.{Op}
 use Rattle.units_core.specs.declared.steps.Step.{Step}
-use Rattle.lift_sequence.specs.Sequence.{AreKept, SequenceRecord}
-use Rattle.lift_sequence.proofs.States.{as_many}
-use Rattle.prefix_scan.specs.Counted.{Counted}
-use Rattle.prefix_scan.specs.Cut.{Divides, start_of}
-use Rattle.prefix_scan.proofs.CutLemmas.{start_within}
 use Rattle.prefix_scan.specs.Folds.{prefix}
-use Rattle.moment_sums.specs.Bounded.{IsBounded}
-use Rattle.moment_sums.specs.Kept.{Kept, bodies_of, both_kept, none_kept, size_of, values}
+use Rattle.moment_sums.specs.Kept.{Kept, bodies_of, both_kept, none_kept, size_of}
 use Rattle.moment_sums.specs.KeptLaws.{kept_laws}
-use Rattle.moment_sums.specs.Sum.{changed_by, joined}
-use Rattle.moment_sums.proofs.Bounds.{values_both}
+use Rattle.moment_sums.specs.Sum.{changed_by}
 use Rattle.moment_sums.proofs.KeptLemmas.{kept_size}
-use Rattle.port_call.specs.Cases.{case_on, IsMade, IsReady}
-use Rattle.running_sums.specs.Lines.{AreFirstSums, change_behind, changes_behind, parts_behind, sum_to}
-use Rattle.port_call.specs.Sums.{sum_at}
-use Rattle.port_call.proofs.CaseLemmas.{ready}
-use Rattle.running_sums.proofs.SumLemmas.{change_size, changes_more, changes_size, changes_sum, few_bodies, room_behind, sum_here}
-use Rattle.port_call.specs.Grounds.{GroundRecord, IsGround, aboard_first, steps_on}
-use Rattle.running_sums.specs.Fours.{AreOfFour, AreSmall, change_of, changes_on, fours}
-use Rattle.running_sums.proofs.FourLemmas.{four_of, fours-at, length-fours, of_four}
+use Rattle.running_sums.specs.Lines.{change_behind, changes_behind}
+use Rattle.running_sums.proofs.SumLemmas.{change_size, changes_more, changes_size, few_bodies}
+use Rattle.running_sums.specs.Fours.{AreSmall, change_of, fours}
+use Rattle.running_sums.proofs.FourLemmas.{four_of, fours-at}
 
 module _ (frames : List Frame) where
   change_at : (steps : List Step) (k : ℕ) (d : Kept) → k < length steps → get_or (map (change_of frames) steps) k d ≡ change_behind frames steps k
@@ -128,6 +116,3 @@ sizes_few frames steps few =
     let all = map (change_of frames) steps in
     let sum = small_sum all (small frames steps) in
     omega (arith, sum, few, length-map steps (change_of frames))
-
-pub sizes_fit : (base : GroundRecord) (ops : List Op) → length ops ≤ 120000 → sum_by size_of (changes_on base ops) ≤ 2 ^ 19
-sizes_fit base ops few = sizes_few base.ship.ship.frames (steps_on base ops) (omega (arith, few, as_many base.ship (aboard_first base) ops))

@@ -1,7 +1,7 @@
 -- The sum at the first line of each chunk is what is aboard on arrival with the fold of the totals of the chunks before it.
 use Rattle.std.proofs.Common.{◌≡◌, ◌∙◌, ℕ, zero, suc, ◌+◌, ◌-◌, ◌*◌, ◌^◌, ◌<◌, ◌≤◌, List, length, map, take, get_or, sum_by, sym, ap, subst, arith}
 use Rattle.std.specs.List.{fold, range_with_len}
-use Rattle.std.proofs.lemmas.List.{get_or-map, length-map}
+use Rattle.std.proofs.lemmas.List.{get_or-map, length-map, take_all}
 use Rattle.std.proofs.lemmas.List.FromFn.{get_or-map-range_with_len, length-map-range_with_len}
 use Rattle.std.proofs.lemmas.List.Sums.{fold_more, sum_by_more}
 use Rattle.units_core.specs.Bodies.{Mass}
@@ -17,7 +17,6 @@ use Rattle.moment_sums.specs.KeptLaws.{kept_laws}
 use Rattle.moment_sums.proofs.Bounds.{values_both, values_nothing}
 use Rattle.running_sums.specs.Lines.{AreFirstSums, changes_behind, chunk_of, sum_to}
 use Rattle.running_sums.proofs.SumLemmas.{changes_size, changes_sum, joined_assoc, joined_nothing, room_behind}
-use Rattle.port_call.proofs.Totals.{take_past}
 
 module _ (frames : List Frame) (arrival : List Mass) (steps : List Step) (ends : List ℕ) (len : ℕ) (totals : List Kept)
     (few_frames : length frames ≤ 16) (d : Divides ends len) (few : len ≤ 120001) (long : len ≡ length steps + 1)
@@ -68,7 +67,7 @@ module _ (frames : List Frame) (arrival : List Mass) (steps : List Step) (ends :
   pub sizes_fit : sum_by size_of totals ≤ 2 ^ 19
   sizes_fit =
       let all = sizes_to (length ends) (omega arith) in
-      let whole : take (length ends) totals ≡ totals = take_past totals (length ends) (omega (arith, count)) in
+      let whole : take (length ends) totals ≡ totals = take_all (length ends) totals (omega (arith, count)) in
       omega (arith, ap (sum_by size_of) whole, all, d.whole, few)
 
   folded_size : (k : ℕ) → k ≤ length ends → size_of (folded_to k) ≤ 2 * start_of ends k

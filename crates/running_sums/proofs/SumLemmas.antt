@@ -1,4 +1,4 @@
--- Running sums: what is aboard on arrival with what the first k steps change is what is aboard at line k.
+-- Running sums: what is aboard on arrival with what the first k steps change.
 use Rattle.std.proofs.Common.{◌≡◌, ℕ, zero, suc, ◌+◌, ◌*◌, ◌≤◌, List, [], ◌∷◌, length, map, take, sum_by, slice_get, Option, None, Some, ℤ, pos, ◌+ℤ◌, refl, sym, ap, ◌∙◌, arith}
 use Rattle.std.specs.List.{fold, range_with_len}
 use Rattle.std.specs.Option.{option_to_list}
@@ -17,11 +17,7 @@ use Rattle.moment_sums.specs.Kept.{Kept, bodies_of, both_kept, none_kept, size_o
 use Rattle.moment_sums.specs.KeptLaws.{kept_laws}
 use Rattle.moment_sums.proofs.Bounds.{values_both, values_nothing}
 use Rattle.moment_sums.proofs.KeptLemmas.{kept_size, kept_values}
-use Rattle.port_call.specs.Cases.{aboard_first, CaseRecord, IsReady}
-use Rattle.running_sums.specs.Lines.{sum_in}
 use Rattle.running_sums.specs.Lines.{bodies_in, change_behind, changed_in, changes_behind, parts_behind, parts_to, sum_to}
-use Rattle.port_call.specs.Sums.{sum_at}
-use Rattle.port_call.proofs.Totals.{total_next}
 
 -- sums in any grouping
 pub joined_assoc : (a b c : Sum) → joined (joined a b) c ≡ joined a (joined b c)
@@ -34,6 +30,13 @@ joined_nothing a = λ j k. by (a k) j where
   by : (x : ℤ) → x +ℤ pos 0 ≡ x
   by x = omega (arith, ints)
 
+-- the first k of a list, and the one behind them, if there is one
+total_next : {X : Type 0} (f : X → ℤ) (xs : List X) (k : ℕ) → total f (take (suc k) xs) ≡ total f (take k xs) +ℤ total f (option_to_list (slice_get xs k))
+total_next f [] zero = omega (arith, ints)
+total_next f [] (suc k) = omega (arith, ints)
+total_next f (x ∷ xs) zero = omega (arith, ints)
+total_next f (x ∷ xs) (suc k) = omega (arith, ints, total_next f xs k)
+
 module _ (frames : List Frame) (arrival : List Mass) (steps : List Step) where
   one_change : (c : Column) (o : Option Step) → changed_in frames o c ≡ total (change (value frames c)) (option_to_list o)
   one_change c None = refl
@@ -42,7 +45,7 @@ module _ (frames : List Frame) (arrival : List Mass) (steps : List Step) where
     by x = omega (arith, ints)
 
   -- the sum at line k is that on arrival, and what the first k steps change
-  sums_so_far : (k : ℕ) (c : Column) → sum_to frames arrival steps k c ≡ total (value frames c) arrival +ℤ total (change (value frames c)) (take k steps)
+  pub sums_so_far : (k : ℕ) (c : Column) → sum_to frames arrival steps k c ≡ total (value frames c) arrival +ℤ total (change (value frames c)) (take k steps)
   sums_so_far zero c = by (total (value frames c) arrival) where
     by : (x : ℤ) → x ≡ x +ℤ pos 0
     by x = omega (arith, ints)
@@ -51,12 +54,6 @@ module _ (frames : List Frame) (arrival : List Mass) (steps : List Step) where
       let here = one_change c (slice_get steps k) in
       let next = total_next (change (value frames c)) steps k in
       omega (arith, ints, so_far, here, next)
-
--- so that is what adding up everything aboard at line k gives
-pub sum_here : (case : CaseRecord) → IsReady case → (k : ℕ) → sum_in case k ≡ sum_at case.profile (aboard_first case) case.sequence.ops k
-sum_here case ready k =
-    let frames = case.profile.ship.frames in
-    λ j c. (sums_so_far frames case.arrival.bodies case.sequence.steps k c ∙ sym (ready.adds_up (value frames c) k)) j
 
 -- sizes
 pub few_bodies : (o : Option Step) → bodies_in o ≤ 2
@@ -160,23 +157,3 @@ module _ (frames : List Frame) (steps : List Step) where
       ∙ sum_more frames few arrival steps (a + n) (changes_behind frames steps (range_with_len a n)) (change_behind frames steps (a + n)) (changes_behind frames steps (range_with_len a (n + 1)))
       (changes_more a n (a + n) refl) refl (sum_to frames arrival steps a) (changes_sum few arrival a n (a + n) refl)
       ∙ ap (sum_to frames arrival steps) last
-
--- the sum at a line with what changes behind it is the sum at the next line
-module _ (case : CaseRecord) (ready : IsReady case) (k : ℕ) where
-  pub next_size : (s t r : Kept) → size_of s + parts_behind case.sequence.steps k ≤ most_parts → t ≡ change_behind case.profile.ship.frames case.sequence.steps k
-      → r ≡ both_kept s t → size_of r + parts_behind case.sequence.steps (k + 1) ≤ most_parts
-  next_size s t r fits is joins =
-      let next : suc k ≡ k + 1 = omega arith in
-      let steps = case.sequence.steps in
-      let split = parts_split steps k in
-      let change : size_of t ≡ bodies_in (slice_get steps k) = ap size_of is ∙ change_parts case.profile.ship.frames steps k in
-      let both = kept_laws.op_weight s t (omega (arith, fits, split, change)) in
-      omega (arith, ap size_of joins, both, fits, split, change, ap (parts_behind steps) next)
-
-  pub next_sum : (s t r : Kept) → values s ≡ sum_in case k → t ≡ change_behind case.profile.ship.frames case.sequence.steps k → r ≡ both_kept s t
-      → values r ≡ sum_in case (k + 1)
-  next_sum s t r here is joins =
-      let next : suc k ≡ k + 1 = omega arith in
-      ap values joins ∙ values_both s t
-      ∙ (λ j. joined (here j) ((ap values is ∙ change_values case.profile.ship.frames ready.frames case.sequence.steps k) j))
-      ∙ ap (sum_in case) next

@@ -12,14 +12,10 @@ use Rattle.lift_sequence.specs.declared.operations.Op.{Op}
 use Rattle.lift_sequence.specs.Follow.{loaded_at, moves, next_cell}
 use Rattle.moment_sums.specs.Kept.{Kept, bodies_of, both_kept, kept_of, size_of}
 use Rattle.moment_sums.specs.Sum.{changed_by}
-use Rattle.port_call.specs.Grounds.{GroundRecord, steps_on}
 
 -- what each step changes of the sum of what is aboard
 abbrev pub change_of : List Frame → Step → Kept
 change_of frames step = kept_of (changed_by frames step) (bodies_of step)
-
-abbrev pub changes_on : GroundRecord → List Op → List Kept
-changes_on base ops = map (change_of base.ship.ship.frames) (steps_on base ops)
 
 -- each is of the bodies that one step takes out and puts in
 abbrev pub AreSmall : List Kept → Type 0

@@ -1,5 +1,5 @@
--- What changes behind a line of a case, and which lines are in a chunk. Beside that bookkeeping:
--- the sum at each line.
+-- What changes behind a line of a report on a sequence of steps, and which lines are in a chunk.
+-- Beside that bookkeeping: the sum at each line.
 use Rattle.std.specs.Prelude.{◌≡◌, ℕ, zero, suc, ◌+◌, ◌-◌, ◌*◌, ◌<◌, ◌≤◌, List, length, map, drop}
 use Rattle.std.specs.Prelude.{sum_by, slice_index, slice_index_or, slice_get, Option, None, Some}
 use Rattle.std.specs.List.{fold, range_with_len}
@@ -9,10 +9,8 @@ use Rattle.units_core.specs.declared.steps.Step.{Step}
 use Rattle.prefix_scan.specs.Cut.{start_of}
 use Rattle.prefix_scan.specs.Laws.{most_parts}
 use Rattle.lift_sequence.specs.Limits.{most_bodies}
-use Rattle.moment_sums.specs.Bounded.{IsBounded}
 use Rattle.moment_sums.specs.Sum.{Sum, changed_by, joined, nothing, sum_of}
 use Rattle.moment_sums.specs.Kept.{Kept, bodies_of, both_kept, kept_of, none_kept, size_of, values}
-use Rattle.port_call.specs.Cases.{CaseRecord}
 
 -- what a step changes, where there is one, and how many bodies it takes out and puts in
 abbrev pub changed_in : List Frame → Option Step → Sum
@@ -58,13 +56,3 @@ pub record AreFirstSums (frames : List Frame) (arrival : List Mass) (steps : Lis
 -- the numbers of the lines of chunk c
 abbrev pub chunk_of : List ℕ → ℕ → List ℕ
 chunk_of ends c = range_with_len (start_of ends c) (slice_index ends c - start_of ends c)
-
--- the sum at line k of a case
-abbrev pub sum_in : CaseRecord → ℕ → Sum
-sum_in case k = sum_to case.profile.ship.frames case.arrival.bodies case.sequence.steps k
-
--- the sum at line k, within its bounds, with room for the bodies of the steps behind that line
-pub record IsSumAt (case : CaseRecord) (k : ℕ) (kept : Kept) : Type 0 where
-  pub value : values kept ≡ sum_in case k
-  pub bounded : IsBounded (values kept)
-  pub room : size_of kept + parts_behind case.sequence.steps k ≤ most_parts

@@ -4,49 +4,39 @@ ghost use Rattle.std.specs.List.{range_with_len};
 ghost use Rattle.prefix_scan.specs.Laws.{most_parts};
 ghost use Rattle.lift_sequence.specs.Limits.{most_bodies};
 ghost use Rattle.moment_sums.specs.Kept.{Kept, both_kept, size_of};
-ghost use Rattle.port_call.specs.Views.{case_in_view};
-ghost use Rattle.running_sums.specs.Lines.{IsSumAt, bodies_in, change_behind, changes_behind};
+ghost use Rattle.running_sums.specs.Lines.{bodies_in, change_behind, changes_behind};
 
+use lift_sequence::Sequence;
 use moment_sums::Totals;
-use port_call::Case;
 use prefix_scan::Monoid;
 use std::alloc::{AllocError, Global};
+use units_core::Frames;
 
 /// Adds to a sum what changes behind line `k`; nothing changes behind the last line.
-fn pass_line(case: Case<'_>, k: u32, sum: &mut Totals)
-    requires there { k ≤ length case.sequence.now.ops }
-    requires room { size_of sum.old + bodies_in (slice_get case.sequence.now.steps k)
-        ≤ most_parts }
-    ensures { sum.new ≡ both_kept sum.old
-        (change_behind case.entry.profile.now.ship.frames case.entry.sequence.now.steps k) }
+pub fn pass_line(sequence: &Sequence, frames: &Frames, k: u32, sum: &mut Totals)
+    requires there { k ≤ length sequence.now.ops }
+    requires room { size_of sum.old + bodies_in (slice_get sequence.now.steps k) ≤ most_parts }
+    ensures { sum.new ≡ both_kept sum.old (change_behind frames.now sequence.now.steps k) }
 {
+    sequence.facts();
     let k = k as usize;
-    if k == case.sequence.len() {
+    if k == sequence.len() {
         return;
     }
-    sum.add_step(&case.sequence.step(k + 1), case.profile.frames());
-}
-
-/// Changes the sum at line `k` into that at the next line.
-pub fn walk_on(case: Case<'_>, k: u32, sum: &mut Totals)
-    requires there { k ≤ length case.sequence.now.ops }
-    requires sum { IsSumAt (case_in_view case) k sum.old }
-    ensures { IsSumAt (case_in_view case.entry) (k + 1) sum.new }
-{
-    pass_line(case, k, sum);
+    sum.add_step(&sequence.step(k + 1), frames);
 }
 
 /// What the steps behind the lines from `start` to `end` change together.
-pub fn chunk_total(case: Case<'_>, start: u32, end: u32) -> Totals
+pub fn chunk_total(sequence: &Sequence, frames: &Frames, start: u32, end: u32) -> Totals
     requires some { start < end }
-    requires there { end ≤ length case.sequence.now.ops + 1 }
+    requires there { end ≤ length sequence.now.ops + 1 }
     ensures { result
-        ≡ changes_behind case.entry.profile.now.ship.frames case.entry.sequence.now.steps
-        (range_with_len start (end - start)) }
+        ≡ changes_behind frames.now sequence.now.steps (range_with_len start (end - start)) }
 {
+    sequence.facts();
     let mut sum = Totals::unit();
     for k in start..end {
-        pass_line(case, k, &mut sum);
+        pass_line(sequence, frames, k, &mut sum);
     }
     sum
 }

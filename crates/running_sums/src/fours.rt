@@ -11,17 +11,14 @@ ghost use Rattle.prefix_scan.specs.Folds.{prefix};
 ghost use Rattle.prefix_scan.specs.Rows.{IsWritten};
 ghost use Rattle.prefix_scan.specs.Laws.{most_parts};
 ghost use Rattle.moment_sums.specs.Kept.{Kept, bodies_of, both_kept, none_kept, size_of};
-ghost use Rattle.port_call.specs.Grounds.{steps_on};
-ghost use Rattle.running_sums.specs.Fours.{AreOfFour, CostsUpTo, change_of, changes_on, fours};
+ghost use Rattle.running_sums.specs.Fours.{AreOfFour, CostsUpTo, change_of, fours};
 
 use lift_sequence::Sequence;
 use moment_sums::Totals;
-use port_call::Ground;
 use prefix_scan::{Cuts, TotalsTree};
-use ship_profile::Frames;
 use std::alloc::{AllocError, Global};
 use std::marker::Model;
-use units_core::Step;
+use units_core::{Frames, Step};
 
 /// The sums of each four steps of a list, and the joins of their parts. Up to three steps that are
 /// left at the end of the list are in no sum.
@@ -98,14 +95,6 @@ fn sums(alloc: Global, sequence: &Sequence, frames: &Frames) -> Result<Vec<Total
     Ok(all)
 }
 
-/// What each four steps of a sequence that was made from this base change together.
-fn sums_on(alloc: Global, base: &Ground, sequence: &Sequence) -> Result<Vec<Totals>, AllocError>
-    requires steps { sequence.now.steps ≡ steps_on base.now sequence.now.ops }
-    ensures { IfOk result (λ v. v.items ≡ fours (changes_on base.now sequence.now.ops)) }
-{
-    sums(alloc, sequence, base.profile().frames())
-}
-
 /// Adds to the sum of all whole fours before step `k` what the steps behind them change, up to that
 /// step, and counts them.
 fn add_single(sequence: &Sequence, frames: &Frames, k: usize, sum: &mut Totals, count: &mut u64)
@@ -141,32 +130,32 @@ fn set_room(sequence: &Sequence, frames: &Frames, four: usize, room: &mut [Total
 }
 
 impl Fours {
-    /// The sums of the steps of such a sequence. The joins made here aren't counted.
-    pub fn of(alloc: Global, base: &Ground, sequence: &Sequence) -> Result<Fours, AllocError>
-        requires steps { sequence.now.steps ≡ steps_on base.now sequence.now.ops }
-        ensures { IfOk result
-            (λ f. (f.values ≡ fours (changes_on base.now sequence.now.ops)) × (f.joins ≡ 0)) }
+    /// The sums of the steps of a sequence. The joins made here aren't counted.
+    pub fn of(alloc: Global, sequence: &Sequence, frames: &Frames) -> Result<Fours, AllocError>
+        ensures values { IfOk result
+            (λ f. f.values ≡ fours (map (change_of frames.now) sequence.now.steps)) }
+        ensures joins { IfOk result (λ f. f.joins ≡ 0) }
     {
         sequence.facts();
-        let sums = sums_on(alloc, base, sequence)?;
+        let sums = sums(alloc, sequence, frames)?;
         let tree = TotalsTree::of(alloc, sums)?;
         Ok(Fours { tree, single: 0 })
     }
 
-    /// The sums of the steps of another such sequence, whose count goes on from that of these. The
-    /// joins made here aren't counted.
+    /// The sums of the steps of another sequence, whose count goes on from that of these. The joins
+    /// made here aren't counted.
     pub fn with_sequence(
         &self,
         alloc: Global,
-        base: &Ground,
         sequence: &Sequence,
+        frames: &Frames,
     ) -> Result<Fours, AllocError>
-        requires steps { sequence.now.steps ≡ steps_on base.now sequence.now.ops }
-        ensures { IfOk result (λ f. (f.values ≡ fours (changes_on base.now sequence.now.ops))
-            × (f.joins ≡ self.now.joins)) }
+        ensures values { IfOk result
+            (λ f. f.values ≡ fours (map (change_of frames.now) sequence.now.steps)) }
+        ensures joins { IfOk result (λ f. f.joins ≡ self.now.joins) }
     {
         sequence.facts();
-        let sums = sums_on(alloc, base, sequence)?;
+        let sums = sums(alloc, sequence, frames)?;
         let tree = self.tree.with_values(alloc, sums)?;
         Ok(Fours {
             tree,

@@ -1,12 +1,12 @@
-//! What is aboard at the lines of a port call's report, added up without adding up each of them
-//! from the beginning.
+//! What is aboard at the lines of a report on a sequence of steps, added up without adding up each
+//! of them from the beginning.
 //!
-//! [`walk_on`] changes the sum at a line into that at the next one. [`sums_of`] gives the sum at
-//! the first line of each chunk of a report: workers add up what changes in each chunk, and the
-//! offsets of these totals are joined to what is aboard on arrival. [`Fours`] keeps what each four
-//! steps of a list change together, in a tree, so that the sum at any line takes few joins;
-//! [`renew`] and [`renew_both`] set just the fours that another weight or an exchange of two steps
-//! changes.
+//! [`pass_line`] adds to the sum at a line what the step behind it changes. [`first_sums`] gives
+//! the sum at the first line of each chunk of a report: workers add up what changes in each chunk,
+//! and the offsets of these totals are joined to what is aboard on arrival. [`Fours`] keeps what
+//! each four steps of a list change together, in a tree, so that the sum at any line takes few
+//! joins; [`renew`] and [`renew_both`] set just the fours that another weight or an exchange of two
+//! steps changes.
 //!
 //! The definitions are `Lines` and `Fours` of `specs/`.
 #![tactic(auto)]
@@ -16,7 +16,7 @@ mod chunks;
 mod fours;
 mod renewing;
 
-pub use chunk_sums::{chunk_count, lines_of, sums_of};
-pub use chunks::{join_to_arrival, walk_on};
+pub use chunk_sums::{Changes, chunk_count, first_sums, lines_of};
+pub use chunks::{join_to_arrival, pass_line};
 pub use fours::Fours;
 pub use renewing::{renew, renew_both};

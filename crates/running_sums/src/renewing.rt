@@ -9,8 +9,7 @@ ghost use Rattle.running_sums.specs.Fours.{change_of, fours};
 
 use crate::fours::Fours;
 use lift_sequence::{Op, Sequence};
-use ship_profile::Frames;
-use units_core::Cell;
+use units_core::{Cell, Frames};
 
 /// Where the four steps end one of which is at a place.
 fn end_of_four(place: usize) -> usize

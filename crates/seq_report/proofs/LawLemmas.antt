@@ -16,7 +16,8 @@ use Rattle.moment_sums.proofs.KeptLemmas.{kept_values}
 use Rattle.port_call.specs.Cases.{CaseRecord, IsReady}
 use Rattle.seq_report.specs.Laws.{OffsetsAreSums, SumsAreFolds, arrival_fold, body_kept, step_kept, steps_prefix}
 use Rattle.running_sums.proofs.OffsetLemmas.{offset_sum}
-use Rattle.running_sums.proofs.SumLemmas.{at_none, change_values, joined_assoc, joined_nothing, sum_here}
+use Rattle.running_sums.proofs.SumLemmas.{at_none, change_values, joined_assoc, joined_nothing}
+use Rattle.seq_report.proofs.SumLemmas.{sum_here}
 
 nothing_joined : (a : Sum) → joined nothing a ≡ a
 nothing_joined a = λ j c. by (a c) j where

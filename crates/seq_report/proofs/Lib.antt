@@ -6,5 +6,6 @@ pub mod PartLemmas
 pub mod PassedLemmas
 pub mod PlanLemmas
 pub mod RunLemmas
+pub mod SumLemmas
 pub mod Words
 pub mod WrittenLemmas

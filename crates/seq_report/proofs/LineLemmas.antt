@@ -3,8 +3,8 @@ use Rattle.std.proofs.Common.{◌≡◌, ℕ, Option, ap, ◌∙◌}
 use Rattle.moment_sums.specs.Sum.{Sum}
 use Rattle.criteria.specs.declared.criterion.Criterion.{Criterion}
 use Rattle.port_call.specs.Cases.{CaseRecord, IsReady}
-use Rattle.running_sums.specs.Lines.{sum_in}
-use Rattle.running_sums.proofs.SumLemmas.{sum_here}
+use Rattle.seq_report.specs.Sums.{sum_in}
+use Rattle.seq_report.proofs.SumLemmas.{sum_here}
 use Rattle.seq_report.specs.Cases.{line_in}
 use Rattle.seq_report.specs.Report.{Statement, failure_of, lift_to, step_line}
 

@@ -4,7 +4,8 @@ use Rattle.std.specs.List.{range_with_len}
 use Rattle.port_call.specs.Cases.{CaseRecord, aboard_first}
 use Rattle.seq_report.specs.declared.sections.Chunk.{Chunk}
 use Rattle.claim_board.specs.Claims.{IsLeastFound}
-use Rattle.running_sums.specs.Lines.{IsSumAt, chunk_of}
+use Rattle.running_sums.specs.Lines.{chunk_of}
+use Rattle.seq_report.specs.Sums.{IsSumAt}
 use Rattle.seq_report.specs.Chunks.{step_of_first}
 use Rattle.seq_report.specs.Refusal.{Outcome, outcome_on}
 use Rattle.criteria.specs.declared.criterion.Criterion.{Criterion}

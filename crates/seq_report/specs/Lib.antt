@@ -8,4 +8,5 @@ pub mod Lifts
 pub mod Plans
 pub mod Refusal
 pub mod Report
+pub mod Sums
 pub mod Written

@@ -83,7 +83,7 @@ impl<'a> Scout for Lines<'a> {
         s.case.ready.few s.cut k step };
 
     fn begin(&self, k: u32) -> u32 {
-        lines_of(self.case, self.cuts, k).start
+        lines_of(self.case.sequence, self.cuts, k).start
     }
 
     fn look(&self, k: u32) -> Option<u32> {
@@ -99,7 +99,7 @@ impl<'a> Lines<'a> {
         ensures lines { lines_in result ≡ chunk_of self.now.cuts.now k }
         ensures chunk { IsChunk (case_in_view self.now.case) result }
     {
-        let lines = lines_of(self.case, self.cuts, k);
+        let lines = lines_of(self.case.sequence, self.cuts, k);
         Chunk {
             start: lines.start,
             end: lines.end,
@@ -120,6 +120,6 @@ impl<'a> Lines<'a> {
     pub fn chunks(&self) -> u32
         ensures { result ≡ length self.now.cuts.now }
     {
-        chunk_count(self.case, self.cuts)
+        chunk_count(self.case.sequence, self.cuts)
     }
 }

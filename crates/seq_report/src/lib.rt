@@ -17,6 +17,7 @@ mod runs;
 mod sections;
 mod sink;
 mod step_lines;
+mod sums;
 
 pub use causes::cause_word;
 pub use complete::Summary;
@@ -30,3 +31,4 @@ pub use port_call::{Inputs, RunFault};
 pub use runs::{report, report_from};
 pub use sections::Chunk;
 pub use sink::{Sink, SinkFailed, Through, put_all};
+pub use sums::{sums_of, walk_on};

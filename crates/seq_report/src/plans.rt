@@ -4,11 +4,11 @@ ghost use Rattle.running_sums.specs.Lines.{AreFirstSums};
 ghost use Rattle.seq_report.specs.Cases.{outcome_in};
 ghost use Rattle.seq_report.specs.Plans.{Fits, IsPlanFault, IsUncut};
 
+use crate::sums::sums_of;
 use claim_run::{Gate, Workers};
 use moment_sums::Totals;
 use port_call::{PortCall, RunFault, cuts_refusal};
 use prefix_scan::{CutFault, Cuts};
-use running_sums::sums_of;
 use std::alloc::{AllocError, Global};
 use std::sync::Wait;
 use std::thread::Threads;

@@ -10,12 +10,12 @@ ghost use Rattle.seq_report.specs.Report.{failure_of, first_of, lift_to, line_of
 use crate::deciding::failure_at;
 use crate::lines::write_line;
 use crate::step_lines::StepLine;
+use crate::sums::walk_on;
 use criteria::{Criterion, Nearby};
 use decimal_text::{BackwardText, FourDigits};
 use lift_sequence::Op;
 use moment_sums::Totals;
 use port_call::Case;
-use running_sums::walk_on;
 use ship_profile::Profile;
 use std::alloc::{AllocError, Global};
 use std::marker::Model;

@@ -4,7 +4,7 @@ ghost use Rattle.moment_sums.specs.Bounded.{IsBounded};
 ghost use Rattle.moment_sums.specs.Kept.{values};
 ghost use Rattle.strength.specs.Hull.{IsHullOf};
 ghost use Rattle.port_call.specs.Views.{case_in_view};
-ghost use Rattle.running_sums.specs.Lines.{IsSumAt};
+ghost use Rattle.seq_report.specs.Sums.{IsSumAt};
 ghost use Rattle.seq_report.specs.Cases.{IsChunk};
 ghost use Rattle.criteria.specs.Least.{IsLeast};
 
@@ -16,8 +16,7 @@ use criteria::{Exact, Nearby, exact_into};
 use moment_sums::Totals;
 use port_call::Case;
 use righting::{Levers, levers_aboard};
-use running_sums::walk_on;
-use seq_report::{Chunk, Lines};
+use seq_report::{Chunk, Lines, walk_on};
 use ship_profile::Profile;
 use strength::{Hull, Strains};
 use units_core::{Frac, floor};

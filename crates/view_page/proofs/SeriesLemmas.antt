@@ -10,7 +10,8 @@ use Rattle.criteria.specs.Criteria.{Condition}
 use Rattle.criteria.specs.declared.criterion.Criterion.{Criterion}
 use Rattle.criteria.specs.Judgement.{judgement_of, printed_of, rounded}
 use Rattle.port_call.specs.Cases.{CaseRecord, IsReady}
-use Rattle.running_sums.specs.Lines.{chunk_of, sum_in}
+use Rattle.running_sums.specs.Lines.{chunk_of}
+use Rattle.seq_report.specs.Sums.{sum_in}
 use Rattle.seq_report.specs.Report.{Line}
 use Rattle.seq_report.proofs.ChunkLemmas.{range_join}
 use Rattle.seq_report.proofs.LineLemmas.{line_here}

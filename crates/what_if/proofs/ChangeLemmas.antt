@@ -26,11 +26,12 @@ use Rattle.running_sums.specs.Lines.{AreFirstSums, change_behind, changes_behind
 use Rattle.port_call.specs.Sums.{sum_at}
 use Rattle.port_call.proofs.CaseLemmas.{ready}
 use Rattle.seq_report.proofs.ChunkLemmas.{many_lines}
-use Rattle.running_sums.proofs.SumLemmas.{change_size, changes_more, changes_size, changes_sum, few_bodies, room_behind, sum_here}
+use Rattle.running_sums.proofs.SumLemmas.{change_size, changes_more, changes_size, changes_sum, few_bodies, room_behind}
+use Rattle.seq_report.proofs.SumLemmas.{sum_here}
 use Rattle.port_call.specs.Grounds.{GroundRecord, IsGround, aboard_first, steps_on}
-use Rattle.running_sums.specs.Fours.{AreOfFour, AreSmall, change_of, changes_on, fours}
+use Rattle.running_sums.specs.Fours.{AreOfFour, AreSmall, change_of, fours}
 use Rattle.what_if.specs.Bases.{report_on}
-use Rattle.what_if.specs.Sessions.{IsSummed}
+use Rattle.what_if.specs.Sessions.{IsSummed, changes_on}
 use Rattle.running_sums.proofs.ChangeLemmas.{changes_to, small}
 use Rattle.running_sums.proofs.FourLemmas.{four_of, fours-at, length-fours, of_four}
 

@@ -1,7 +1,7 @@
 -- A session: a list of steps that is edited, and the lists that it was before, so that the last
 -- edits can be taken back.
-use Rattle.std.specs.Prelude.{◌≡◌, ⊤, ℕ, ◌+◌, ◌*◌, ◌^◌, ◌≤◌, List, [], ◌∷◌, length, drop, Option}
-use Rattle.std.specs.Prelude.{None, option_map, Ok}
+use Rattle.std.specs.Prelude.{◌≡◌, ⊤, ℕ, ◌+◌, ◌*◌, ◌^◌, ◌≤◌, List, [], ◌∷◌, length, map, drop}
+use Rattle.std.specs.Prelude.{Option, None, option_map, Ok}
 use Rattle.std.specs.Option.{option_or}
 use Rattle.circular_buffer.specs.Buffer.{Buffer}
 use Rattle.lift_sequence.specs.declared.operations.Op.{Op}
@@ -17,7 +17,7 @@ use Rattle.step_edits.specs.declared.faults.EditFault.{EditFault}
 use Rattle.step_edits.specs.declared.faults.EditFault.TheVariants.{Sequence}
 use Rattle.step_edits.specs.Edits.{edited, edit_fault, place_of}
 use Rattle.port_call.specs.Grounds.{GroundRecord, list_fault, steps_on}
-use Rattle.running_sums.specs.Fours.{CostsUpTo, changes_on, fours}
+use Rattle.running_sums.specs.Fours.{CostsUpTo, change_of, fours}
 
 -- Inputs define a base, and a list of steps that can be done from there.
 pub record AreTold (inputs : Inputs) (base : GroundRecord) (ops : List Op) : Type 0 where
@@ -39,6 +39,10 @@ pub record Summed : Type 0 where
   pub base : GroundRecord
   pub ops : List Op
   pub joins : ℕ
+
+-- what each step of a list changes of the sum of what is aboard
+abbrev pub changes_on : GroundRecord → List Op → List Kept
+changes_on base ops = map (change_of base.ship.ship.frames) (steps_on base ops)
 
 -- what is kept of a list: the sequence was made from the base, and the sums are of what each four
 -- steps change

@@ -206,7 +206,8 @@ impl SummedList {
             Ok(sequence) => sequence,
             Err(fault) => return Err(list_refusal(fault)),
         };
-        match self.sums.with_sequence(self.alloc, &self.base, &sequence) {
+        let frames = self.base.profile().frames();
+        match self.sums.with_sequence(self.alloc, &sequence, frames) {
             Ok(sums) => Ok((sequence, sums)),
             Err(AllocError) => Err(EditFault::NoMemory),
         }

@@ -94,7 +94,7 @@ impl SummedList {
         ensures { IfOk result
             (λ l. l ≡ record { base = arc_value base; ops = sequence.ops; joins = 0 }) }
     {
-        let sums = Fours::of(alloc, &base, &sequence)?;
+        let sums = Fours::of(alloc, &sequence, base.profile().frames())?;
         let passed = Passed::nothing(alloc, &base, sequence.len())?;
         Ok(SummedList {
             base,

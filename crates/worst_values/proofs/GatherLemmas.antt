@@ -15,8 +15,9 @@ use Rattle.criteria.specs.Assessment.{Assessment, IsOutside, Fails, Passes, asse
 use Rattle.criteria.specs.Criteria.{Condition}
 use Rattle.criteria.specs.declared.criterion.Criterion.{Criterion}
 use Rattle.port_call.specs.Cases.{CaseRecord, IsReady}
-use Rattle.running_sums.specs.Lines.{chunk_of, sum_in}
-use Rattle.running_sums.proofs.SumLemmas.{sum_here}
+use Rattle.running_sums.specs.Lines.{chunk_of}
+use Rattle.seq_report.specs.Sums.{sum_in}
+use Rattle.seq_report.proofs.SumLemmas.{sum_here}
 use Rattle.seq_report.proofs.ChunkLemmas.{chunks_whole, range_join}
 use Rattle.worst_values.specs.Findings.{all_lines, candidates_at, candidates_by, candidates_with, found_in, found_over, unmet_at, unmet_by, unmet_of, unmet_with, worst_over}
 use Rattle.worst_values.specs.Limits.{candidates_of, limit_of}

@@ -1,8 +1,9 @@
 use Rattle.std.proofs.Common.{◌≡◌, ◌∙◌, ◌≤◌, length, ap, arith}
+use Rattle.std.proofs.lemmas.List.{take_all}
 use Rattle.moment_sums.specs.Kept.{size_of, values}
 use Rattle.moment_sums.specs.Sum.{of_body, sum_of}
 use Rattle.moment_sums.proofs.Bounds.{values_nothing}
-use Rattle.port_call.proofs.Totals.{body_more, take_past}
+use Rattle.port_call.proofs.Totals.{body_more}
 use Rattle.port_call.proofs.grounds.arrival_total.Goals as goal
 
 pub loop-body-init : goal.loop-body-init
@@ -27,4 +28,4 @@ pub returns-clause-sum : goal.returns-clause-sum
 returns-clause-sum c =
     let past : length c.bodies-bodies.result.now ≤ c.loop-body.body-index = omega (arith, c.loop-body-test.false) in
     c.loop-body.invariant.sum
-    ∙ ap (sum_of c.args.profile.now.ship.frames) (take_past c.bodies-bodies.result.now c.loop-body.body-index past ∙ c.bodies-bodies.ensures)
+    ∙ ap (sum_of c.args.profile.now.ship.frames) (take_all c.loop-body.body-index c.bodies-bodies.result.now past ∙ c.bodies-bodies.ensures)

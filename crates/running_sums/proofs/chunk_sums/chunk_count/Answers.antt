@@ -4,5 +4,5 @@ use Rattle.running_sums.proofs.chunk_sums.chunk_count.Goals as goal
 
 pub overflow_cast-result : goal.overflow_cast-result
 overflow_cast-result c =
-    let few = few_chunks c.args.cuts.now (length c.args.case.sequence.now.ops + 1) c.requires in
-    omega (arith, c.chunks.ensures.count, few, c.args.case.ready.few)
+    let few = few_chunks c.args.cuts.now (length c.args.sequence.now.ops + 1) c.requires in
+    omega (arith, c.chunks.ensures.count, few, c.facts.ensures.few)

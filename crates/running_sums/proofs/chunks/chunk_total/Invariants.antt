@@ -5,4 +5,4 @@ use Rattle.running_sums.proofs.chunks.chunk_total.Given as goal
 
 abbrev pub invariant-loop-k : goal.invariant-loop-k
 invariant-loop-k l =
-    l.sum ≡ changes_behind l.case.profile.now.ship.frames l.case.sequence.now.steps (range_with_len l.start (l.k - l.start))
+    l.sum ≡ changes_behind l.frames l.sequence.steps (range_with_len l.start (l.k - l.start))

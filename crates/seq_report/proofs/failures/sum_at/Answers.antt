@@ -2,7 +2,8 @@ use Rattle.std.proofs.Common.{◌∙◌, subst, sym, arith}
 use Rattle.moment_sums.specs.Bounded.{IsBounded}
 use Rattle.moment_sums.specs.Kept.{size_of}
 use Rattle.port_call.specs.Views.{case_in_view}
-use Rattle.running_sums.proofs.SumLemmas.{room_behind, sum_here}
+use Rattle.running_sums.proofs.SumLemmas.{room_behind}
+use Rattle.seq_report.proofs.SumLemmas.{sum_here}
 use Rattle.seq_report.proofs.failures.sum_at.Goals as goal
 
 pub loop-line-init : goal.loop-line-init

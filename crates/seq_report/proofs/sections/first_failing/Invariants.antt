@@ -1,7 +1,7 @@
 use Rattle.std.proofs.Common.{◌≡◌, ◌-◌, map}
 use Rattle.std.specs.List.{range_with_len}
 use Rattle.port_call.specs.Views.{case_in_view}
-use Rattle.running_sums.specs.Lines.{IsSumAt}
+use Rattle.seq_report.specs.Sums.{IsSumAt}
 use Rattle.seq_report.specs.Cases.{line_in}
 use Rattle.seq_report.specs.Report.{first_of}
 use Rattle.seq_report.proofs.sections.first_failing.Given as goal

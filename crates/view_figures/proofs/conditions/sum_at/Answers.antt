@@ -1,6 +1,6 @@
 use Rattle.std.proofs.Common.{◌≡◌, ℕ, subst, arith}
 use Rattle.port_call.specs.Views.{case_in_view}
-use Rattle.running_sums.specs.Lines.{IsSumAt}
+use Rattle.seq_report.specs.Sums.{IsSumAt}
 use Rattle.view_figures.proofs.conditions.sum_at.Goals as goal
 
 pub returns : goal.returns

@@ -1,5 +1,5 @@
 use Rattle.port_call.specs.Views.{case_in_view}
-use Rattle.running_sums.specs.Lines.{IsSumAt}
+use Rattle.seq_report.specs.Sums.{IsSumAt}
 use Rattle.view_figures.proofs.conditions.sum_at.Given as goal
 
 abbrev pub invariant-loop-line : goal.invariant-loop-line

@@ -1,5 +1,5 @@
 use Rattle.port_call.specs.Views.{case_in_view}
-use Rattle.running_sums.specs.Lines.{IsSumAt}
+use Rattle.seq_report.specs.Sums.{IsSumAt}
 use Rattle.view_page.proofs.rows.rows_in_chunk.Given as goal
 
 abbrev pub invariant-loop-k : goal.invariant-loop-k

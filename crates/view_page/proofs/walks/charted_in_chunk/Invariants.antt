@@ -1,7 +1,7 @@
 use Rattle.std.proofs.Common.{◌≡◌, ◌-◌, ◌<◌, ℕ, length, map}
 use Rattle.std.specs.List.{range_with_len}
 use Rattle.port_call.specs.Views.{case_in_view}
-use Rattle.running_sums.specs.Lines.{IsSumAt}
+use Rattle.seq_report.specs.Sums.{IsSumAt}
 use Rattle.worst_values.specs.Findings.{unmet_at, worst_over}
 use Rattle.worst_values.specs.Rows.{row_of}
 use Rattle.view_page.specs.Series.{plotted_in}

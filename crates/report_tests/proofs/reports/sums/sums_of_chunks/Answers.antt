@@ -6,7 +6,8 @@ use Rattle.moment_sums.specs.Kept.{size_of}
 use Rattle.port_call.specs.Cases.{CaseRecord}
 use Rattle.port_call.specs.Grounds.{IsArrivalTotal}
 use Rattle.port_call.specs.Views.{case_in_view}
-use Rattle.running_sums.proofs.SumLemmas.{room_behind, sum_here}
+use Rattle.running_sums.proofs.SumLemmas.{room_behind}
+use Rattle.seq_report.proofs.SumLemmas.{sum_here}
 use Rattle.report_tests.proofs.reports.sums.sums_of_chunks.Goals as goal
 
 pub walk_on-requires-clause-sum : goal.walk_on-requires-clause-sum

@@ -1,8 +1,9 @@
 use Rattle.std.proofs.Common.{◌∙◌, ap, subst, sym, arith}
 use Rattle.moment_sums.specs.Bounded.{IsBounded}
 use Rattle.port_call.specs.Views.{case_in_view}
-use Rattle.running_sums.specs.Lines.{parts_behind, sum_in}
-use Rattle.running_sums.proofs.SumLemmas.{sum_here}
+use Rattle.running_sums.specs.Lines.{parts_behind}
+use Rattle.seq_report.specs.Sums.{sum_in}
+use Rattle.seq_report.proofs.SumLemmas.{sum_here}
 use Rattle.seq_report.proofs.jobs.Lines.chunk.Goals as goal
 
 pub returns-clause-chunk : goal.returns-clause-chunk
