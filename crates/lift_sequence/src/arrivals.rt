@@ -27,6 +27,8 @@ pub struct Arrival {
     items: Vec<Item>,
     fills: Vec<TankFill>,
     bodies: Vec<Body>,
+    /// What is aboard by cell and tank. A sequence goes on from a copy.
+    stowage: Stowage,
 }
 
 impl Drop for Arrival {
@@ -36,12 +38,15 @@ impl Drop for Arrival {
             items: _items,
             fills: _fills,
             bodies: _bodies,
+            stowage: _stowage,
         } = self;
     }
 }
 
 impl Model for Arrival {
-    ghost use Rattle.lift_sequence.specs.Arrival.{ArrivalRecord, IsStowed};
+    ghost use Rattle.std.specs.Prelude.{◌≡◌};
+    ghost use Rattle.lift_sequence.specs.Aboard.{cargo_in};
+    ghost use Rattle.lift_sequence.specs.Arrival.{ArrivalRecord, IsStowed, on_arrival};
 
     ghost Value = { ArrivalRecord };
 
@@ -55,7 +60,7 @@ impl Model for Arrival {
       items = a.items.items;
       fills = a.fills.items;
       bodies = a.bodies.items;
-    }) };
+    }) × (cargo_in a.stowage ≡ on_arrival a.items.items a.fills.items) };
 }
 
 /// Puts an item aboard, if its cell can take it.
@@ -82,6 +87,7 @@ fn stow_items(
     requires nothing { cargo_in stowage.old ≡ nothing }
     requires none { bodies.old.items ≡ [] }
     ensures legal { OnOk result (items_fault profile.now nothing 1 items.now ≡ None) }
+    ensures aboard { OnOk result (cargo_in stowage.new ≡ with_items nothing items.now) }
     ensures bodies { OnOk result (bodies.new.items ≡ item_bodies profile.now items.now) }
     ensures few { OnOk result (length items.now ≤ 30000) }
     ensures refused { IfErr result (TellsAt (items_fault profile.now nothing 1 items.now)) }
@@ -101,20 +107,26 @@ fn stow_items(
     Ok(())
 }
 
-/// The bodies of the items, if all cells can take them.
-fn item_bodies(alloc: Global, profile: &Profile, items: &[Item]) -> Result<Vec<Body>, SeqFault>
-    requires { IsSound profile.now }
+/// Puts the items aboard, where nothing is, if all cells can take them, and gives their bodies.
+fn stow_bodies(
+    alloc: Global,
+    profile: &Profile,
+    stowage: &mut Stowage,
+    items: &[Item],
+) -> Result<Vec<Body>, SeqFault>
+    requires sound { IsSound profile.now }
+    requires nothing { cargo_in stowage.old ≡ nothing }
     ensures legal { OnOk result (items_fault profile.now nothing 1 items.now ≡ None) }
+    ensures aboard { OnOk result (cargo_in stowage.new ≡ with_items nothing items.now) }
     ensures bodies { IfOk result (λ b. b.items ≡ item_bodies profile.now items.now) }
     ensures few { OnOk result (length items.now ≤ 30000) }
     ensures refused { IfErr result (TellsAt (items_fault profile.now nothing 1 items.now)) }
     ensures memory { IfErr result (λ e. e.code ≡ SeqCode.NoMemory → e.at ≡ 0) }
 {
-    let Ok(mut stowage) = Stowage::with_room(alloc, items.len()) else {
+    let Ok(mut bodies) = Vec::with_capacity(alloc, items.len()) else {
         return Err(NO_MEMORY);
     };
-    let mut bodies = Vec::new(alloc);
-    stow_items(profile, &mut stowage, items, &mut bodies)?;
+    stow_items(profile, stowage, items, &mut bodies)?;
     Ok(bodies)
 }
 
@@ -149,7 +161,8 @@ fn join_bodies(
 ) -> Result<Vec<Body>, AllocError>
     ensures { IfOk result (λ b. b.items ≡ first.now ++ (second.now ++ third.now)) }
 {
-    let mut bodies = Vec::new(alloc);
+    let room = first.len().saturating_add(second.len());
+    let mut bodies = Vec::with_capacity(alloc, room.saturating_add(third.len()))?;
     bodies.extend_from_slice(first)?;
     bodies.extend_from_slice(second)?;
     bodies.extend_from_slice(third)?;
@@ -190,9 +203,15 @@ impl Arrival {
         ensures memory { IfErr result (λ e. e.code ≡ SeqCode.NoMemory → e.at ≡ 0) }
     {
         let blocks = profile.blocks();
-        let stowed = item_bodies(alloc, profile, &items)?;
+        let Ok(mut stowage) = Stowage::with_room(alloc, items.len()) else {
+            return Err(NO_MEMORY);
+        };
+        let stowed = stow_bodies(alloc, profile, &mut stowage, &items)?;
         let filled = fill_bodies(alloc, profile, fills)?;
         let Ok(bodies) = join_bodies(alloc, blocks, &filled, &stowed) else {
+            return Err(NO_MEMORY);
+        };
+        let Ok(()) = fill_all(&mut stowage, fills) else {
             return Err(NO_MEMORY);
         };
         let Ok(fills) = fills.to_vec(alloc) else {
@@ -203,6 +222,7 @@ impl Arrival {
             items,
             fills,
             bodies,
+            stowage,
         })
     }
 
@@ -240,24 +260,11 @@ impl Arrival {
     }
 
     /// What is aboard, to go on from.
-    pub(crate) fn stowage(&self, alloc: Global) -> Result<Stowage, AllocError>
+    pub(crate) fn stowage(&self) -> Result<Stowage, AllocError>
         ensures { IfOk result (λ s. cargo_in s ≡ cargo_on self.now) }
     {
-        let mut stowage = Stowage::with_room(alloc, self.items.len())?;
-        stow_all(&mut stowage, &self.items)?;
-        fill_all(&mut stowage, &self.fills)?;
-        Ok(stowage)
+        self.stowage.copy()
     }
-}
-
-/// Puts items into their cells.
-fn stow_all(stowage: &mut Stowage, items: &[Item]) -> Result<(), AllocError>
-    ensures { OnOk result (cargo_in stowage.new ≡ with_items (cargo_in stowage.old) items.now) }
-{
-    for item in items {
-        stowage.cells.insert(item.cell, container_of(item))?;
-    }
-    Ok(())
 }
 
 /// Puts fills into their tanks.

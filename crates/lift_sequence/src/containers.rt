@@ -1,8 +1,9 @@
-ghost use Rattle.std.specs.Prelude.{◌≡◌, ◌↔◌, IsTrue};
+ghost use Rattle.std.specs.Prelude.{◌≡◌};
 ghost use Rattle.lift_sequence.specs.Aboard.{container_of};
 ghost use Rattle.lift_sequence.specs.Legal.{differ, is_empty};
 
 use arrayvec::ArrayVec;
+use std::alloc::AllocError;
 use stow_messages::{Item, copy_text};
 use units_core::Kg;
 
@@ -13,6 +14,19 @@ pub struct Container {
     pub id: ArrayVec<u8, 17>,
     /// Its gross mass.
     pub kg: Kg,
+}
+
+impl Clone for Container {
+    ghost use Rattle.std.specs.Prelude.{◌≡◌};
+
+    ghost is_clone = { λ container copy. copy ≡ container };
+
+    fn clone(&self) -> Result<Container, AllocError> {
+        Ok(Container {
+            id: copy_text(&self.id),
+            kg: self.kg,
+        })
+    }
 }
 
 /// The container that an item is.

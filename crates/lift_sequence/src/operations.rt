@@ -150,7 +150,7 @@ fn op_of(lifts: &[Lift], row: &StepRow) -> Option<Op>
 fn ops_of_rows(alloc: Global, lifts: &[Lift], rows: &[StepRow]) -> Result<Vec<Op>, AllocError>
     ensures { IfOk result (λ ops. ops.items ≡ ops_of lifts.now (Some rows.now)) }
 {
-    let mut ops = Vec::new(alloc);
+    let mut ops = Vec::with_capacity(alloc, rows.len())?;
     for row in rows {
         if let Some(op) = op_of(lifts, row) {
             ops.push(op)?;
@@ -164,7 +164,7 @@ fn ops_of_lifts(alloc: Global, lifts: Vec<Lift>) -> Result<Vec<Op>, AllocError>
     ensures { IfOk result (λ ops. ops.items ≡ ops_of lifts.items None) }
 {
     // `collect` would try a growth that was refused once more, and a step less at a time.
-    let mut ops = Vec::new(alloc);
+    let mut ops = Vec::with_capacity(alloc, lifts.len())?;
     for lift in lifts {
         ops.push(Op::Lift(lift))?;
     }

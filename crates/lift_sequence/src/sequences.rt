@@ -64,7 +64,9 @@ fn make_all(
         (TellsAt (first_fault profile.now (cargo_in stowage.old) 1 ops.now)) }
     ensures memory { IfErr result (λ e. e.code ≡ SeqCode.NoMemory → e.at ≡ 0) }
 {
-    let mut steps = Vec::new(alloc);
+    let Ok(mut steps) = Vec::with_capacity(alloc, ops.len()) else {
+        return Err(NO_MEMORY);
+    };
     let mut number = 0;
     for op in ops {
         number += 1;
@@ -168,7 +170,7 @@ impl Sequence {
         if ops.len() > MAX_STEPS {
             return Err(fault_at(SeqCode::TooManySteps, MAX_STEPS as u32 + 1));
         }
-        let Ok(mut stowage) = arrival.stowage(alloc) else {
+        let Ok(mut stowage) = arrival.stowage() else {
             return Err(NO_MEMORY);
         };
         let steps = make_all(alloc, profile, &mut stowage, &ops)?;

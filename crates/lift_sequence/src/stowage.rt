@@ -62,6 +62,16 @@ impl Stowage {
         })
     }
 
+    /// The same once more.
+    pub(crate) fn copy(&self) -> Result<Stowage, AllocError>
+        ensures { IfOk result (λ s. cargo_in s ≡ cargo_in self.now) }
+    {
+        Ok(Stowage {
+            cells: self.cells.clone()?,
+            tanks: self.tanks.clone()?,
+        })
+    }
+
     /// Whether a container is in a cell.
     #[inline(always)]
     fn is_taken(&self, cell: Cell) -> bool

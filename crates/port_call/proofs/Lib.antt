@@ -1,4 +1,5 @@
 pub mod AboardBounds
+pub mod ArrivalLemmas
 pub mod BodyBounds
 pub mod CaseLemmas
 pub mod Digits

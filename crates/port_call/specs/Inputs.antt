@@ -40,9 +40,6 @@ arrival_in ship items =
 abbrev pub lifts_of : List ℕ → Result (List lift.Lift) InputFault
 lifts_of text = refused_as Movins (movement_instruction text)
 
-abbrev pub lifts_in : Inputs → Result (List lift.Lift) InputFault
-lifts_in inputs = lifts_of inputs.movins.now
-
 abbrev pub some_rows : Result (List StepRow) InputFault
     → Result (Option (List StepRow)) InputFault
 some_rows (Ok rows) = Ok (Some rows)
@@ -52,15 +49,14 @@ abbrev pub rows_of : Option (List ℕ) → ℕ → Result (Option (List StepRow)
 rows_of None lifts = Ok None
 rows_of (Some text) lifts = some_rows (refused_as Steps (steps.steps_of lifts text))
 
-abbrev pub rows_in : Inputs → ℕ → Result (Option (List StepRow)) InputFault
-rows_in inputs lifts = rows_of (option_map (λ text. text.now) inputs.steps) lifts
-
 -- the steps that they order
-abbrev pub orders_on : Inputs → List lift.Lift → Result (List Op) InputFault
-orders_on inputs lifts = rows_in inputs (length lifts) >>= (λ rows. Ok (ops_of lifts rows))
+abbrev pub orders_of : List ℕ → Option (List ℕ) → Result (List Op) InputFault
+orders_of moves steps =
+    lifts_of moves
+    >>= (λ lifts. rows_of steps (length lifts) >>= (λ rows. Ok (ops_of lifts rows)))
 
 abbrev pub orders_in : Inputs → Result (List Op) InputFault
-orders_in inputs = lifts_in inputs >>= (λ lifts. orders_on inputs lifts)
+orders_in inputs = orders_of inputs.movins.now (option_map (λ text. text.now) inputs.steps)
 
 -- these steps, where each can be done where it comes
 abbrev pub sequence_in : ProfileRecord → Aboard → List Op → Result (List Op) InputFault

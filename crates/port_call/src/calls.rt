@@ -1,25 +1,23 @@
-ghost use Rattle.std.specs.Prelude.{◌≡◌, ◌≢◌, ◌↔◌, IsTrue, IfOk, IfErr, Err};
+ghost use Rattle.std.specs.Prelude.{◌≡◌, IfOk, Err, option_map};
 ghost use Rattle.ship_profile.specs.Record.{texts_of};
 ghost use Rattle.port_call.specs.Cases.{IsMade, IsToldBy, case_by, on_ground};
 ghost use Rattle.port_call.specs.Views.{case_in_view};
 ghost use Rattle.port_call.specs.Grounds.{aboard_first};
-ghost use Rattle.port_call.specs.Inputs.{arrival_in, case_of, case_with, orders_in, ship_in};
-ghost use Rattle.port_call.specs.Readings.{AreArrived, AreMovesRead, IsPlanRead, IsShipRead, Reads};
-ghost use Rattle.port_call.specs.Refusals.{TellsMemory, run_fault};
+ghost use Rattle.port_call.specs.Inputs.{case_of, case_with, orders_in};
+ghost use Rattle.port_call.specs.Readings.{AreArrived, AreOrdersRead, IsGroundRead, Reads};
 
+use crate::arrivals::{ground_by, ran_out};
 use crate::cases::Case;
 use crate::faults::InputFault;
 use crate::grounds::Ground;
-use crate::inputs::{Inputs, items, lifts, orders_by, ship};
+use crate::inputs::{Inputs, items, orders, ship};
 use crate::readings::read_beside;
-use crate::refusals::{arrival_refusal, sequence_refusal};
-use lift_sequence::{Arrival, Op, Sequence};
-use ship_profile::Profile;
+use crate::refusals::sequence_refusal;
+use lift_sequence::{Op, Sequence};
 use std::alloc::{AllocError, Global};
 use std::marker::Model;
 use std::sync::Wait;
 use std::thread::Threads;
-use stow_messages::{Item, Lift};
 
 /// A ship, what is aboard of her on arrival, and the steps from there, each of which can be done.
 pub struct PortCall {
@@ -47,74 +45,30 @@ impl Model for PortCall {
     ghost invariant = { λ c. IsMade c.base.ship c.base.arrival c.sequence };
 }
 
-/// A ship with what is aboard of her on arrival, or why an item or a fill can't be.
-fn arrive(alloc: Global, profile: Profile, items: Vec<Item>) -> Result<Ground, InputFault>
-    ensures reads { Reads aboard_first (arrival_in profile items.items) result }
-    ensures ship { IfOk result (λ g. g.ship ≡ profile) }
-    ensures items { IfOk result (λ g. g.arrival.items ≡ items.items) }
-    ensures fills { IfOk result (λ g. g.arrival.fills ≡ g.ship.fills) }
-{
-    let arrival = Arrival::new(alloc, &profile, items, profile.fills()).map_err(arrival_refusal)?;
-    Ok(Ground::new(profile, arrival))
-}
-
-/// The ship of the inputs with what is aboard of her on arrival, or the first refusal of her
-/// profile, the bay plan and the arrival: by what was read of the first two, each by itself. The
-/// contract alone speaks of `inputs`.
-fn arrived_by(
-    alloc: Global,
-    inputs: &Inputs<'_>,
-    profile: Result<Profile, InputFault>,
-    plan: Result<Vec<Item>, InputFault>,
-) -> Result<Ground, InputFault>
-    requires ship { IsShipRead profile (texts_of inputs.now.profile) }
-    requires plan { IsPlanRead plan inputs.now.baplie.now }
-    ensures told { IfOk result (AreArrived inputs.now) }
-    ensures refused { IfErr result (λ e. e ≢ InputFault.NoMemory → case_of inputs.now ≡ Err e) }
-    ensures memory { IfErr result (λ e. TellsMemory (run_fault e)) }
-{
-    match profile {
-        Ok(profile) => match plan {
-            Ok(items) => arrive(alloc, profile, items),
-            Err(fault) => Err(fault),
-        },
-        Err(fault) => Err(fault),
-    }
-}
-
-/// Whether reading an input ran out of memory.
-fn ran_out<T>(reading: &Result<T, InputFault>) -> bool
-    ensures { IsTrue result ↔ (reading.now ≡ Err InputFault.NoMemory) }
-{
-    matches!(reading, Err(InputFault::NoMemory))
-}
-
-/// The port call that the inputs define, or the first refusal, the profile and both messages as
-/// they were read. Where any of these was out of memory, so is the port call, whatever else is
-/// refused.
+/// The port call that the inputs define, or the first refusal, by what was read of the ship with
+/// what is aboard of her on arrival, and of the steps. Where either was out of memory, so is the
+/// port call, whatever else is refused.
 fn call_of_readings(
     alloc: Global,
     inputs: &Inputs<'_>,
-    profile: Result<Profile, InputFault>,
-    plan: Result<Vec<Item>, InputFault>,
-    moves: Result<Vec<Lift>, InputFault>,
+    base: Result<Ground, InputFault>,
+    orders: Result<Vec<Op>, InputFault>,
 ) -> Result<PortCall, InputFault>
-    requires ship { IsShipRead profile (texts_of inputs.now.profile) }
-    requires plan { IsPlanRead plan inputs.now.baplie.now }
-    requires moves { AreMovesRead moves inputs.now.movins.now }
-    ensures short_ship { profile ≡ Err InputFault.NoMemory → result ≡ Err InputFault.NoMemory }
-    ensures short_plan { plan ≡ Err InputFault.NoMemory → result ≡ Err InputFault.NoMemory }
-    ensures short_moves { moves ≡ Err InputFault.NoMemory → result ≡ Err InputFault.NoMemory }
+    requires base { IsGroundRead base (texts_of inputs.now.profile) inputs.now.baplie.now }
+    requires orders { AreOrdersRead orders inputs.now.movins.now
+        (option_map (λ t. t.now) inputs.now.steps) }
+    ensures short_base { base ≡ Err InputFault.NoMemory → result ≡ Err InputFault.NoMemory }
+    ensures short_orders { orders ≡ Err InputFault.NoMemory → result ≡ Err InputFault.NoMemory }
     ensures reads { Reads case_by (case_of inputs.now) result }
     ensures told { IfOk result (IsToldBy inputs.now) }
 {
-    if ran_out(&profile) || ran_out(&plan) || ran_out(&moves) {
+    if ran_out(&orders) {
         return Err(InputFault::NoMemory);
     }
-    let base = arrived_by(alloc, inputs, profile, plan)?;
-    // Only now, so that a growth that is refused here is never behind another refusal.
-    let orders = orders_by(alloc, inputs, moves);
-    PortCall::with_orders(alloc, inputs, base, orders)
+    match base {
+        Ok(base) => PortCall::with_orders(alloc, inputs, base, orders),
+        Err(fault) => Err(fault),
+    }
 }
 
 impl PortCall {
@@ -156,9 +110,9 @@ impl PortCall {
         ensures told { IfOk result (IsToldBy inputs.now) }
     {
         let plan = items(alloc, inputs.baplie);
-        let moves = lifts(alloc, inputs.movins);
+        let orders = orders(alloc, inputs.movins, inputs.steps);
         let profile = ship(alloc, &inputs.profile);
-        call_of_readings(alloc, inputs, profile, plan, moves)
+        call_of_readings(alloc, inputs, ground_by(alloc, profile, plan), orders)
     }
 
     /// As [`PortCall::read`], by so many threads, of which three find work. The first refusal in
@@ -177,7 +131,7 @@ impl PortCall {
             return PortCall::read(alloc, inputs);
         }
         match read_beside(rt, alloc, inputs, threads > 2) {
-            Ok((profile, plan, moves)) => call_of_readings(alloc, inputs, profile, plan, moves),
+            Ok((base, orders)) => call_of_readings(alloc, inputs, base, orders),
             Err(AllocError) => Err(InputFault::NoMemory),
         }
     }

@@ -1,6 +1,7 @@
-ghost use Rattle.std.specs.Prelude.{◌≤◌, length, option_map};
-ghost use Rattle.port_call.specs.Inputs.{orders_in, orders_on, rows_of};
-ghost use Rattle.port_call.specs.Readings.{AreMovesRead, IsPlanRead, IsShipRead, Reads};
+ghost use Rattle.std.specs.Prelude.{option_map};
+ghost use Rattle.port_call.specs.Inputs.{rows_of};
+ghost use Rattle.port_call.specs.Readings.{AreMovesRead, AreOrdersRead, IsPlanRead, IsShipRead};
+ghost use Rattle.port_call.specs.Readings.{Reads};
 ghost use Rattle.ship_profile.specs.Record.{texts_of};
 
 use crate::faults::InputFault;
@@ -39,7 +40,7 @@ pub fn items(alloc: Global, text: &[u8]) -> Result<Vec<Item>, InputFault>
 }
 
 /// The lifts of the text of a movement instruction.
-pub fn lifts(alloc: Global, text: &[u8]) -> Result<Vec<Lift>, InputFault>
+fn lifts(alloc: Global, text: &[u8]) -> Result<Vec<Lift>, InputFault>
     ensures { AreMovesRead result text.now }
 {
     movins(alloc, text).map_err(movins_refusal)
@@ -56,29 +57,15 @@ fn rows(alloc: Global, text: Option<&[u8]>, lifts: u32) -> Result<Option<Vec<Ste
     Ok(Some(steps(alloc, text, lifts).map_err(steps_refusal)?))
 }
 
-/// The steps that the lifts and the steps file order.
-fn orders_on(alloc: Global, inputs: &Inputs<'_>, lifts: Vec<Lift>) -> Result<Vec<Op>, InputFault>
-    requires { length lifts.items ≤ 200000 }
-    ensures { Reads (λ ops. ops.items) (orders_on inputs.now lifts.items) result }
+/// The steps that the texts of a movement instruction and of a steps file order, where there is
+/// one.
+pub fn orders(alloc: Global, moves: &[u8], steps: Option<&[u8]>) -> Result<Vec<Op>, InputFault>
+    ensures { AreOrdersRead result moves.now (option_map (λ t. t.now) steps.entry) }
 {
-    let rows = rows(alloc, inputs.steps, lifts.len() as u32)?;
+    let lifts = lifts(alloc, moves)?;
+    let rows = rows(alloc, steps, lifts.len() as u32)?;
     match ops(alloc, lifts, rows) {
         Ok(ops) => Ok(ops),
         Err(AllocError) => Err(InputFault::NoMemory),
-    }
-}
-
-/// The steps that the movement instruction, as it was read, and the steps file order.
-pub fn orders_by(
-    alloc: Global,
-    inputs: &Inputs<'_>,
-    moves: Result<Vec<Lift>, InputFault>,
-) -> Result<Vec<Op>, InputFault>
-    requires { AreMovesRead moves inputs.now.movins.now }
-    ensures { Reads (λ ops. ops.items) (orders_in inputs.now) result }
-{
-    match moves {
-        Ok(lifts) => orders_on(alloc, inputs, lifts),
-        Err(fault) => Err(fault),
     }
 }

@@ -8,6 +8,7 @@
 //! the definitions.
 #![tactic(auto)]
 
+mod arrivals;
 mod calls;
 mod cases;
 mod faults;

@@ -1,24 +1,23 @@
 //! The inputs, read beside one another in threads.
-ghost use Rattle.std.specs.Prelude.{◌≡◌, IfOk};
+ghost use Rattle.std.specs.Prelude.{◌≡◌, IfOk, option_map};
 ghost use Rattle.ship_profile.specs.Record.{texts_of};
-ghost use Rattle.port_call.specs.Readings.{AreAllRead, AreMovesRead, IsPlanRead, IsShipRead};
-ghost use Rattle.port_call.specs.Readings.{texts_by};
+ghost use Rattle.port_call.specs.Readings.{AreAllRead, AreOrdersRead, IsPlanRead, IsShipRead};
+ghost use Rattle.port_call.specs.Readings.{text_if, texts_by};
 
+use crate::arrivals::ground_by;
 use crate::faults::InputFault;
-use crate::inputs::{Inputs, items, lifts, ship};
+use crate::grounds::Ground;
+use crate::inputs::{Inputs, items, orders, ship};
+use lift_sequence::Op;
 use ship_profile::{Profile, ProfileBytes};
 use std::alloc::{AllocError, Global};
 use std::sync::Wait;
 use std::thread;
 use std::thread::{Promise, PromisedHandle, Scope, Threads};
-use stow_messages::{Item, Lift};
+use stow_messages::Item;
 
-/// What was read of a profile, a bay plan and a movement instruction.
-pub type Readings = (
-    Result<Profile, InputFault>,
-    Result<Vec<Item>, InputFault>,
-    Result<Vec<Lift>, InputFault>,
-);
+/// What was read of a ship with what is aboard of her on arrival, and of the steps.
+pub type Readings = (Result<Ground, InputFault>, Result<Vec<Op>, InputFault>);
 
 /// What a thread that reads a bay plan promises: what it gives was read of this text.
 #[derive(Clone, Copy)]
@@ -32,16 +31,20 @@ impl<'a> Promise<Result<Vec<Item>, InputFault>> for PlanOf<'a> {
     ghost kept_by = { λ plan given. IsPlanRead given plan.text.now };
 }
 
-/// What a thread that reads a movement instruction promises: what it gives was read of this text.
+/// What a thread that reads the steps promises: what it gives was read of these texts, of a
+/// movement instruction and of a steps file, which counts where there is one.
 #[derive(Clone, Copy)]
-struct MovesOf<'a> {
-    text: &'a [u8],
+struct OrdersOf<'a> {
+    moves: &'a [u8],
+    steps: &'a [u8],
+    has_steps: bool,
 }
 
-impl<'a> Promise<Result<Vec<Lift>, InputFault>> for MovesOf<'a> {
-    ghost use Rattle.port_call.specs.Readings.{AreMovesRead};
+impl<'a> Promise<Result<Vec<Op>, InputFault>> for OrdersOf<'a> {
+    ghost use Rattle.port_call.specs.Readings.{AreOrdersRead, text_if};
 
-    ghost kept_by = { λ moves given. AreMovesRead given moves.text.now };
+    ghost kept_by = { λ texts given.
+        AreOrdersRead given texts.moves.now (text_if texts.has_steps texts.steps.now) };
 }
 
 /// Starts a thread that reads a bay plan.
@@ -61,19 +64,39 @@ fn start_plan<'s, E>(
     Ok(started?)
 }
 
-/// Starts a thread that reads a movement instruction.
-fn start_moves<'s, E>(
+/// The steps that these texts order; that of a steps file counts where there is one.
+fn orders_by(
+    alloc: Global,
+    moves: &[u8],
+    steps: &[u8],
+    has_steps: bool,
+) -> Result<Vec<Op>, InputFault>
+    ensures { AreOrdersRead result moves.now (text_if has_steps steps.now) }
+{
+    orders(alloc, moves, if has_steps { Some(steps) } else { None })
+}
+
+/// Starts a thread that reads the steps.
+fn start_orders<'s, E>(
     scope: &Scope<'s, E>,
     alloc: Global,
-    text: &'s [u8],
-) -> Result<PromisedHandle<Result<Vec<Lift>, InputFault>, MovesOf<'s>>, AllocError>
-    ensures { IfOk result (λ h. h.promise.text.now ≡ text.entry.now) }
+    moves: &'s [u8],
+    steps: &'s [u8],
+    has_steps: bool,
+) -> Result<PromisedHandle<Result<Vec<Op>, InputFault>, OrdersOf<'s>>, AllocError>
+    ensures moves { IfOk result (λ h. h.promise.moves.now ≡ moves.entry.now) }
+    ensures steps { IfOk result (λ h. h.promise.steps.now ≡ steps.entry.now) }
+    ensures has_steps { IfOk result (λ h. h.promise.has_steps ≡ has_steps) }
 {
     let started = scope.spawn_with(
-        MovesOf { text },
-        move || -> Result<Vec<Lift>, InputFault>
-            ensures { AreMovesRead result text.entry.now }
-        { lifts(alloc, text) },
+        OrdersOf {
+            moves,
+            steps,
+            has_steps,
+        },
+        move || -> Result<Vec<Op>, InputFault>
+            ensures { AreOrdersRead result moves.entry.now (text_if has_steps steps.entry.now) }
+        { orders_by(alloc, moves, steps, has_steps) },
     );
     Ok(started?)
 }
@@ -106,9 +129,10 @@ fn ship_by(
     ship(alloc, &files)
 }
 
-/// The texts of a profile's files, of a bay plan and of a movement instruction, read beside one
-/// another. The closure takes plain slices, which this function has by themselves: of what a
-/// closure answers that takes a value with a lifetime in its type nothing is known.
+/// The texts of a profile's files, of a bay plan, and of a movement instruction and a steps file,
+/// read beside one another, and what is aboard on arrival by the first two. The closure takes plain
+/// slices, which this function has by themselves: of what a closure answers that takes a value with
+/// a lifetime in its type nothing is known.
 fn read_texts<R: Threads + Wait + Sync>(
     rt: &R,
     alloc: Global,
@@ -122,10 +146,13 @@ fn read_texts<R: Threads + Wait + Sync>(
     has_gm: bool,
     plan: &[u8],
     moves: &[u8],
+    steps: &[u8],
+    has_steps: bool,
     apart: bool,
 ) -> Result<Readings, AllocError>
     ensures { IfOk result (λ read. AreAllRead read (texts_by ship_text.now cells.now hydro.now
-        kn.now bonjean.now tanks.now gm.now has_gm) plan.now moves.now) }
+        kn.now bonjean.now tanks.now gm.now has_gm) plan.now moves.now
+        (text_if has_steps steps.now)) }
 {
     thread::scope(
         thread::scope_env(),
@@ -134,33 +161,35 @@ fn read_texts<R: Threads + Wait + Sync>(
             ensures { IfOk result (λ read. AreAllRead read
                 (texts_by ship_text.entry.now cells.entry.now
                 hydro.entry.now kn.entry.now bonjean.entry.now tanks.entry.now gm.entry.now has_gm)
-                plan.entry.now moves.entry.now) }
+                plan.entry.now moves.entry.now (text_if has_steps steps.entry.now)) }
         {
-            let moves = start_moves(scope, alloc, moves)?;
+            let orders = start_orders(scope, alloc, moves, steps, has_steps)?;
             if !apart {
                 let profile = ship_by(
                     alloc, ship_text, cells, hydro, kn, bonjean, tanks, gm, has_gm,
                 );
                 let plan = items(alloc, plan);
-                return Ok((profile, plan, moves.join(rt)));
+                return Ok((ground_by(alloc, profile, plan), orders.join(rt)));
             }
             let Ok(plan) = start_plan(scope, alloc, plan) else {
                 // joined, so that what it read is let go
-                drop(moves.join(rt));
+                drop(orders.join(rt));
                 return Err(AllocError);
             };
             let profile = ship_by(
                 alloc, ship_text, cells, hydro, kn, bonjean, tanks, gm, has_gm,
             );
-            Ok((profile, plan.join(rt), moves.join(rt)))
+            let ground = ground_by(alloc, profile, plan.join(rt));
+            Ok((ground, orders.join(rt)))
         },
     )
 }
 
-/// The inputs, read in two threads: the movement instruction, which takes about as long as the
-/// others together, beside the profile and then the bay plan, which are read in this thread; with
-/// `apart` in three, the bay plan in a thread of its own too. None of them depends on another. An
-/// error where a thread isn't started.
+/// The inputs, read in two threads: the movement instruction and the steps file, which take about
+/// as long as the others together, beside the profile and then the bay plan, which are read in this
+/// thread; with `apart` in three, the bay plan in a thread of its own too. None of them depends on
+/// another. What is aboard on arrival is brought together in this thread, while the steps may still
+/// be read. An error where a thread isn't started.
 pub fn read_beside<R: Threads + Wait + Sync>(
     rt: &R,
     alloc: Global,
@@ -168,7 +197,8 @@ pub fn read_beside<R: Threads + Wait + Sync>(
     apart: bool,
 ) -> Result<Readings, AllocError>
     ensures { IfOk result (λ read. AreAllRead read (texts_of inputs.now.profile)
-        inputs.now.baplie.now inputs.now.movins.now) }
+        inputs.now.baplie.now inputs.now.movins.now
+        (option_map (λ t. t.now) inputs.now.steps)) }
 {
     let ProfileBytes {
         ship: ship_text,
@@ -192,6 +222,8 @@ pub fn read_beside<R: Threads + Wait + Sync>(
         gm.is_some(),
         inputs.baplie,
         inputs.movins,
+        inputs.steps.unwrap_or(&[]),
+        inputs.steps.is_some(),
         apart,
     )
 }

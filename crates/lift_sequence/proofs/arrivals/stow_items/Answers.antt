@@ -1,10 +1,10 @@
 use Rattle.std.proofs.Common.{pos, Some, ap, sym, ◌∙◌, refl, arith, rules}
-use Rattle.lift_sequence.specs.Aboard.{Aboard, cargo_in, container_of}
+use Rattle.lift_sequence.specs.Aboard.{Aboard, cargo_in, container_of, nothing}
 use Rattle.lift_sequence.specs.Arrival.{items_fault}
 use Rattle.units_core.specs.Totals.{total}
 use Rattle.lift_sequence.specs.Bodies.{bodies_in_cells, item_body}
 use Rattle.lift_sequence.proofs.Listings.{stowed_more, stowed_few, nothing_stands}
-use Rattle.lift_sequence.proofs.States.{filter_more, items_pass, items_stop}
+use Rattle.lift_sequence.proofs.States.{filter_more, items_more, items_pass, items_stop}
 use Rattle.lift_sequence.proofs.arrivals.stow_items.Goals as goal
 
 pub loop-item-preserved : goal.loop-item-preserved
@@ -15,6 +15,8 @@ loop-item-preserved c =
       number_is = search rules;
       stowed = stowed_more c.args.profile.now (cargo_in c.loop-item.stowage) _ x.cell (container_of x) c.loop-item.number c.requires.sound.tables.tables.distinct
           c.loop-item.invariant.stowed e.legal e.aboard;
+      aboard = items_more nothing (cargo_in c.loop-item.stowage) _ c.args.items.now c.loop-item.item-index x (search rules) (search rules)
+          c.loop-item.invariant.aboard e.aboard;
       bodies_are = filter_more (item_body c.args.profile.now) c.args.items.now c.loop-item.item-index x
           c.loop-item.bodies.items c.push.new.self.items (Some c.in-Ok.body) (search rules) (search rules) c.loop-item.invariant.bodies_are (sym e.body) (search rules);
       legal = items_pass c.args.profile.now (cargo_in c.loop-item.stowage) _ c.args.items.now c.loop-item.item-index c.loop-item.number x _ (search rules) (search rules)
@@ -34,6 +36,7 @@ loop-item-init c =
     record {
       number_is = refl;
       stowed = sym (ap (λ (a : Aboard). total (λ body. pos 1) (bodies_in_cells ship a.cells)) c.requires.nothing ∙ ap (total (λ body. pos 1)) (nothing_stands ship));
+      aboard = c.requires.nothing;
       bodies_are = c.requires.none;
       legal = ap (λ (a : Aboard). items_fault ship a 1 c.args.items.now) (sym c.requires.nothing);
     }

@@ -11,10 +11,12 @@ text_same now (Some r) other = refl
 
 pub returns : goal.returns
 returns g c =
-    let b = c.args.inputs.now.profile in
-    let same = (λ j. text_if (c.is_some.ensures j) (c.unwrap_or.ensures j).now) ∙ text_same (λ t. t.now) b.gm _ in
+    let inputs = c.args.inputs.now in
+    let b = inputs.profile in
+    let gm = (λ j. text_if (c.is_some.ensures j) (c.unwrap_or.ensures j).now) ∙ text_same (λ t. t.now) b.gm _ in
+    let steps = (λ j. text_if (c.is_some-2.ensures j) (c.unwrap_or-2.ensures j).now) ∙ text_same (λ t. t.now) inputs.steps _ in
     IfOk-weaker c.read_texts.result _ _
-    (λ read h. subst (λ (t : Option (List ℕ)). AreAllRead read
-    (record { ship = b.ship.now; tables = record { cells = b.cells.now; hydro = b.hydro.now; levers = b.kn.now; bonjean = b.bonjean.now; tanks = b.tanks.now; least_gm = t } })
-    c.args.inputs.now.baplie.now c.args.inputs.now.movins.now) same h)
+    (λ read h. subst (λ (t : Option (List ℕ) × Option (List ℕ)). AreAllRead read
+    (record { ship = b.ship.now; tables = record { cells = b.cells.now; hydro = b.hydro.now; levers = b.kn.now; bonjean = b.bonjean.now; tanks = b.tanks.now; least_gm = t.0 } })
+    inputs.baplie.now inputs.movins.now t.1) (λ j. (gm j, steps j)) h)
     c.read_texts.ensures
