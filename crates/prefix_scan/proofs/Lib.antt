@@ -1,4 +1,5 @@
 pub mod CutLemmas
+pub mod EndLemmas
 pub mod FoldLemmas
 pub mod HeightLemmas
 pub mod PairLemmas

@@ -1,7 +1,8 @@
 -- Bookkeeping: the rows of a tree. Each row has the joins of each two neighbours of the row below
 -- it.
-use Rattle.std.specs.Prelude.{◌≡◌, ℕ, zero, suc, ◌+◌, ◌*◌, ◌^◌, ◌<◌, ◌≤◌, List, [], ◌∷◌, length}
-use Rattle.std.specs.Prelude.{Vec, slice_index_or}
+use Rattle.std.specs.Prelude.{◌≡◌, ℕ, zero, suc, ◌+◌, ◌-◌, ◌*◌, ◌^◌, ◌<◌, ◌≤◌, List, [], ◌∷◌}
+use Rattle.std.specs.Prelude.{length, Option, None, Some, Vec, slice_index_or}
+use Rattle.std.specs.Vec.{vec_capacity, vec_len}
 use Rattle.std.specs.declared.alloc.Global.{Global}
 
 -- each two neighbours joined; a last one that is alone is left out
@@ -38,3 +39,25 @@ pub record IsWritten {M : Type 0} (d : M) (at len : ℕ) (values old new : List 
   pub inside : (k : ℕ) → k < len → slice_index_or new (at + k) d ≡ slice_index_or values k d
   pub before : (k : ℕ) → k < at → slice_index_or new k d ≡ slice_index_or old k d
   pub behind : (k : ℕ) → at + len ≤ k → slice_index_or new k d ≡ slice_index_or old k d
+
+-- rows of the same values
+pub record AreSameRows {M : Type 0} (old new : List (Vec M Global)) : Type 0 where
+  pub number : length new ≡ length old
+  pub each : (l : ℕ) → row_at new l ≡ row_at old l
+
+-- how many values more the row of a number takes where it is
+abbrev pub spare_at : {M : Type 0} → List (Vec M Global) → ℕ → ℕ
+spare_at [] l = 0
+spare_at (r ∷ rs) zero = vec_capacity r - vec_len r
+spare_at (r ∷ rs) (suc l) = spare_at rs l
+
+-- each row takes a value more
+abbrev pub HaveRoom : {M : Type 0} → List (Vec M Global) → Type 0
+HaveRoom rows = (l : ℕ) → l < length rows → 0 < spare_at rows l
+
+-- the rows of a list, but for one that has this value alone, where there is such a one
+abbrev pub AreRowsBut : {M : Type 0} → (M → M → M) → List (Vec M Global) → List M → Option M
+    → Type 0
+AreRowsBut op rows xs None = AreRows op rows × (first_row rows ≡ xs)
+AreRowsBut op rows xs (Some top) = ((l : ℕ) → l < length rows → row_at rows l ≡ lifted op l xs)
+    × (lifted op (length rows) xs ≡ top ∷ [])

@@ -15,6 +15,7 @@ mod monoids;
 mod prefixes;
 mod running_joins;
 mod totals_tree;
+mod tree_ends;
 mod tree_rows;
 
 pub use chunk_offsets::offsets_tree;

@@ -1,11 +1,12 @@
 //! Prefixes of a list whose values change.
 ghost use Rattle.std.specs.Prelude.{◌≡◌, ℕ, ◌+◌, ◌-◌, ◌^◌, ◌<◌, ◌≤◌, ◌++◌, length, take, drop};
-ghost use Rattle.std.specs.Prelude.{sum_by, slice_set, IfOk};
+ghost use Rattle.std.specs.Prelude.{[], ◌∷◌, sum_by, slice_set, IfOk, OnOk, OnErr};
 ghost use Rattle.prefix_scan.specs.Folds.{prefix};
 ghost use Rattle.prefix_scan.specs.Laws.{most_parts};
 
 use crate::monoids::Monoid;
 use crate::prefixes::Prefixes;
+use crate::tree_ends::{push, shorten};
 use crate::tree_rows::{join_first, replace, replace_stretch, rows_of, rows_over};
 use std::alloc::{AllocError, Global};
 use std::marker::Model;
@@ -120,6 +121,27 @@ impl<M: Monoid + Drop> TotalsTree<M> {
         ensures joins { self.new.joins ≡ self.old.joins }
     {
         replace_stretch(&mut self.rows, first, values);
+    }
+
+    /// Puts a value at the end. The sizes of the values that are then in the list add up to at most
+    /// [`crate::MAX_PARTS`]. As where a tree is built, its joins aren't counted. Out of memory
+    /// nothing changes.
+    pub fn push(&mut self, alloc: Global, value: M) -> Result<(), AllocError>
+        requires { sum_by M.weight (self.old.values ++ value ∷ []) ≤ most_parts }
+        ensures values { OnOk result (self.new.values ≡ self.old.values ++ value ∷ []) }
+        ensures joins { self.new.joins ≡ self.old.joins }
+        ensures same { OnErr result (self.new ≡ self.old) }
+    {
+        push(alloc, &mut self.rows, value)
+    }
+
+    /// Leaves the first `len` values. No join is made.
+    pub fn truncate(&mut self, len: usize)
+        requires { len ≤ length self.old.values }
+        ensures values { self.new.values ≡ take len self.old.values }
+        ensures joins { self.new.joins ≡ self.old.joins }
+    {
+        shorten(&mut self.rows, len);
     }
 
     /// The first `i` values joined in their order; the unit where `i` is 0.

@@ -201,3 +201,21 @@ fn values_made_anew(rt: HostRuntime) -> Result<(), Fail> {
     same(&rt, tree.peek(3), joined(Some(3), 3));
     Ok(())
 }
+
+// Two values come in at the end, so that the tree gets a row more, and then three of five go away:
+// the prefixes are those of the values that are there, and no join is counted.
+#[test]
+fn values_at_the_end(rt: HostRuntime) -> Result<(), Fail> {
+    let mut tree = TotalsTree::build(rt.alloc(), &VALUES)?;
+    tree.push(rt.alloc(), FIVE)?;
+    same(&rt, tree.peek(4), joined(Some(5), 4));
+    tree.push(rt.alloc(), SEVEN)?;
+    same(&rt, tree.len(), 5);
+    same(&rt, tree.peek(5), joined(Some(7), 5));
+    same(&rt, tree.peek(3), joined(Some(3), 3));
+    tree.truncate(2);
+    same(&rt, tree.len(), 2);
+    same(&rt, tree.peek(2), joined(Some(1), 2));
+    same(&rt, tree.joins(), 0);
+    Ok(())
+}

@@ -1,4 +1,4 @@
-use Rattle.std.proofs.Common.{rules, arith, ◌≡◌, suc, ◌+◌, ◌-◌, ◌*◌, ◌/◌, ◌^◌, ◌<◌, ◌≤◌, ◌++◌, ℕ, length, ap, ◌∙◌, sym, List, below_more, length-set, take, drop, get_or, set, subst, sum_by}
+use Rattle.std.proofs.Common.{rules, arith, ◌≡◌, suc, ◌+◌, ◌-◌, ◌/◌, ◌^◌, ◌≤◌, ◌++◌, length, ap, ◌∙◌, sym, List, below_more, length-set, take, drop, get_or, set, subst, sum_by}
 use Rattle.std.specs.Prelude.{min}
 use Rattle.prefix_scan.specs.Rows.{paired, lifted, row_at, first_row, IsWritten}
 use Rattle.prefix_scan.proofs.PairLemmas.{lifted-weight, length-paired}
