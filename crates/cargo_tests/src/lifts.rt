@@ -8,5 +8,6 @@ mod orders;
 mod reweighing;
 mod sequences;
 mod ships;
+mod singles;
 
 pub(crate) use orders::{mass, short};

@@ -29,7 +29,7 @@ meets_itself bay = by_test (nat_eq (bay % 2) 1) refl where
   by_test true e = let low : nat_le bay bay ≡ true = grind arith in rw (e, low) refl
   by_test false e = let low : nat_le (bay - 1) (bay + 1) ≡ true = grind arith in rw (e, low) refl
 
-number_itself : (m : ℕ) → nat_eq m m ≡ true
+pub number_itself : (m : ℕ) → nat_eq m m ≡ true
 number_itself m = grind arith
 
 meets_room : (a : Cell) → are_apart a a ≡ false
@@ -91,7 +91,7 @@ module _ (f : Cell → Option Container) (c d : Cell) (v : Option Container) (aw
   other_stays = ap (λ b. cond b v (f d)) (two_cells c d away)
 
 -- two tanks are two, and either may be filled first
-tank_first : (f : ℕ → Option ℕ) (a b : ℕ) (x y : Option ℕ) → nat_eq a b ≡ false
+pub tank_first : (f : ℕ → Option ℕ) (a b : ℕ) (x y : Option ℕ) → nat_eq a b ≡ false
     → update nat_eq (update nat_eq f a x) b y ≡ update nat_eq (update nat_eq f b y) a x
 tank_first f a b x y apart = λ i q. at q (nat_eq a q) refl (nat_eq b q) refl i where
   clash : true ≡ false → ⊥
@@ -109,7 +109,7 @@ module _ {X : Type 0} (name_of : X → List ℕ) where
   named_at : (a : List ℕ) (xs : List X) (d : X) (i : ℕ) → position (λ x. bytes_eq a (name_of x)) xs ≡ Some i → a ≡ name_of (get_or xs i d)
   named_at a xs d i h = (bytes_eq-Decides a (name_of (get_or xs i d))).0 (position-Some (λ x. bytes_eq a (name_of x)) xs i d h).1
 
-  one_name : (a b : List ℕ) (xs : List X) (i : ℕ) → position (λ x. bytes_eq a (name_of x)) xs ≡ Some i → position (λ x. bytes_eq b (name_of x)) xs ≡ Some i → a ≡ b
+  pub one_name : (a b : List ℕ) (xs : List X) (i : ℕ) → position (λ x. bytes_eq a (name_of x)) xs ≡ Some i → position (λ x. bytes_eq b (name_of x)) xs ≡ Some i → a ≡ b
   one_name a b [] i h k = cc
   one_name a b (x ∷ xs) i h k = named_at a (x ∷ xs) x i h ∙ sym (named_at b (x ∷ xs) x i k)
 
@@ -142,7 +142,7 @@ conflicts_turned a b c = record {
 pub turned : (a b : operation.Op) → AreIndependent a b → AreIndependent b a
 turned a b h = record { cells = λ c d p q k. h.cells d c q p (conflicts_turned c d k); tanks = λ name p q. h.tanks name q p }
 
-both_true : (a b : Bool) → (a && b) ≡ true → (a ≡ true) × (b ≡ true)
+pub both_true : (a b : Bool) → (a && b) ≡ true → (a ≡ true) × (b ≡ true)
 both_true true b h = (refl, h)
 both_true false b h = absurd (cc)
 

@@ -9,10 +9,12 @@ pub mod IndependentLemmas
 pub mod LightLemmas
 pub mod Listings
 pub mod MemoryLemmas
+pub mod NearLemmas
 pub mod Overlaps
 pub mod PlaceLemmas
 pub mod RivalLemmas
 pub mod ShiftLemmas
+pub mod SingleLemmas
 pub mod States
 pub mod Totals
 pub mod WalkLemmas

@@ -10,3 +10,4 @@ pub mod Places
 pub mod Printed
 pub mod Rivals
 pub mod Sequence
+pub mod Singles

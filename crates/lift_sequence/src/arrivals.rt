@@ -10,7 +10,7 @@ ghost use Rattle.lift_sequence.specs.Bodies.{item_body};
 ghost use Rattle.lift_sequence.specs.Legal.{Tells, stand_fault};
 ghost use Rattle.lift_sequence.specs.Sequence.{IsOf};
 
-use crate::containers::container_of;
+use crate::containers::{Container, container_of};
 use crate::equality::same_plan;
 use crate::faults::{NO_MEMORY, SeqCode, SeqFault, fault_at};
 use crate::stowage::Stowage;
@@ -18,7 +18,7 @@ use ship_profile::{Profile, TankFill};
 use std::alloc::{AllocError, Global};
 use std::marker::Model;
 use stow_messages::Item;
-use units_core::{Body, same_items};
+use units_core::{Body, Cell, same_items};
 
 /// The condition on arrival: the containers of the bay plan in their cells, and the fillings in
 /// their tanks.
@@ -257,6 +257,26 @@ impl Arrival {
         same_plan(&self.items, &other.items)
             && same_items(&self.fills, &other.fills)
             && same_items(&self.bodies, &other.bodies)
+    }
+
+    /// The container in a cell.
+    pub(crate) fn container_in(&self, cell: Cell) -> Option<Container>
+        ensures { result ≡ (cargo_on self.now).cells cell }
+    {
+        match self.stowage.cells.get(&cell) {
+            Some(container) => Some(container.copy()),
+            None => None,
+        }
+    }
+
+    /// The mass in a tank, in kg.
+    pub(crate) fn mass_in(&self, tank: u16) -> Option<u32>
+        ensures { result ≡ (cargo_on self.now).tanks tank }
+    {
+        match self.stowage.tanks.get(&tank) {
+            Some(kg) => Some(*kg),
+            None => None,
+        }
     }
 
     /// What is aboard, to go on from.

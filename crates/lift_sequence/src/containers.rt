@@ -16,16 +16,25 @@ pub struct Container {
     pub kg: Kg,
 }
 
+impl Container {
+    /// An equal container.
+    pub fn copy(&self) -> Container
+        ensures { result ≡ self.now }
+    {
+        Container {
+            id: copy_text(&self.id),
+            kg: self.kg,
+        }
+    }
+}
+
 impl Clone for Container {
     ghost use Rattle.std.specs.Prelude.{◌≡◌};
 
     ghost is_clone = { λ container copy. copy ≡ container };
 
     fn clone(&self) -> Result<Container, AllocError> {
-        Ok(Container {
-            id: copy_text(&self.id),
-            kg: self.kg,
-        })
+        Ok(self.copy())
     }
 }
 

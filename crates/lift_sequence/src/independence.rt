@@ -27,7 +27,7 @@ impl Op {
     }
 
     /// Whether the step fills the tank of this name.
-    fn fills(&self, name: &[u8]) -> bool
+    pub(crate) fn fills(&self, name: &[u8]) -> bool
         ensures { result ≡ fills self.now name.now }
     {
         match self {

@@ -21,8 +21,10 @@ mod faults;
 mod hashing;
 mod independence;
 mod laws;
+mod near;
 mod operations;
 mod sequences;
+mod singles;
 mod stowage;
 
 pub use arrivals::Arrival;

@@ -29,7 +29,7 @@ pub enum Op {
 }
 
 /// Whether two cells are equal.
-fn same_cell(a: Cell, b: Cell) -> bool
+pub(crate) fn same_cell(a: Cell, b: Cell) -> bool
     ensures { result ≡ cell_eq a b }
 {
     a == b

@@ -29,14 +29,14 @@ use stow_messages::Lift;
 use units_core::{Cell, Kg, Step};
 
 /// The greatest number of steps.
-const MAX_STEPS: usize = 120_000;
+pub(crate) const MAX_STEPS: usize = 120_000;
 
 /// A sequence of steps, each of which can be done where it comes, with what each does to the bodies
 /// aboard.
 #[derive(Debug, Drop)]
 pub struct Sequence {
-    ops: Vec<Op>,
-    steps: Vec<Step>,
+    pub(crate) ops: Vec<Op>,
+    pub(crate) steps: Vec<Step>,
 }
 
 impl Model for Sequence {
@@ -122,7 +122,7 @@ fn weigh_steps(ops: &[Op], steps: &mut [Step], place: usize, kg: Kg)
 
 /// A step loads no container that is too heavy for a sum, since a [`Kg`] has six digits. Its mass
 /// is looked at, so that this is known of it.
-fn op_is_light(op: &Op)
+pub(crate) fn op_is_light(op: &Op)
     ensures { IsLight op.now }
 {
     if let Op::Lift(Lift::Load(item)) = op {

@@ -29,10 +29,10 @@ pub(crate) struct Stowage {
 }
 
 /// Bays have three digits.
-const BAYS: u16 = 1_000;
+pub(crate) const BAYS: u16 = 1_000;
 
 /// The cell of another bay, of the same row and tier.
-fn in_bay(cell: Cell, bay: u16) -> Cell
+pub(crate) fn in_bay(cell: Cell, bay: u16) -> Cell
     ensures { result ≡ in_bay cell bay }
 {
     Cell {

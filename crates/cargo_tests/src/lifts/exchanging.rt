@@ -28,7 +28,7 @@ struct Case {
 struct Cases(&'static [Case]);
 
 /// The sequence of orders.
-fn sequence(
+pub fn sequence(
     alloc: Global,
     profile: &Profile,
     arrival: &Arrival,
@@ -57,7 +57,7 @@ fn swap(sequence: &mut Sequence, a: usize, b: usize) -> bool {
 }
 
 /// Two sequences order the same, and each step does the same.
-fn check_same(rt: &impl Abort, one: &Sequence, other: &Sequence) {
+pub fn check_same(rt: &impl Abort, one: &Sequence, other: &Sequence) {
     same(rt, one.ops(), other.ops());
     for number in 1..=other.len() {
         same(rt, step(one, number), step(other, number));

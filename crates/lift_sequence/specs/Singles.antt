@@ -1,0 +1,90 @@
+-- One step more or less in a sequence: what the other steps do then.
+use Rattle.std.specs.Prelude.{◌≡◌, ◌⊎◌, ℕ, ◌<◌, List, [], ◌∷◌, Option, None, Some, Bool, true}
+use Rattle.std.specs.Prelude.{false, ◌&&◌, ◌+◌, length, take, drop, nat_lt, slice_get}
+use Rattle.std.specs.Prelude.{if◌then◌else◌}
+use Rattle.std.specs.Option.{is_none}
+use Rattle.std.specs.List.{list_all}
+use Rattle.std.specs.Str.{bytes_eq}
+use Rattle.units_core.specs.declared.cells.Cell.{Cell}
+use Rattle.units_core.specs.declared.steps.Step.{Step}
+use Rattle.units_core.specs.Bodies.{Mass}
+use Rattle.units_core.specs.Cells.{meet}
+use Rattle.stow_messages.specs.declared.lifts.Lift.TheVariants.{Load, Discharge}
+use Rattle.ship_profile.specs.Record.{ProfileRecord, tank_of}
+use Rattle.lift_sequence.specs.declared.containers.Container.{Container}
+use Rattle.lift_sequence.specs.declared.near.Left.{Left}
+use Rattle.lift_sequence.specs.declared.near.Left.TheVariants.{Is, WasIn}
+use Rattle.lift_sequence.specs.declared.operations.Op as operation
+use Rattle.lift_sequence.specs.declared.operations.Op.TheVariants.{Lift, Fill, Restow}
+use Rattle.lift_sequence.specs.Aboard.{Aboard, after_all}
+use Rattle.lift_sequence.specs.Independent.{are_independent, fills}
+use Rattle.lift_sequence.specs.Limits.{most_steps}
+use Rattle.lift_sequence.specs.Legal.{fault_of, in_bay}
+
+-- a step is independent of each of these
+abbrev pub is_free : operation.Op → List operation.Op → Bool
+is_free op ops = list_all (are_independent op) ops
+
+-- Before these a step can come in or go away: it is a filling, since any mass can follow another in
+-- a tank, or it is independent of each of them.
+abbrev pub is_apart : operation.Op → List operation.Op → Bool
+is_apart (Fill name kg) ops = true
+is_apart (Lift lift) ops = is_free (Lift lift) ops
+is_apart (Restow from to id) ops = is_free (Restow from to id) ops
+
+-- the step at a place can go away
+abbrev pub is_apart_there : Option operation.Op → List operation.Op → Bool
+is_apart_there None ops = false
+is_apart_there (Some op) ops = is_apart op ops
+
+abbrev pub can_go : List operation.Op → ℕ → Bool
+can_go ops i = is_apart_there (slice_get ops i) (drop (i + 1) ops)
+
+-- a step can come in at a place: there is room for it, and it can be done there
+abbrev pub can_come : ProfileRecord → Aboard → List operation.Op → ℕ → operation.Op → Bool
+can_come ship at ops i op = nat_lt (length ops) most_steps
+    && (is_apart op (drop i ops) && is_none (fault_of ship (after_all ship at (take i ops)) op))
+
+-- what steps do where the tank of a name holds something else before them: the first of them that
+-- fills it takes that out
+abbrev pub handed : List ℕ → Option Mass → List operation.Op → List Step → List Step
+handed name out [] steps = steps
+handed name out (op ∷ ops) [] = []
+handed name out (op ∷ ops) (step ∷ steps) =
+    if fills op name then record { out = out; put = step.put } ∷ steps
+    else step ∷ handed name out ops steps
+
+-- the same where it is the tank of this step, and nothing changes where that is no filling
+abbrev pub handed_by : operation.Op → Option Mass → List operation.Op → List Step → List Step
+handed_by (Fill name kg) out ops steps = handed name.items out ops steps
+handed_by (Lift lift) out ops steps = steps
+handed_by (Restow from to id) out ops steps = steps
+
+-- two conditions hold the same in a cell and in those that overlap it
+pub record AreAlikeAt (cell : Cell) (a b : Aboard) : Type 0 where
+  pub here : a.cells cell ≡ b.cells cell
+  pub beside : (bay : ℕ) → bay < 1000 → meet bay cell.bay ≡ true
+      → a.cells (in_bay cell bay) ≡ b.cells (in_bay cell bay)
+
+-- they hold the same in all that a step is judged by
+abbrev pub AreAlikeFor : ProfileRecord → operation.Op → Aboard → Aboard → Type 0
+AreAlikeFor ship (Lift (Load item)) a b = AreAlikeAt item.cell a b
+AreAlikeFor ship (Lift (Discharge cell id)) a b = a.cells cell ≡ b.cells cell
+AreAlikeFor ship (Fill name kg) a b =
+    (tank : ℕ) → tank_of ship name.items ≡ Some tank → a.tanks tank ≡ b.tanks tank
+AreAlikeFor ship (Restow from to id) a b = (a.cells from ≡ b.cells from) × AreAlikeAt to a b
+
+-- what is in a cell after a step, by what was aboard before it
+abbrev pub left_in : Aboard → Left → Option Container
+left_in at (Is container) = container
+left_in at (WasIn cell) = at.cells cell
+
+-- the mass to which a step fills the tank of a name
+abbrev pub mass_in : operation.Op → List ℕ → Option ℕ
+mass_in (Lift lift) name = None
+mass_in (Fill other kg) name = if bytes_eq other.items name then Some kg else None
+mass_in (Restow from to id) name = None
+
+-- a condition holds in its cells no other containers than another one
+abbrev pub IsPart : Aboard → Aboard → Type 0
+IsPart part whole = (cell : Cell) → (part.cells cell ≡ None) ⊎ (part.cells cell ≡ whole.cells cell)
