@@ -36,6 +36,21 @@ struct Tried<'a> {
     kept: &'a Kept,
 }
 
+/// Whether an edit that makes the second list of the first asks for no memory: it takes a step out
+/// and leaves fewer than four, of which no sum is kept.
+fn asks_for_none(from: &[Op], to: &[Op]) -> bool {
+    to.len() < from.len() && to.len() < 4
+}
+
+/// Says how many growths of an edit were refused, or, where it may ask for none, that it doesn't.
+fn note_edit<W: Write>(out: &mut W, name: &str, kind: Kind, free: bool, tally: Tally) -> bool {
+    if free {
+        note_free(out, name, name_of(kind), is_free(tally))
+    } else {
+        note(out, name, name_of(kind), tally)
+    }
+}
+
 /// An edit.
 fn try_apply<'a, R: AllocGlobal + Threads + Wait + Sync, W: Write>(
     rt: &R,
@@ -52,7 +67,8 @@ fn try_apply<'a, R: AllocGlobal + Threads + Wait + Sync, W: Write>(
         kept: tried.kept,
     };
     let tally = watch(rt, &mut Trial::Apply(editing));
-    note(out, name, name_of(tried.kind), tally)
+    let free = asks_for_none(tried.before, tried.after);
+    note_edit(out, name, tried.kind, free, tally)
 }
 
 /// The same taken back.
@@ -71,7 +87,8 @@ fn try_undo<'a, R: AllocGlobal + Threads + Wait + Sync, W: Write>(
         kept: tried.kept,
     };
     let tally = watch(rt, &mut Trial::Undo(editing));
-    note(out, name, name_of(tried.kind), tally)
+    let free = asks_for_none(tried.after, tried.before);
+    note_edit(out, name, tried.kind, free, tally)
 }
 
 /// Both, in a session in which so many others are kept then.
@@ -145,7 +162,7 @@ pub fn long_lists<R: AllocGlobal + Threads + Wait + Sync, W: Write>(
 ) -> Result<bool, RunFault> {
     let mut long = with_long_list(rt.alloc(), session, LONG)?;
     let free = is_free(watch(rt, &mut Trial::Searches(&mut long)));
-    let mut right = note_free(out, "searches of a long list", free);
+    let mut right = note_free(out, "searches of a long list", "", free);
     right &= edits(rt, out, &long, Kind::Insert)?;
     right &= edits(rt, out, &long, Kind::Remove)?;
     let shorter = with_long_list(rt.alloc(), session, LONG - 1)?;
@@ -159,7 +176,7 @@ pub fn undos<R: AllocGlobal + Threads + Wait + Sync, W: Write>(
     session: &mut Session,
 ) -> bool {
     let free = is_free(watch(rt, &mut Trial::SixtyFourUndos(session)));
-    note_free(out, "sixty_four_undos", free)
+    note_free(out, "sixty_four_undos", "", free)
 }
 
 /// Exchanges of independent steps, for which there is a third.
@@ -174,6 +191,7 @@ pub fn swaps<R: AllocGlobal + Threads + Wait + Sync, W: Write>(
     note_free(
         out,
         "exchanges of independent steps",
+        "",
         inserted && back && free,
     )
 }

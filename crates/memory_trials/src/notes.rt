@@ -23,13 +23,13 @@ pub fn is_free(tally: Tally) -> bool {
 }
 
 /// The same of a row that asks for none.
-pub fn note_free<W: Write>(out: &mut W, name: &str, free: bool) -> bool {
+pub fn note_free<W: Write>(out: &mut W, name: &str, edit: &str, free: bool) -> bool {
     let said = if free {
         "asks for none"
     } else {
         "WRONG: it asks for memory, or answers otherwise"
     };
-    writeln!(out, "{name}: {said}").is_ok() && free
+    writeln!(out, "{name}{edit}: {said}").is_ok() && free
 }
 
 /// The same of a wrong body, which has to be caught where a growth was refused.

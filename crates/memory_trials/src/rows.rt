@@ -277,7 +277,7 @@ fn desk_rows<R: AllocGlobal + Threads + Wait + Sync, W: Write>(
         ticket: &early,
     });
     let free = is_free(watch(rt, &mut readers));
-    let said = note_free(out, "readers of a session and a desk", free);
+    let said = note_free(out, "readers of a session and a desk", "", free);
     match right {
         Ok(right) => Ok(right && said),
         Err(fault) => Err(fault),
@@ -309,7 +309,7 @@ fn wrong<R: AllocGlobal + Threads + Wait + Sync, W: Write>(rt: &R, out: &mut W) 
 /// Calls that ask for none.
 fn free_calls<W: Write>(alloc: Global, out: &mut W, session: &Session) -> Result<bool, RunFault> {
     let figures = figures_are_free(alloc, session.base());
-    let right = note_free(out, "figures of a condition", figures);
+    let right = note_free(out, "figures of a condition", "", figures);
     let rows = [
         ("boards and scans", are_free(alloc)),
         ("numbers, cells and bodies", numbers_are_free(alloc)),
@@ -319,7 +319,7 @@ fn free_calls<W: Write>(alloc: Global, out: &mut W, session: &Session) -> Result
     let mut all = right;
     for (name, free) in rows {
         match free {
-            Ok(free) => all &= note_free(out, name, free),
+            Ok(free) => all &= note_free(out, name, "", free),
             Err(_) => return Err(RunFault::NoMemory),
         }
     }

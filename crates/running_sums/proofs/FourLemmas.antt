@@ -1,13 +1,13 @@
 -- The sums of each four changes, and lists of changes in which some were set.
 use Rattle.std.proofs.Common.{◌≡◌, ◌∙◌, ℕ, zero, suc, ◌+◌, ◌-◌, ◌*◌, ◌/◌, ◌%◌, ◌^◌, ◌<◌, ◌≤◌, List, [], ◌∷◌, ◌++◌, length, take, drop, set, get_or, sum_by, refl, sym, ap, subst, arith, lt_of_not-le, get_or-set_same, get_or-set_other}
-use Rattle.std.proofs.lemmas.List.{ext_get_or, get_or_past, length-set}
+use Rattle.std.proofs.lemmas.List.{ext_get_or, get_or-drop, get_or_past, length-set}
 use Rattle.std.proofs.lemmas.List.Sums.{sum_by-cons}
 use Rattle.std.proofs.Math.Nat.{pow-succ'}
 use Rattle.std.proofs.Math.Pow.{pow_mono}
 use mathlib.Core.Logic.{dite}
 use native.Mathlib.Decide.{dec_le, ℕ_discrete}
 use Rattle.prefix_scan.specs.Folds.{prefix}
-use Rattle.prefix_scan.specs.Rows.{paired}
+use Rattle.prefix_scan.specs.Rows.{paired, IsWritten}
 use Rattle.prefix_scan.proofs.PairLemmas.{fold-paired, length-paired, paired-at, paired-weight}
 use Rattle.moment_sums.specs.Kept.{Kept, both_kept, none_kept, size_of}
 use Rattle.moment_sums.specs.KeptLaws.{kept_laws}
@@ -197,3 +197,21 @@ pub of_four_drop : (n : ℕ) (xs : List Kept) → AreOfFour xs → AreOfFour (dr
 of_four_drop zero xs h = h
 of_four_drop (suc n) [] h = tt
 of_four_drop (suc n) (x ∷ xs) h = of_four_drop n xs h.1
+
+-- nothing was written yet, and a piece more was written
+pub not_written : (at len : ℕ) → len ≡ 0 → (values sums : List Kept) → IsWritten none_kept at len values sums sums
+not_written at len none values sums = record { long = refl; inside = λ k h. absurd (omega (arith, none, h)); before = λ k h. refl; behind = λ k h. refl }
+
+pub written_more : (at len more : ℕ) (all old mid new : List Kept) → IsWritten none_kept at len (drop at all) old mid → IsWritten none_kept (at + len) more (drop (at + len) all) mid new
+    → IsWritten none_kept at (len + more) (drop at all) old new
+written_more at len more all old mid new one other = record {
+  long = other.long ∙ one.long;
+  inside = λ k h. dite (dec_le (suc k) len)
+      (λ low. other.before (at + k) (omega (arith, low)) ∙ one.inside k (omega (arith, low)))
+      (λ not. let high = lt_of_not-le not in
+      let there : at + k ≡ at + len + (k - len) = omega (arith, high) in
+      ap (λ n. get_or new n none_kept) there ∙ other.inside (k - len) (omega (arith, h, high)) ∙ get_or-drop (at + len) all (k - len) none_kept
+      ∙ ap (λ n. get_or all n none_kept) (sym there) ∙ sym (get_or-drop at all k none_kept));
+  before = λ k h. other.before k (omega (arith, h)) ∙ one.before k h;
+  behind = λ k h. other.behind k (omega (arith, h)) ∙ one.behind k (omega (arith, h));
+}

@@ -1,5 +1,5 @@
 -- Setting what steps change, one after another.
-use Rattle.std.proofs.Common.{◌≡◌, ℕ, zero, suc, ◌+◌, ◌-◌, ◌*◌, ◌/◌, ◌<◌, ◌≤◌, List, [], ◌∷◌, ◌++◌, length, map, take, drop, set, get_or, Option, None, Some, Bool, true, false, refl, sym, ap, ◌∙◌, subst, arith, lt_of_not-le, mul-le-mul_right, ◌^◌}
+use Rattle.std.proofs.Common.{◌≡◌, ℕ, zero, suc, ◌+◌, ◌-◌, ◌*◌, ◌/◌, ◌<◌, ◌≤◌, List, [], ◌∷◌, ◌++◌, length, map, take, drop, set, get_or, Option, None, Some, Bool, true, false, refl, sym, ap, ◌∙◌, subst, arith, lt_of_not-le}
 use Rattle.std.specs.Prelude.{slice_get, option_map, if◌then◌else◌}
 use Rattle.std.proofs.lemmas.Bool.{true≢false}
 use Rattle.std.proofs.lemmas.Option.{get_or_from_slice_get, slice_get-get_or}
@@ -13,7 +13,6 @@ use Rattle.lift_sequence.specs.declared.operations.Op.TheVariants as operation
 use Rattle.units_core.specs.declared.steps.Step.{Step}
 use Rattle.units_core.specs.Steps.{step_weighed}
 use Rattle.lift_sequence.specs.Follow.{AreReweighed, loaded_at, loaded_cell, moves, moves_in, next_cell, reweighed, steps_weighed, weighed_at, with_step}
-use Rattle.lift_sequence.proofs.FollowLemmas.{moves_few}
 use Rattle.units_core.specs.declared.frames.Frame.{Frame}
 use Rattle.moment_sums.specs.Kept.{Kept, none_kept}
 use Rattle.running_sums.specs.Fours.{change_of}

@@ -5,7 +5,9 @@
 //! one by one. Each step that is added counts as a join. So a query or a change may take one join
 //! more than in a tree over single steps, and stays within as many as the clauses allow.
 ghost use Rattle.std.specs.Prelude.{◌≡◌, ℕ, ◌+◌, ◌-◌, ◌*◌, ◌/◌, ◌%◌, ◌^◌, ◌<◌, ◌≤◌, length, map};
-ghost use Rattle.std.specs.Prelude.{slice_index_or, slice_set, drop, IfOk};
+ghost use Rattle.std.specs.Prelude.{◌++◌, [], ◌∷◌, slice_index_or, slice_set, take, drop, IfOk};
+ghost use Rattle.std.specs.Prelude.{OnOk, OnErr};
+ghost use Rattle.lift_sequence.specs.Limits.{most_steps};
 ghost use Rattle.prefix_scan.specs.Cut.{start_of};
 ghost use Rattle.prefix_scan.specs.Folds.{prefix};
 ghost use Rattle.prefix_scan.specs.Rows.{IsWritten};
@@ -15,7 +17,7 @@ ghost use Rattle.running_sums.specs.Fours.{AreOfFour, CostsUpTo, change_of, four
 
 use lift_sequence::Sequence;
 use moment_sums::Totals;
-use prefix_scan::{Cuts, TotalsTree};
+use prefix_scan::{Cuts, Monoid, TotalsTree};
 use std::alloc::{AllocError, Global};
 use std::marker::Model;
 use units_core::{Frames, Step};
@@ -242,18 +244,81 @@ impl Fours {
     }
 
     /// Sets what each four steps change together, from the four of a number on, as many as there is
-    /// room for. As where the sums are made, no join is counted.
-    pub fn renew(&mut self, sequence: &Sequence, frames: &Frames, four: usize, room: &mut [Totals])
+    /// room for. No join is counted.
+    fn renew_piece(
+        &mut self,
+        sequence: &Sequence,
+        frames: &Frames,
+        four: usize,
+        room: &mut [Totals],
+    )
         requires long { length self.old.values ≡ length sequence.now.ops / 4 }
         requires small { AreOfFour self.old.values }
         requires within { four + length room.old ≤ length self.old.values }
         ensures values { IsWritten none_kept four (length room.old)
             (drop four (fours (map (change_of frames.now) sequence.now.steps))) self.old.values
             self.new.values }
+        ensures small { AreOfFour self.new.values }
         ensures joins { self.new.joins ≡ self.old.joins }
     {
         sequence.facts();
         set_room(sequence, frames, four, room);
         self.tree.renew(four, room);
+    }
+
+    /// Sets what each four steps change together, from the four of a number on up to another, a
+    /// room full at a time. As where the sums are made, no join is counted. What was in the room is
+    /// lost.
+    pub fn renew(
+        &mut self,
+        sequence: &Sequence,
+        frames: &Frames,
+        four: usize,
+        end: usize,
+        room: &mut [Totals],
+    )
+        requires long { length self.old.values ≡ length sequence.now.ops / 4 }
+        requires small { AreOfFour self.old.values }
+        requires within { end ≤ length self.old.values }
+        requires some { four < end → 0 < length room.old }
+        ensures values { IsWritten none_kept four (end - four)
+            (drop four (fours (map (change_of frames.now) sequence.now.steps))) self.old.values
+            self.new.values }
+        ensures joins { self.new.joins ≡ self.old.joins }
+    {
+        let mut from = four;
+        'piece: while from < end {
+            let number = room.len().min(end - from);
+            self.renew_piece(sequence, frames, from, &mut room[..number]);
+            from += number;
+        }
+    }
+
+    /// As many sums as a list of so many steps has whole fours, where that is as many as there are,
+    /// or one more; the one that comes is of no step. No join is counted. Out of memory nothing
+    /// changes.
+    pub fn lengthen(&mut self, alloc: Global, steps: usize) -> Result<(), AllocError>
+        requires no_fewer { length self.old.values ≤ steps / 4 }
+        requires one_more { steps / 4 ≤ length self.old.values + 1 }
+        requires few { steps ≤ most_steps + 1 }
+        requires small { AreOfFour self.old.values }
+        ensures values { OnOk result
+            (self.new.values ≡ take (steps / 4) (self.old.values ++ none_kept ∷ [])) }
+        ensures joins { self.new.joins ≡ self.old.joins }
+        ensures same { OnErr result (self.new ≡ self.old) }
+    {
+        if steps / 4 > self.tree.len() {
+            self.tree.push(alloc, Totals::unit())?;
+        }
+        Ok(())
+    }
+
+    /// As many of the first sums as a list of so many steps has whole fours. No join is counted.
+    pub fn shorten(&mut self, steps: usize)
+        requires { steps / 4 ≤ length self.old.values }
+        ensures values { self.new.values ≡ take (steps / 4) self.old.values }
+        ensures joins { self.new.joins ≡ self.old.joins }
+    {
+        self.tree.truncate(steps / 4);
     }
 }

@@ -15,6 +15,7 @@ use what_if::Session;
 mod bases;
 mod desks;
 mod edits;
+mod in_place;
 mod reports;
 mod searches;
 

@@ -1,13 +1,8 @@
 -- What the steps of a list change, one by one and together.
-use Rattle.std.proofs.Common.{◌≡◌, ◌∙◌, ℕ, zero, suc, ◌+◌, ◌-◌, ◌*◌, ◌/◌, ◌^◌, ◌<◌, ◌≤◌, List, [], ◌∷◌, length, map, get_or, sum_by, Option, None, Some, refl, sym, ap, subst, arith}
+use Rattle.std.proofs.Common.{◌≡◌, ◌∙◌, ℕ, zero, suc, ◌+◌, ◌-◌, ◌*◌, ◌/◌, ◌^◌, ◌<◌, ◌≤◌, List, [], ◌∷◌, length, map, get_or, refl, sym, ap, subst, arith}
 use Rattle.std.specs.List.{range_with_len}
-use Rattle.std.specs.Prelude.{slice_get}
 use Rattle.std.proofs.lemmas.List.{get_or-map, length-map}
-use Rattle.std.proofs.lemmas.Option.{none-some}
-use Rattle.std.proofs.lemmas.List.Sums.{fold_more, sum_by-cons}
-use Rattle.units_core.specs.declared.frames.Frame.{Frame}
 use Rattle.lift_sequence.specs.declared.operations.Op.{Op}
-use Rattle.units_core.specs.declared.steps.Step.{Step}
 use Rattle.lift_sequence.specs.Sequence.{AreKept, SequenceRecord}
 use Rattle.lift_sequence.proofs.States.{as_many}
 use Rattle.prefix_scan.specs.Counted.{Counted}
@@ -15,25 +10,24 @@ use Rattle.prefix_scan.specs.Cut.{Divides, start_of}
 use Rattle.prefix_scan.proofs.CutLemmas.{start_within}
 use Rattle.prefix_scan.specs.Folds.{prefix}
 use Rattle.moment_sums.specs.Bounded.{IsBounded}
-use Rattle.moment_sums.specs.Kept.{Kept, bodies_of, both_kept, none_kept, size_of, values}
+use Rattle.moment_sums.specs.Kept.{Kept, both_kept, none_kept, size_of, values}
 use Rattle.moment_sums.specs.KeptLaws.{kept_laws}
-use Rattle.moment_sums.specs.Sum.{changed_by, joined}
+use Rattle.moment_sums.specs.Sum.{joined}
 use Rattle.moment_sums.proofs.Bounds.{values_both}
-use Rattle.moment_sums.proofs.KeptLemmas.{kept_size}
 use Rattle.port_call.specs.Cases.{case_on, IsMade, IsReady}
 use Rattle.seq_report.specs.Cases.{outcome_in}
-use Rattle.running_sums.specs.Lines.{AreFirstSums, change_behind, changes_behind, parts_behind, sum_to}
+use Rattle.running_sums.specs.Lines.{AreFirstSums, changes_behind, parts_behind, sum_to}
 use Rattle.port_call.specs.Sums.{sum_at}
 use Rattle.port_call.proofs.CaseLemmas.{ready}
 use Rattle.seq_report.proofs.ChunkLemmas.{many_lines}
-use Rattle.running_sums.proofs.SumLemmas.{change_size, changes_more, changes_size, changes_sum, few_bodies, room_behind}
+use Rattle.running_sums.proofs.SumLemmas.{changes_size, changes_sum, room_behind}
 use Rattle.seq_report.proofs.SumLemmas.{sum_here}
 use Rattle.port_call.specs.Grounds.{GroundRecord, IsGround, aboard_first, steps_on}
-use Rattle.running_sums.specs.Fours.{AreOfFour, AreSmall, change_of, fours}
+use Rattle.running_sums.specs.Fours.{AreOfFour, change_of, fours}
 use Rattle.what_if.specs.Bases.{report_on}
 use Rattle.what_if.specs.Sessions.{IsSummed, changes_on}
 use Rattle.running_sums.proofs.ChangeLemmas.{changes_to, small}
-use Rattle.running_sums.proofs.FourLemmas.{four_of, fours-at, length-fours, of_four}
+use Rattle.running_sums.proofs.FourLemmas.{length-fours, of_four}
 
 -- with what is aboard on arrival the first k changes are what is aboard after k steps
 module _ (base : GroundRecord) (sequence : SequenceRecord) (tree : Counted Kept) (total : Kept) (is_base : IsGround base.ship base.arrival total)

@@ -2,4 +2,5 @@ mod ChangeLemmas
 mod MoveLemmas
 mod PassingLemmas
 mod PastLemmas
+mod SingleLemmas
 mod WeighLemmas

@@ -10,13 +10,13 @@ use Rattle.std.proofs.lemmas.Option.{none-some, slice_get-get_or}
 use Rattle.lift_sequence.specs.declared.operations.Op.{Op}
 use Rattle.lift_sequence.specs.Independent.{moved, put_in}
 use Rattle.prefix_scan.specs.Rows.{IsWritten}
-use Rattle.moment_sums.specs.Kept.{Kept, none_kept, size_of}
+use Rattle.moment_sums.specs.Kept.{Kept, none_kept}
 use Rattle.step_edits.proofs.EditLemmas.{can_be_done}
 use Rattle.step_edits.specs.Edits.{edit_fault, edited, moved_to}
 use Rattle.step_edits.specs.declared.edits.Edit.TheVariants.{Move}
 use Rattle.units_core.specs.declared.frames.Frame.{Frame}
 use Rattle.units_core.specs.declared.steps.Step.{Step}
-use Rattle.running_sums.specs.Fours.{AreOfFour, change_of, fours}
+use Rattle.running_sums.specs.Fours.{change_of, fours}
 use Rattle.running_sums.proofs.FourLemmas.{fours_same, length-fours}
 
 module _ {X : Type 0} where

@@ -14,10 +14,10 @@ ghost use Rattle.running_sums.specs.Fours.{CostsUpTo};
 ghost use Rattle.what_if.specs.Sessions.{CostsLittle, IsSummed, refusal, restows_behind};
 
 use crate::passing::{Room, move_into, other_room};
+use crate::singles::piece;
 use crate::summed_lists::SummedList;
 use lift_sequence::{SeqCode, SeqFault, Sequence};
 use moment_sums::Totals;
-use prefix_scan::Monoid;
 use running_sums::{Fours, renew, renew_both};
 use std::alloc::AllocError;
 use step_edits::{Edit, EditFault, edit_list, fault_of};
@@ -59,8 +59,10 @@ impl SummedList {
     /// Makes an edit. Where it is refused, or out of memory, everything is as it was. Another
     /// weight of a load checks no step and takes no memory; nor does an exchange of two steps that
     /// are independent of each other and of all steps between. A move of a step past others that it
-    /// is independent of makes the sums of these steps anew. Any other edit makes the sequence and
-    /// all of its sums anew, and sees to the room for what searches keep, or leaves it.
+    /// is independent of makes the sums of these steps anew; a step that comes in or goes away, and
+    /// is a filling or independent of all steps behind it, those of the steps behind it. Any other
+    /// edit makes the sequence and all of its sums anew. Where a list gets longer or shorter, the
+    /// edit sees to the room for what searches keep, or leaves it.
     pub fn edit(&mut self, edit: &Edit, room: Room) -> Result<(), EditFault>
         ensures made { OnOk result ((refusal self.old.base self.old.ops edit.now ≡ None)
             × (self.new.ops ≡ edited self.old.ops edit.now)) }
@@ -74,23 +76,35 @@ impl SummedList {
         if let Some(fault) = fault_of(self.sequence.ops(), edit) {
             return Err(fault);
         }
+        match self.edit_in_place(edit, room) {
+            Ok(true) => Ok(()),
+            Ok(false) => self.rearrange(edit, room),
+            Err(AllocError) => Err(EditFault::NoMemory),
+        }
+    }
+
+    /// Makes an edit in place, where it can be made there. It returns whether it did; if not, or
+    /// out of memory, everything is as it was.
+    fn edit_in_place(&mut self, edit: &Edit, room: Room) -> Result<bool, AllocError>
+        requires { edit_fault self.old.ops edit.now ≡ None }
+        ensures base { self.new.base ≡ self.old.base }
+        ensures ops { IfOk result
+            (λ did. OnTrue did (self.new.ops ≡ edited self.old.ops edit.now)) }
+        ensures legal { IfOk result
+            (λ did. OnTrue did (list_fault self.old.base self.new.ops ≡ None)) }
+        ensures same { IfOk result (λ did. OnFalse did (self.new ≡ self.old)) }
+        ensures before { OnErr result (self.new ≡ self.old) }
+        ensures cost { CostsLittle edit.now self.old.ops self.old.joins self.new.joins }
+    {
         match edit {
             Edit::Reweigh { at, kg } => {
                 self.reweigh(*at as usize, *kg);
-                Ok(())
+                Ok(true)
             }
-            Edit::Swap { a, b } => {
-                if self.exchange(*a as usize, *b as usize) {
-                    return Ok(());
-                }
-                self.rearrange(edit, room)
-            }
-            Edit::Move { from, to } => match self.carry(*from as usize, *to as usize) {
-                Ok(true) => Ok(()),
-                Ok(false) => self.rearrange(edit, room),
-                Err(AllocError) => Err(EditFault::NoMemory),
-            },
-            _ => self.rearrange(edit, room),
+            Edit::Swap { a, b } => Ok(self.exchange(*a as usize, *b as usize)),
+            Edit::Move { from, to } => self.carry(*from as usize, *to as usize),
+            Edit::Insert { at, lift } => self.put_in(*at as usize, lift, room),
+            Edit::Remove { at } => self.take_out(*at as usize, room),
         }
     }
 
@@ -139,21 +153,28 @@ impl SummedList {
         let steps = self.sequence.len();
         let end = ((from.max(to) + 3) / 4).min(steps / 4);
         let four = ((from.min(to) - 1) / 4).min(end);
-        let mut room = vec![in self.alloc; Totals::unit(); end - four]?;
-        Ok(self.carry_in(from, to, four, &mut room))
+        let mut room = piece(self.alloc, end - four)?;
+        Ok(self.carry_in(from, to, four, end, &mut room))
     }
 
     /// Moves a step past others, where it is independent of them, and sets the sums of the fours of
-    /// steps from this number on in the room. It returns whether it did; if not, everything is as
-    /// it was.
-    fn carry_in(&mut self, from: usize, to: usize, four: usize, room: &mut [Totals]) -> bool
+    /// steps from this number on up to another, a room full at a time. It returns whether it did;
+    /// if not, everything is as it was.
+    fn carry_in(
+        &mut self,
+        from: usize,
+        to: usize,
+        four: usize,
+        end: usize,
+        room: &mut [Totals],
+    ) -> bool
         requires first { (1 ≤ from) × (1 ≤ to) }
         requires last { (from ≤ length self.old.ops) × (to ≤ length self.old.ops) }
         requires begins { (four * 4 < from) × (four * 4 < to) }
-        requires within { four + length room.old ≤ length self.old.ops / 4 }
-        requires ends { ((from ≤ (four + length room.old) * 4)
-            × (to ≤ (four + length room.old) * 4))
-            ⊎ (length self.old.ops / 4 ≤ four + length room.old) }
+        requires order { four ≤ end }
+        requires within { end ≤ length self.old.ops / 4 }
+        requires ends { ((from ≤ end * 4) × (to ≤ end * 4)) ⊎ (length self.old.ops / 4 ≤ end) }
+        requires some { four < end → 0 < length room.old }
         ensures base { self.new.base ≡ self.old.base }
         ensures ops { OnTrue result (self.new.ops ≡ moved self.old.ops (from - 1) (to - 1)) }
         ensures legal { OnTrue result (list_fault self.old.base self.new.ops ≡ None) }
@@ -164,7 +185,7 @@ impl SummedList {
             return false;
         }
         let frames = self.base.profile().frames();
-        self.sums.renew(&self.sequence, frames, four, room);
+        self.sums.renew(&self.sequence, frames, four, end, room);
         true
     }
 

@@ -12,6 +12,7 @@ mod desks;
 mod editing;
 mod passing;
 mod sessions;
+mod singles;
 mod summed_lists;
 mod tickets;
 

@@ -54,7 +54,7 @@ fn discharge() -> Op {
 }
 
 /// The tank amidships is filled.
-fn filling(kg: u32) -> Op {
+pub fn filling(kg: u32) -> Op {
     let mut name = ArrayVec::new();
     let _ = name.try_extend_from_slice(b"DB1".as_slice());
     Op::Fill { name, kg }

@@ -2,9 +2,8 @@ use Rattle.std.proofs.Common.{◌≡◌, ◌∙◌, ◌+◌, ◌-◌, ◌≤◌,
 use Rattle.std.proofs.lemmas.Option.{slice_get_past}
 use Rattle.prefix_scan.specs.Laws.{most_parts}
 use Rattle.units_core.specs.declared.steps.Step.{Step}
-use Rattle.moment_sums.specs.Kept.{bodies_of, both_kept, kept_of, size_of}
+use Rattle.moment_sums.specs.Kept.{both_kept, kept_of, size_of}
 use Rattle.moment_sums.specs.KeptLaws.{kept_laws}
-use Rattle.moment_sums.specs.Sum.{changed_by}
 use Rattle.running_sums.specs.Lines.{bodies_in, changed_in}
 use Rattle.running_sums.proofs.chunks.pass_line.Goals as goal
 

@@ -4,7 +4,7 @@ use Rattle.std.proofs.lemmas.Bool.{true≢false}
 use Rattle.std.proofs.lemmas.List.{length-map}
 use Rattle.std.proofs.lemmas.Option.{slice_get-get_or}
 use Rattle.lift_sequence.specs.declared.operations.Op.{Op}
-use Rattle.lift_sequence.specs.Follow.{loaded_at, moves, moves_in, next_cell}
+use Rattle.lift_sequence.specs.Follow.{loaded_at, moves, moves_in}
 use Rattle.moment_sums.specs.Kept.{Kept, none_kept}
 use Rattle.running_sums.specs.Fours.{AreMixed, AreOfFour, AreStill, change_of, fours}
 use Rattle.running_sums.proofs.ChangeLemmas.{small}

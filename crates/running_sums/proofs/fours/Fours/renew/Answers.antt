@@ -1,45 +1,49 @@
-use Rattle.std.proofs.Common.{◌∙◌, ◌+◌, ◌≤◌, ◌++◌, List, length, map, take, drop, get_or, sym, ap, arith, subst}
-use Rattle.std.proofs.lemmas.List.{get_or-drop}
-use Rattle.prefix_scan.specs.Counted.{Counted}
-use Rattle.prefix_scan.proofs.StretchLemmas.{length-with, with_before, with_behind, with_inside}
-use Rattle.moment_sums.specs.Kept.{Kept, both_kept, none_kept, size_of}
-use Rattle.running_sums.specs.Fours.{AreOfFour, change_of, fours}
-use Rattle.running_sums.proofs.ChangeLemmas.{small}
-use Rattle.running_sums.proofs.FourLemmas.{of_four, of_four_at, of_four_sum}
-use Rattle.running_sums.proofs.FourLemmas.{of_four_append, of_four_drop, of_four_from, of_four_take}
+use Rattle.std.proofs.Common.{◌≡◌, ◌∙◌, ◌+◌, ◌-◌, ◌<◌, List, length, map, take, drop, subst, arith, rules}
+use Rattle.std.proofs.lemmas.List.{length-append, length-take-le}
+use Rattle.prefix_scan.specs.Rows.{IsWritten}
+use Rattle.moment_sums.specs.Kept.{Kept, none_kept}
+use Rattle.running_sums.specs.Fours.{change_of, fours}
+use Rattle.running_sums.proofs.FourLemmas.{not_written, written_more}
 use Rattle.running_sums.proofs.fours.Fours.renew.Goals as goal
 
-pub renew-requires-clause-sizes : goal.renew-requires-clause-sizes
-renew-requires-clause-sizes c =
-    let steps = c.args.sequence.now.steps in
-    let xs : List Kept = map (change_of c.args.frames.now) steps in
-    let is = ap (λ (f : Counted Kept). f.values) c.self.view_is in
-    let old : List Kept = c.self.inside.tree.values in
-    let vs : List Kept = c.set_room.new.room in
+pub piece-init : goal.piece-init
+piece-init c = record {
+  small = c.requires.small;
+  some = c.requires.some;
+  ahead = omega arith;
+  within = omega arith;
+  written = not_written c.args.four (c.args.four - c.args.four) (omega arith) _ _;
+  joins = search rules;
+}
+
+pub piece-preserved : goal.piece-preserved
+piece-preserved c =
+    let inv = c.piece.invariant in
+    let from = c.piece.from in
+    let number = c.min-number.result in
     let four = c.args.four in
-    let room_few : AreOfFour vs = of_four_from vs (λ k low. let size = of_four_at (fours xs) (four + k) (of_four xs (small c.args.frames.now steps)) in
-    omega (arith, size, ap size_of (c.set_room.ensures.each k (omega (arith, low, c.set_room.ensures.long))))) in
-    let old_few : AreOfFour old = subst AreOfFour (sym is) c.requires.small in
-    let all = of_four_sum (take four old ++ vs ++ drop (four + length vs) old)
-    (of_four_append (take four old ++ vs) (drop (four + length vs) old) (of_four_append (take four old) vs (of_four_take four old old_few) room_few) (of_four_drop (four + length vs) old old_few)) in
-    let long = length-with both_kept none_kept old vs four (omega (arith, c.requires.within, c.set_room.ensures.long, ap length is)) in
-    omega (arith, all, long, ap length is, c.requires.long, c.facts.ensures.few)
+    let some : 0 < length c.piece.room = inv.some (omega (arith, inv.ahead, c.piece-test.true)) in
+    let all : List Kept = fours (map (change_of c.args.frames.now) c.args.sequence.now.steps) in
+    let old : List Kept = c.args.self.now.values in
+    let mid : List Kept = c.piece.self.values in
+    let now : List Kept = c.renew_piece.new.self.values in
+    let used : length (take number c.piece.room) ≡ number = length-take-le number c.piece.room (omega (arith, c.min-number.ensures)) in
+    let there : from ≡ four + (from - four) = omega (arith, inv.ahead) in
+    let sum : from - four + number ≡ from + number - four = omega (arith, inv.ahead) in
+    let piece : IsWritten none_kept (four + (from - four)) number (drop (four + (from - four)) all) mid now
+    = subst (λ n. IsWritten none_kept n number (drop n all) mid now) there (subst (λ n. IsWritten none_kept from n (drop from all) mid now) used c.renew_piece.ensures.values) in
+    record {
+      small = c.renew_piece.ensures.small;
+      some = λ _. omega (arith, length-append c.renew_piece.new.room (drop number c.piece.room), c.renew_piece.auto.room, used, c.min-number.ensures, some, c.piece-test.true);
+      ahead = omega (arith, inv.ahead);
+      within = omega (arith, inv.ahead, c.min-number.ensures, c.piece-test.true);
+      written = subst (λ n. IsWritten none_kept four n (drop four all) old now) sum (written_more four (from - four) number all old mid now inv.written piece);
+      joins = c.renew_piece.ensures.joins ∙ inv.joins;
+    }
 
 pub returns-clause-values : goal.returns-clause-values
 returns-clause-values c =
-    let steps = c.args.sequence.now.steps in
-    let xs : List Kept = map (change_of c.args.frames.now) steps in
-    let is = ap (λ (f : Counted Kept). f.values) c.self.view_is in
-    let old : List Kept = c.self.inside.tree.values in
-    let vs : List Kept = c.set_room.new.room in
-    let four = c.args.four in
-    let within : four + length vs ≤ length old = omega (arith, c.requires.within, c.set_room.ensures.long, ap length is) in
-    let now = c.renew.ensures.values in
-    record {
-      long = ap length now ∙ length-with both_kept none_kept old vs four within ∙ ap length is;
-      inside = λ k h. ap (λ (l : List Kept). get_or l (four + k) none_kept) now ∙ with_inside both_kept none_kept old vs four within k (omega (arith, h, c.set_room.ensures.long))
-          ∙ c.set_room.ensures.each k h ∙ sym (get_or-drop four (fours xs) k none_kept);
-      before = λ k h. ap (λ (l : List Kept). get_or l k none_kept) now ∙ with_before both_kept none_kept old vs four within k h ∙ ap (λ (l : List Kept). get_or l k none_kept) is;
-      behind = λ k h. ap (λ (l : List Kept). get_or l k none_kept) now ∙ with_behind both_kept none_kept old vs four within k (omega (arith, h, c.set_room.ensures.long))
-          ∙ ap (λ (l : List Kept). get_or l k none_kept) is;
-    }
+    let inv = c.piece.invariant in
+    let all : List Kept = fours (map (change_of c.args.frames.now) c.args.sequence.now.steps) in
+    let done : c.piece.from - c.args.four ≡ c.args.end - c.args.four = omega (arith, inv.ahead, inv.within, c.piece-test.false) in
+    subst (λ n. IsWritten none_kept c.args.four n (drop c.args.four all) c.args.self.now.values c.piece.self.values) done inv.written

@@ -1,4 +1,4 @@
-use Rattle.std.proofs.Common.{◌≡◌, ◌+◌, ◌/◌, length, ap, arith, inl, inr, lt_of_not-le}
+use Rattle.std.proofs.Common.{◌+◌, ◌/◌, length, ap, arith, inl, inr, lt_of_not-le}
 use mathlib.Core.Logic.{dite}
 use native.Mathlib.Decide.{dec_le}
 use Rattle.what_if.specs.Sessions.{Summed}
@@ -8,11 +8,10 @@ pub carry_in-requires-clause-ends : goal.carry_in-requires-clause-ends
 carry_in-requires-clause-ends c =
     let viewed = ap (λ (v : Summed). length v.ops) c.self.view_is in
     let steps = c.len-steps.ensures in
-    let room : length c.deref_mut.result.now ≡ length c.in_ok-room.room.items = ap length c.deref_mut.ensures.value in
     dite (dec_le ((c.max.result + 3) / 4) (c.len-steps.result / 4))
     (λ inside. inl (
-      omega (arith, inside, room, c.in_ok-room.ensures.len, c.min-end.ensures, c.min-four.ensures, c.min.ensures, c.max.ensures, c.requires.first.0, c.requires.first.1),
-      omega (arith, inside, room, c.in_ok-room.ensures.len, c.min-end.ensures, c.min-four.ensures, c.min.ensures, c.max.ensures, c.requires.first.0, c.requires.first.1),
+      omega (arith, inside, c.min-end.ensures, c.max.ensures, c.requires.first.0, c.requires.first.1),
+      omega (arith, inside, c.min-end.ensures, c.max.ensures, c.requires.first.0, c.requires.first.1),
     ))
     (λ not. let past = lt_of_not-le not in
-    inr (omega (arith, past, room, c.in_ok-room.ensures.len, c.min-end.ensures, c.min-four.ensures, c.min.ensures, c.max.ensures, steps, viewed)))
+    inr (omega (arith, past, c.min-end.ensures, steps, viewed)))

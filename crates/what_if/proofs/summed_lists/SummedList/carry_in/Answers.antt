@@ -58,7 +58,7 @@ invariant_of-self-2 c =
     let used = c.frames-frames.result.now in
     let after = c.shift.new.self in
     let four = c.args.four in
-    let len = length c.args.room.now in
+    let len = c.args.end - four in
     let many = as_many_steps base sequence sums c.self.invariant in
     let low : i < length sequence.steps = omega (arith, c.requires.first.0, c.requires.last.0, many, viewed) in
     let high : j < length sequence.steps = omega (arith, c.requires.first.1, c.requires.last.1, many, viewed) in
@@ -71,8 +71,8 @@ invariant_of-self-2 c =
     let first = four * 4 in
     let end = max c.args.from c.args.to in
     let all : (end ≤ (four + len) * 4) ⊎ (length xs / 4 ≤ four + len) = ⊎_elim
-    (λ (h : (c.args.from ≤ (four + len) * 4) × (c.args.to ≤ (four + len) * 4)). inl (omega (arith, h.0, h.1)))
-    (λ (h : length c.args.self.now.ops / 4 ≤ four + len). inr (omega (arith, h, viewed, many, length-map sequence.steps (change_of used))))
+    (λ (h : (c.args.from ≤ c.args.end * 4) × (c.args.to ≤ c.args.end * 4)). inl (omega (arith, h.0, h.1, c.requires.order)))
+    (λ (h : length c.args.self.now.ops / 4 ≤ c.args.end). inr (omega (arith, h, c.requires.order, viewed, many, length-map sequence.steps (change_of used))))
     c.requires.ends in
     let is = fours_renewed xs ys c.renew.new.self.values four len first end as_long
     (subst (λ (l : List Kept). IsWritten none_kept four len (drop four (fours ys)) l c.renew.new.self.values) kept c.renew.ensures.values)

@@ -1,7 +1,6 @@
 use Rattle.std.proofs.Common.{◌≡◌, ◌∙◌, ◌+◌, length, ap, subst, sym, arith}
 use Rattle.seq_report.specs.Plans.{Fits, IsUncut}
 use Rattle.seq_report.proofs.PlanLemmas.{as_refusal}
-use Rattle.what_if.specs.Bases.{report_on}
 use Rattle.what_if.specs.Sessions.{Summed}
 use Rattle.what_if.proofs.ChangeLemmas.{lines_on}
 use Rattle.what_if.proofs.summed_lists.SummedList.cut_by_plan.Goals as goal

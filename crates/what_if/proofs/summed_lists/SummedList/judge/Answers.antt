@@ -1,4 +1,4 @@
-use Rattle.std.proofs.Common.{◌≡◌, ◌∙◌, ◌^◌, ◌≤◌, length, map, Some, ap, subst, sym, arith}
+use Rattle.std.proofs.Common.{◌≡◌, ◌∙◌, ◌≤◌, length, map, Some, ap, subst, sym, arith}
 use Rattle.std.specs.Arc.{arc_value}
 use Rattle.ship_profile.specs.Record.{ProfileRecord}
 use Rattle.moment_sums.specs.Sum.{Sum}

@@ -1,0 +1,79 @@
+//! Steps that come into a long list and go away again where the others can stay as they are. Each
+//! report is compared with that of a session which was just made of the same list.
+use super::searches::{filling, turns};
+use super::{report_of, session, session_on};
+use crate::checks::same;
+use box_ship::NO_MOVES;
+use std::process::Abort;
+use std::sync::Wait;
+use std::test::Fail;
+use std::thread::Threads;
+use step_edits::copies;
+use what_if::{Edit, Session};
+
+/// The report is that of a session which is made of the same list.
+fn check_anew(
+    rt: &(impl Abort + AllocGlobal + Threads + Wait + Sync),
+    session: &Session,
+) -> Result<(), Fail> {
+    let list = copies(rt.alloc(), session.lifts())?;
+    let fresh = session_on(rt.alloc(), session, list)?;
+    let wanted = report_of(rt, &fresh);
+    same(rt, report_of(rt, session).as_slice(), wanted.as_slice());
+    Ok(())
+}
+
+/// An edit is made.
+fn check_edited(
+    rt: &(impl Abort + AllocGlobal + Threads + Wait + Sync),
+    session: &mut Session,
+    edit: Edit,
+) -> Result<(), Fail> {
+    same(rt, session.apply(edit), Ok(()));
+    check_anew(rt, session)
+}
+
+/// The last edit is taken back.
+fn check_undone(
+    rt: &(impl Abort + AllocGlobal + Threads + Wait + Sync),
+    session: &mut Session,
+) -> Result<(), Fail> {
+    same(rt, session.undo(), Ok(true));
+    check_anew(rt, session)
+}
+
+/// A tank is filled before nearly all of 2,099 steps, behind which are more sums than are made anew
+/// at a time, and once more in their midst. The first filling is left out, then the last step, and
+/// all of it is taken back. The list has as many whole fours as before, one more and one fewer.
+fn edit_list(
+    rt: &(impl Abort + AllocGlobal + Threads + Wait + Sync),
+    session: &mut Session,
+) -> Result<(), Fail> {
+    let first = Edit::Insert {
+        at: 2,
+        lift: filling(1_000),
+    };
+    let second = Edit::Insert {
+        at: 1_051,
+        lift: filling(3_000),
+    };
+    check_edited(rt, session, first)?;
+    check_edited(rt, session, second)?;
+    check_edited(rt, session, Edit::Remove { at: 2 })?;
+    check_edited(rt, session, Edit::Remove { at: 2_100 })?;
+    check_edited(rt, session, Edit::Remove { at: 2_099 })?;
+    check_undone(rt, session)?;
+    check_undone(rt, session)?;
+    check_undone(rt, session)?;
+    check_undone(rt, session)?;
+    check_undone(rt, session)
+}
+
+#[test]
+fn edited_in_place(rt: HostRuntime) -> Result<(), Fail> {
+    let read = session(rt.alloc(), NO_MOVES)?;
+    let mut list = turns(rt.alloc(), 1_050)?;
+    list.truncate(2_099);
+    let mut long = session_on(rt.alloc(), &read, list)?;
+    edit_list(&rt, &mut long)
+}
