@@ -1,6 +1,6 @@
 //! Files of edits with what they order, line by line, and the lines that are refused.
 use crate::checks::same;
-use edits_file::{EditLine, EditsFault, edits, one_edits_file};
+use edits_file::{EditLine, Edits, EditsFault, one_edits_file};
 use lift_sequence::Op;
 use std::alloc::{AllocError, Global};
 use std::process::Abort;
@@ -82,14 +82,13 @@ fn line_text(alloc: Global, line: &EditLine) -> Result<String, AllocError> {
 /// What a file orders, each line with a semicolon behind it, or the number of the line that is
 /// refused.
 fn answer(alloc: Global, text: &[u8]) -> Result<String, AllocError> {
-    let lines = match edits(alloc, text) {
-        Ok(lines) => lines,
+    let edits = match Edits::read(text) {
+        Ok(edits) => edits,
         Err(EditsFault::Line(number)) => return format!(in alloc; "line {number}"),
-        Err(EditsFault::NoMemory) => return Err(AllocError),
     };
     let mut answer = String::new(alloc);
-    for line in &lines {
-        let one = line_text(alloc, line)?;
+    for line in edits {
+        let one = line_text(alloc, &line)?;
         answer.push_str(one.as_str())?;
         answer.push(';')?;
     }

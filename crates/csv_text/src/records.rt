@@ -2,17 +2,37 @@ ghost use Rattle.std.specs.Prelude.{◌≡◌, ◌<◌, List, length, IfOk, Some
 ghost use Rattle.csv.specs.Records.{fields_of, field_at};
 ghost use Rattle.csv_text.specs.Reading.{Fields, HasLeft, Gave, records_of};
 
-use csv::{ByteRecord, Reader, ReaderBuilder};
+use csv::{ByteRecord, Error, Reader, ReaderBuilder};
 use std::alloc::{AllocError, Global};
 
-/// A reader that has every record of the text yet to give, the heading among them.
-pub fn open_records(alloc: Global, text: &[u8]) -> Reader<&[u8]>
+/// A reader that has every record of the text yet to give.
+fn plain_reader(alloc: Global, text: &[u8]) -> Reader<&[u8]>
     ensures { HasLeft result (records_of text.now) }
 {
     ReaderBuilder::new()
         .has_headers(false)
         .flexible(true)
         .from_reader(alloc, text)
+}
+
+/// The same of a reader that was given a heading without a field. Any other keeps two copies of the
+/// first record that it reads, which of one with millions of fields would take gigabytes.
+fn reader_with_heading(alloc: Global, text: &[u8]) -> Result<Reader<&[u8]>, Error>
+    ensures { IfOk result (λ reader. HasLeft reader (records_of text.now)) }
+{
+    let mut reader = ReaderBuilder::new().flexible(true).from_reader(alloc, text);
+    reader.set_byte_headers(ByteRecord::new(alloc))?;
+    Ok(reader)
+}
+
+/// A reader that has every record of the text yet to give, the heading among them.
+pub fn open_records(alloc: Global, text: &[u8]) -> Reader<&[u8]>
+    ensures { HasLeft result (records_of text.now) }
+{
+    match reader_with_heading(alloc, text) {
+        Ok(reader) => reader,
+        Err(_) => plain_reader(alloc, text),
+    }
 }
 
 /// Reads the next record into `fields`, in place of what stood there; false at the end of the text.

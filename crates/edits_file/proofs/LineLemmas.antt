@@ -1,5 +1,5 @@
 -- The lines of a text and the words of a line, cut off one by one.
-use Rattle.std.proofs.Common.{◌≡◌, ◌∙◌, ℕ, suc, ◌<◌, ◌==◌, false, List, [], ◌∷◌, ◌++◌, ◌≢◌, append_assoc, map, length, length-append, Option, None, Some, MatchOption, unwrap_or, refl, sym, ap, arith, inl, inr, Bool, true, if◌then◌else◌}
+use Rattle.std.proofs.Common.{◌≡◌, ◌∙◌, ℕ, suc, ◌+◌, ◌<◌, ◌≤◌, ◌==◌, false, List, [], ◌∷◌, ◌++◌, ◌≢◌, append_assoc, map, length, length-append, Option, None, Some, MatchOption, unwrap_or, refl, sym, ap, arith, inl, inr, Bool, true, if◌then◌else◌}
 use Rattle.std.specs.List.{All, onto_first}
 use Rattle.std.specs.Borrow.{Bor}
 use Rattle.std.proofs.lemmas.List.{length-map, map-append}
@@ -46,6 +46,17 @@ line_cut text line None none e some h all =
     let long : 0 < length line = rw (← all) some in
     rw (all, e) (lines_last line h long)
 line_cut text line (Some rest) none e some h cut = ap lines_in cut ∙ lines_at line rest.now h
+
+-- the same by what is then left
+pub line_behind : (text line : List ℕ) (behind : Option (Bor (List ℕ))) (none after : Bor (List ℕ)) → after ≡ unwrap_or behind none → none.now ≡ [] → 0 < length text
+    → All (λ c. (c == 10) ≡ false) line → MatchOption behind (text ≡ line) (λ rest. text ≡ line ++ 10 ∷ rest.now) → lines_in text ≡ line ∷ lines_in after.now
+line_behind text line behind none after is e some h cut = line_cut text line behind none e some h cut ∙ ap (λ (b : Bor (List ℕ)). line ∷ lines_in b.now) (sym is)
+
+-- what stands behind it is shorter
+pub cut_shorter : (text line : List ℕ) (behind : Option (Bor (List ℕ))) (none after : Bor (List ℕ)) → after ≡ unwrap_or behind none → none.now ≡ [] → 0 < length text
+    → MatchOption behind (text ≡ line) (λ rest. text ≡ line ++ 10 ∷ rest.now) → length after.now + 1 ≤ length text
+cut_shorter text line None none after is e some all = omega (arith, some, ap length e, ap (λ (b : Bor (List ℕ)). length b.now) is)
+cut_shorter text line (Some rest) none after is e some cut = omega (arith, ap length cut, length-append line (10 ∷ rest.now), ap (λ (b : Bor (List ℕ)). length b.now) is)
 
 -- the words so far, and one more that ends at a space, or the last one
 module _ {B : Type 0} (now : B → List ℕ) (words : List B) (line text : List ℕ) (h : map now words ++ words_in text ≡ words_in line) where

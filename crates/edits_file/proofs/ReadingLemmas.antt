@@ -1,6 +1,6 @@
 -- The result of reading the lines of an edits file: their orders, or the first line that is of no
 -- form.
-use Rattle.std.proofs.Common.{◌≡◌, ◌∙◌, ◌⊎◌, inl, inr, ℕ, ◌+◌, ◌==◌, true, List, [], ◌∷◌, ◌++◌, append_assoc, append-nil, map, length, length-append, Option, Some, None, Result, Ok, Err, refl, ap, sym, arith}
+use Rattle.std.proofs.Common.{◌≡◌, ◌∙◌, ◌⊎◌, inl, inr, ℕ, ◌+◌, ◌≤◌, ◌==◌, true, List, [], ◌∷◌, ◌++◌, append_assoc, append-nil, map, length, length-append, Option, Some, None, Result, Ok, Err, refl, ap, sym, arith}
 use Rattle.std.proofs.lemmas.Bool.{eqb-true}
 use Rattle.std.proofs.lemmas.List.{length-map}
 use Rattle.edits_file.specs.declared.files.EditsFault.{EditsFault}
@@ -8,7 +8,7 @@ use Rattle.edits_file.specs.declared.files.EditsFault.TheVariants.{Line}
 use Rattle.edits_file.specs.declared.forms.EditLine.{EditLine}
 use Rattle.edits_file.specs.Faults.{AreEdits, IsRefusal}
 use Rattle.edits_file.specs.Forms.{line_in}
-use Rattle.edits_file.specs.Reading.{edits_from, edits_of}
+use Rattle.edits_file.specs.Reading.{edits_from, edits_left, edits_of}
 use Rattle.edits_file.specs.Words.{lines_in}
 
 -- nothing is left
@@ -124,3 +124,35 @@ pub as_many_edits : (text : List ℕ) (edits : List EditLine) → edits_of text 
 as_many_edits text edits h =
     let all = ap length (are_edits text edits h) in
     sym (length-map edits Some) ∙ (sym all ∙ length-map (lines_in text) line_in)
+
+-- some lines of a text were looked at, all of them of a form; this is left of it
+pub record AreLookedAt (text rest : List ℕ) (count : ℕ) : Type 0 where
+  pub before : List EditLine
+  pub number : length before ≡ count
+  pub are : edits_from before (lines_in rest) ≡ edits_of text
+  pub few : count + length rest ≤ length text
+
+-- the first order that is left of a text, and those behind it
+first_of : (edits : List EditLine) (line : List ℕ) (more : List (List ℕ)) (edit : EditLine) → map line_in (line ∷ more) ≡ map Some edits → line_in line ≡ Some edit
+    → (rest : List EditLine) × (edits ≡ edit ∷ rest) × (map line_in more ≡ map Some rest)
+first_of [] line more edit h here = cc h
+first_of (e ∷ es) line more edit h here =
+    let same : e ≡ edit = cc in
+    let behind : map line_in more ≡ map Some es = cc in
+    (es, ap (λ x. x ∷ es) same, behind)
+
+pub first_left : (text line more : List ℕ) (edit : EditLine) (edits : List EditLine) → edits_of text ≡ Ok edits → lines_in text ≡ line ∷ lines_in more → line_in line ≡ Some edit
+    → (edits ≡ edit ∷ edits_left (edits_of more)) × (edits_of more ≡ Ok (edits_left (edits_of more)))
+first_left text line more edit edits read lines here =
+    let all = first_of edits line (lines_in more) edit (sym (ap (map line_in) lines) ∙ are_edits text edits read) here in
+    let behind : edits_of more ≡ Ok all.0 = edits_sound more all.0 all.2 in
+    let is : edits_left (edits_of more) ≡ all.0 = ap edits_left behind in
+    (all.1 ∙ ap (λ l. edit ∷ l) (sym is), behind ∙ ap (λ l. Ok l) (sym is))
+
+-- each line of such a text is of a form
+pub has_form : (text line : List ℕ) (more : List (List ℕ)) (edits : List EditLine) → edits_of text ≡ Ok edits → lines_in text ≡ line ∷ more → line_in line ≡ None → ⊥
+has_form text line more edits read lines none = absent edits (sym (ap (map line_in) lines) ∙ are_edits text edits read)
+  where
+    absent : (orders : List EditLine) → map line_in (line ∷ more) ≡ map Some orders → ⊥
+    absent [] h = cc h
+    absent (e ∷ es) h = let there : line_in line ≡ Some e = cc in cc

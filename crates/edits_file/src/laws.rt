@@ -8,8 +8,8 @@ ghost use Rattle.edits_file.specs.Words.{lines_in, words_in};
 
 /// A text is its lines, each with LF behind it but for the last, and a line is its words, with a
 /// space between two of them. A text is an edits file with its orders, one for each line, or it has
-/// a first line that is of no form, and never both (`specs/Faults.antt`). [`edits`](crate::edits)
-/// answers what is defined here.
+/// a first line that is of no form, and never both (`specs/Faults.antt`).
+/// [`Edits::read`](crate::Edits::read) answers what is defined here.
 pub fn one_edits_file()
     ensures lines { (text : List ℕ) → AreLines text (lines_in text) }
     ensures words { (line : List ℕ) → join_with_byte 32 (words_in line) ≡ line }

@@ -8,8 +8,8 @@
 //! 999,999 kg. A cell has six or seven digits. An identification has 1 to 17 bytes, and `-` stands
 //! for an empty one; the name of a tank has 1 to 16.
 //!
-//! [`edits`] reads the whole file, or names its first line that is of none of these forms; [`line`]
-//! reads one line by itself.
+//! [`Edits::read`] looks at the whole file, or names its first line that is of none of these forms.
+//! [`Edits`] then iterates over what the lines order; [`line`] reads one line by itself.
 #![tactic(auto)]
 
 mod files;
@@ -17,7 +17,7 @@ mod forms;
 mod laws;
 mod words;
 
-pub use files::{EditsFault, edits};
+pub use files::{Edits, EditsFault};
 pub use forms::{EditLine, line};
 pub use laws::one_edits_file;
 pub use words::cut;

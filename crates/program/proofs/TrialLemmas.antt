@@ -51,15 +51,8 @@ module _ (inputs : Inputs) (edits : List ℕ) where
 
   -- edits of which a line is of no form, where the inputs have a report
   pub of_edits : (outcome : Outcome) → outcome_of inputs ≡ Ok outcome → (fault : EditsFault) (stop : Stop) → stop ≡ stop_of_edits fault
-      → (fault ≢ file.NoMemory → edits_of edits ≡ Err fault) → IsStopOn WhatIf inputs edits false stop
-  of_edits outcome has fault stop is refused = subst (IsStopOn WhatIf inputs edits false) (sym is) (by fault refused) where
-    is_full : EditsFault → Bool
-    is_full (file.Line number) = false
-    is_full file.NoMemory = true
-
-    by : (fault : EditsFault) → (fault ≢ file.NoMemory → edits_of edits ≡ Err fault) → IsStopOn WhatIf inputs edits false (stop_of_edits fault)
-    by (file.Line number) refused = (refl, (outcome, has), refused (λ full. true≢false (sym (ap is_full full))))
-    by file.NoMemory refused = tt
+      → edits_of edits ≡ Err fault → IsStopOn WhatIf inputs edits false stop
+  of_edits outcome has (file.Line number) stop is refused = subst (IsStopOn WhatIf inputs edits false) (sym is) (refl, (outcome, has), refused)
 
   -- lines that were tried in a session that nothing was tried in before
   pub tried_in : (before after : SessionRecord) (lines : List EditLine) (answers : List ℕ) → AreTold inputs before.base before.ops → before.past ≡ [] → edits_of edits ≡ Ok lines

@@ -1,4 +1,5 @@
-ghost use Rattle.std.specs.Prelude.{◌≡◌, ◌≢◌, ◌++◌, false, IfOk, IfErr, OnOk, string_bytes};
+ghost use Rattle.std.specs.Prelude.{◌≡◌, ◌≢◌, ◌<◌, ◌^◌, ◌++◌, false, length, IfOk, IfErr, OnOk};
+ghost use Rattle.std.specs.Prelude.{string_bytes};
 ghost use Rattle.edits_file.specs.declared.forms.EditLine.TheVariants.{Edit as EditOf};
 ghost use Rattle.edits_file.specs.declared.forms.EditLine.TheVariants.{Undo as UndoOf};
 ghost use Rattle.program.specs.Runs.{AreTriedIn, IsStopOn};
@@ -6,7 +7,7 @@ ghost use Rattle.program.specs.Trials.{after_all, after_line, answer_line, answe
 ghost use Rattle.program.specs.Trials.{lists_of};
 
 use command_line::Task;
-use edits_file::{EditLine, edits};
+use edits_file::{EditLine, Edits};
 use run_files::Stop;
 use seq_report::Inputs;
 use std::alloc::{AllocError, Global};
@@ -111,17 +112,18 @@ fn add_answer(text: &mut String, number: usize, answer: Answer) -> Result<(), Al
 /// Tries the lines of an edits file in a session, one after another, and says what became of each:
 /// a line `EDIT`, its number, and `OK`, `NONE` where there was nothing to take back, or why it is
 /// refused.
-fn try_all(alloc: Global, session: &mut Session, lines: Vec<EditLine>) -> Result<String, Stop>
+fn try_all(alloc: Global, session: &mut Session, edits: Edits<'_>) -> Result<String, Stop>
+    requires few { length edits < 2 ^ 64 }
     ensures base { session.new.base ≡ session.old.base }
     ensures answers { IfOk result (λ text. string_bytes text
-        ≡ answer_lines session.old.base (lists_of session.old) 1 lines.items) }
+        ≡ answer_lines session.old.base (lists_of session.old) 1 edits.entry) }
     ensures lists { OnOk result (lists_of session.new
-        ≡ after_all session.old.base (lists_of session.old) lines.items) }
+        ≡ after_all session.old.base (lists_of session.old) edits.entry) }
     ensures memory { IfErr result (λ e. e ≡ Stop.NoMemory) }
 {
     let mut text = String::new(alloc);
     let mut number = 0usize;
-    for line in lines {
+    for line in edits {
         number += 1;
         let answer = try_line(session, line)?;
         add_answer(&mut text, number, answer)?;
@@ -149,10 +151,10 @@ pub fn try_edits(alloc: Global, inputs: &Inputs<'_>, file: &[u8]) -> Result<Tria
         Ok(session) => session,
         Err(fault) => return Err(Stop::from(fault)),
     };
-    let lines = match edits(alloc, file) {
-        Ok(lines) => lines,
+    let edits = match Edits::read(file) {
+        Ok(edits) => edits,
         Err(fault) => return Err(Stop::from(fault)),
     };
-    let answers = try_all(alloc, &mut session, lines)?;
+    let answers = try_all(alloc, &mut session, edits)?;
     Ok(Trial { session, answers })
 }

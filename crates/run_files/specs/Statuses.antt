@@ -56,7 +56,6 @@ stop_of_line line.NoMemory = NoMemory
 
 abbrev pub stop_of_edits : EditsFault → Stop
 stop_of_edits (file.Line number) = Edits number
-stop_of_edits file.NoMemory = NoMemory
 
 abbrev pub stop_of_run : RunFault → Stop
 stop_of_run run.NoMemory = NoMemory

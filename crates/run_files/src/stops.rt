@@ -107,7 +107,6 @@ impl From<EditsFault> for Stop {
     fn from(fault: EditsFault) -> Stop {
         match fault {
             EditsFault::Line(line) => Stop::Edits(line),
-            EditsFault::NoMemory => Stop::NoMemory,
         }
     }
 }

@@ -1,7 +1,7 @@
 use Rattle.std.proofs.Common.{◌∙◌, inr}
 use Rattle.csv.specs.Reading.{default_config, strip_bom}
 use Rattle.csv_text.proofs.ReadingLemmas.{all_records}
-use Rattle.csv_text.proofs.records.open_records.Goals as goal
+use Rattle.csv_text.proofs.records.plain_reader.Goals as goal
 
 -- each setting of the builder is the reader's, and the records are those of the text
 pub returns : goal.returns
