@@ -80,7 +80,9 @@ fn changes(frames: &Frames, body: &Body) -> bool {
     }
     let taken = sum.kg() == -20_500;
     sum.add_step(&step, frames);
-    taken && sum.kg() == 0 && sum.is_bounded()
+    let none = sum.kg() == 0 && sum.is_bounded();
+    sum.set_step(&step, frames);
+    taken && none && sum.kg() == 20_500
 }
 
 /// How the ship floats with the sum aboard.

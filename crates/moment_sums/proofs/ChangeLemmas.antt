@@ -1,6 +1,7 @@
 -- What a body changes of a sum.
 use Rattle.std.proofs.Common.{◌≡◌, ◌≢◌, ◌∙◌, ℕ, ◌+◌, ◌*◌, ◌^◌, ◌<◌, ◌≤◌, List, [], ◌∷◌, length, map, set, get_or-set_other, below_more, slice_get, Option, None, Some, ℤ, pos, ◌+ℤ◌, ◌*ℤ◌, neg_ℤ, Bool, true, false, unsigned_abs, refl, sym, ap, arith, to_z, of_z, to_z-of_z, FitsSigned, lt_of_not-le}
 use Rattle.std.specs.Int.{w64, w128}
+use Rattle.std.proofs.lemmas.Int.{fits_signed_from_abs}
 use Rattle.std.proofs.lemmas.Option.{slice_get_past}
 use mathlib.Core.Logic.{dite}
 use native.Mathlib.Decide.{dec_le}
@@ -29,6 +30,14 @@ IsStored t = IsKept t.kg t.x t.y t.z t.fsm t.weights_aft t.moments_aft t.parts
 pub change_read : (taken : Bool) (number part r n s : ℤ) → FitsSigned w128 number → FitsSigned w64 part → FitsSigned w128 r → r ≡ to_z w128 (of_z w128 number) +ℤ signed taken (to_z w64 (of_z w64 part))
     → number ≡ n → part ≡ s → to_z w128 (of_z w128 r) ≡ n +ℤ signed taken s
 change_read taken number part r n s f g h e is of = to_z-of_z h ∙ e ∙ (λ i. (to_z-of_z f ∙ is) i +ℤ signed taken ((to_z-of_z g ∙ of) i))
+
+pub mass_fits : (z : ℤ) (m : ℕ) → unsigned_abs z ≤ m → m < 2 ^ 63 → FitsSigned w64 z
+mass_fits z m h k = fits_signed_from_abs w64 z (omega arith)
+
+-- the same of a mass
+pub mass_read : (taken : Bool) (number part r n s : ℤ) → FitsSigned w64 number → FitsSigned w64 part → FitsSigned w64 r → r ≡ to_z w64 (of_z w64 number) +ℤ signed taken (to_z w64 (of_z w64 part))
+    → number ≡ n → part ≡ s → to_z w64 (of_z w64 r) ≡ n +ℤ signed taken s
+mass_read taken number part r n s f g h e is of = to_z-of_z h ∙ e ∙ (λ i. (to_z-of_z f ∙ is) i +ℤ signed taken ((to_z-of_z g ∙ of) i))
 
 pub nothing_changed : (taken : Bool) → signed taken (pos 0) ≡ pos 0
 nothing_changed true = refl

@@ -4,7 +4,7 @@ ghost use Rattle.units_core.specs.Interpolation.{IsWithin};
 ghost use Rattle.moment_sums.specs.Changes.{AreShared, signed};
 ghost use Rattle.moment_sums.specs.Shares.{moment_aft, weight_aft};
 
-use crate::shares::{Share, share_at};
+use crate::shares::share_at;
 use units_core::{Body, Frames, Mm};
 
 /// A number with what is put in or taken out.
@@ -18,6 +18,19 @@ pub fn add_or_take(number: i128, part: i64, taken: bool) -> i128
         return number + i128::from(-part);
     }
     number + i128::from(part)
+}
+
+/// A mass in kg with what is put in or taken out.
+#[inline(always)]
+fn add_or_take_mass(mass: i64, part: i64, taken: bool) -> i64
+    requires mass { unsigned_abs mass ≤ 10 ^ 18 }
+    requires part { unsigned_abs part ≤ 10 ^ 9 }
+    ensures { result ≡ mass +ℤ signed taken part }
+{
+    if taken {
+        return mass - part;
+    }
+    mass + part
 }
 
 /// The moment of a body at the end of an arm, in kg mm.
@@ -38,26 +51,17 @@ pub fn surface_of(body: &Body) -> i64
     body.fsm()
 }
 
-/// Whether nothing of a body lies aft of a frame.
-#[inline(always)]
-fn is_nothing(share: &Share) -> bool
-    ensures weight { result ≡ true → share.now.weight ≡ pos 0 }
-    ensures moment { result ≡ true → share.now.moment ≡ pos 0 }
-{
-    share.weight == 0 && share.moment == 0
-}
-
 /// Changes the masses aft of the frames and the moments of these by a body that is put in or taken
 /// out, in one pass over the frames.
 #[inline(always)]
 pub fn change_shares(
-    weights: &mut [i128; 16],
+    weights: &mut [i64; 16],
     moments: &mut [i128; 16],
     body: &Body,
     frames: &Frames,
     taken: bool,
 )
-    requires weights_near { IsWithin (10 ^ 29) weights.old }
+    requires weights_near { IsWithin (10 ^ 17) weights.old }
     requires moments_near { IsWithin (10 ^ 29) moments.old }
     ensures weights { AreShared weight_aft (10 ^ 9) taken frames.now body.now
         weights.old weights.new }
@@ -69,11 +73,10 @@ pub fn change_shares(
     let body = *body;
     let list = frames.as_slice();
     for i in 0..list.len() {
-        let share = share_at(&body, list[i].x);
-        if is_nothing(&share) {
+        let Some(share) = share_at(&body, list[i].x) else {
             continue;
-        }
-        weights[i] = add_or_take(weights[i], share.weight, taken);
+        };
+        weights[i] = add_or_take_mass(weights[i], share.weight, taken);
         moments[i] = add_or_take(moments[i], share.moment, taken);
     }
 }

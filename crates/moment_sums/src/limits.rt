@@ -53,3 +53,10 @@ pub fn are_shares(most: i128, shares: &[i128; 16]) -> bool
 {
     shares.iter().all(|share| is_share(most, *share))
 }
+
+/// Whether each of the masses lies between 0 and a whole, in kg.
+pub fn are_parts(whole: i128, masses: &[i64; 16]) -> bool
+    ensures { result ≡ list_all (is_share whole) masses.now }
+{
+    masses.iter().all(|mass| is_share(whole, i128::from(*mass)))
+}

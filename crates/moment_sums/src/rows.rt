@@ -43,3 +43,28 @@ pub fn negate_all(numbers: &[i128; 16]) -> [i128; 16]
     }
     negated
 }
+
+/// The sums of the masses at each place, in kg.
+pub fn add_masses(one: &[i64; 16], other: &[i64; 16]) -> [i64; 16]
+    requires one { IsWithin (10 ^ 18) one.now }
+    requires other { IsWithin (10 ^ 18) other.now }
+    ensures { result ≡ added one.now other.now }
+{
+    let mut sums = [0; 16];
+    for i in 0..16 {
+        sums[i] = one[i] + other[i];
+    }
+    sums
+}
+
+/// The masses at each place with the other sign.
+pub fn negate_masses(masses: &[i64; 16]) -> [i64; 16]
+    requires { IsWithin (10 ^ 18) masses.now }
+    ensures { (i : ℕ) → at result i ≡ neg_ℤ (at masses.now i) }
+{
+    let mut negated = [0; 16];
+    for i in 0..16 {
+        negated[i] = -masses[i];
+    }
+    negated
+}

@@ -1,5 +1,5 @@
 ghost use Rattle.std.specs.Prelude.{◌≡◌, ◌*◌, ◌^◌, ◌≤◌, pos, ◌+ℤ◌, ◌-ℤ◌, ◌*ℤ◌, ◌≤ℤ◌, int_le};
-ghost use Rattle.std.specs.Prelude.{unsigned_abs};
+ghost use Rattle.std.specs.Prelude.{IfNone, IfSome, unsigned_abs};
 ghost use Rattle.units_core.specs.Ratio.{◌over◌, floor_of};
 ghost use Rattle.moment_sums.specs.Shares.{moment_aft, weight_aft};
 
@@ -146,34 +146,33 @@ fn part_share(kg: i64, reach: i64, half: i64) -> Share
     }
 }
 
-/// What a body has aft of a frame, rounded down. Nearly all frames have all of a body before or aft
-/// of them, which takes no division.
+/// What a body has aft of a frame, rounded down; `None` where nothing of it lies there. Nearly all
+/// frames have all of a body before or aft of them, which takes no division.
 #[inline(always)]
-pub fn share_at(body: &Body, frame: Mm) -> Share
-    ensures weight { result.weight ≡ weight_aft frame body.now }
-    ensures moment { result.moment ≡ moment_aft frame body.now }
-    ensures weight_low { pos 0 ≤ℤ result.weight }
-    ensures weight_high { result.weight ≤ℤ pos body.now.kg }
-    ensures weight_within { unsigned_abs result.weight ≤ 10 ^ 9 }
-    ensures moment_within { unsigned_abs result.moment ≤ 2 * 10 ^ 15 }
+pub fn share_at(body: &Body, frame: Mm) -> Option<Share>
+    ensures weight { IfSome result (λ share. share.weight ≡ weight_aft frame body.now) }
+    ensures moment { IfSome result (λ share. share.moment ≡ moment_aft frame body.now) }
+    ensures weight_low { IfSome result (λ share. pos 0 ≤ℤ share.weight) }
+    ensures weight_high { IfSome result (λ share. share.weight ≤ℤ pos body.now.kg) }
+    ensures weight_within { IfSome result (λ share. unsigned_abs share.weight ≤ 10 ^ 9) }
+    ensures moment_within { IfSome result (λ share. unsigned_abs share.moment ≤ 2 * 10 ^ 15) }
+    ensures no_weight { IfNone result (weight_aft frame body.now ≡ pos 0) }
+    ensures no_moment { IfNone result (moment_aft frame body.now ≡ pos 0) }
 {
     let f = mm(frame);
     let x = mm(body.place().x);
     let half = mm(body.place().half);
     if is_before(f, x, half) {
-        return Share {
-            weight: 0,
-            moment: 0,
-        };
+        return None;
     }
     let kg = kg(body);
     if is_behind(f, x, half) {
-        return Share {
+        return Some(Share {
             weight: kg,
             moment: whole_moment(kg, f, x),
-        };
+        });
     }
-    part_share(kg, apart(f, x, half), half)
+    Some(part_share(kg, apart(f, x, half), half))
 }
 
 /// The mass of a body that lies aft of a frame, rounded down.
@@ -183,7 +182,10 @@ pub fn weight_aft(body: &Body, frame: Mm) -> i128
     ensures high { result ≤ℤ pos body.now.kg }
     ensures within { unsigned_abs result ≤ 10 ^ 9 }
 {
-    i128::from(share_at(body, frame).weight)
+    match share_at(body, frame) {
+        Some(share) => i128::from(share.weight),
+        None => 0,
+    }
 }
 
 /// The moment about a frame of the mass that lies aft of it, rounded down.
@@ -191,5 +193,8 @@ pub fn moment_aft(body: &Body, frame: Mm) -> i128
     ensures value { result ≡ moment_aft frame body.now }
     ensures within { unsigned_abs result ≤ 2 * 10 ^ 15 }
 {
-    i128::from(share_at(body, frame).moment)
+    match share_at(body, frame) {
+        Some(share) => i128::from(share.moment),
+        None => 0,
+    }
 }

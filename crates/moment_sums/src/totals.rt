@@ -9,8 +9,8 @@ ghost use Rattle.moment_sums.specs.Kept.{bodies_of, both_kept, is_bounded, kept_
 ghost use Rattle.moment_sums.specs.Kept.{values};
 
 use crate::changes::{add_or_take, change_shares, moment_of, surface_of};
-use crate::limits::{are_centres, are_shares, both, is_share, times};
-use crate::rows::{add, negate, negate_all, plus};
+use crate::limits::{are_centres, are_parts, are_shares, both, is_share, times};
+use crate::rows::{add, add_masses, negate, negate_all, negate_masses, plus};
 use crate::shares::kg;
 use prefix_scan::Monoid;
 use std::marker::Model;
@@ -24,7 +24,8 @@ pub struct Totals {
     y: i128,
     z: i128,
     fsm: i128,
-    weights_aft: [i128; 16],
+    /// In 64 bits, which hold the mass of as many bodies as there can be: so a sum is shorter.
+    weights_aft: [i64; 16],
     moments_aft: [i128; 16],
     parts: u32,
 }
@@ -109,7 +110,7 @@ impl Totals {
         requires { frame < 16 }
         ensures { result ≡ values self.now (WeightAft frame) }
     {
-        self.weights_aft[frame]
+        i128::from(self.weights_aft[frame])
     }
 
     /// The moment about a frame of the mass aft of it, in kg mm.
@@ -132,7 +133,7 @@ impl Totals {
             y: negate(self.y),
             z: negate(self.z),
             fsm: negate(self.fsm),
-            weights_aft: negate_all(&self.weights_aft),
+            weights_aft: negate_masses(&self.weights_aft),
             moments_aft: negate_all(&self.moments_aft),
             parts: self.parts,
         }
@@ -238,6 +239,16 @@ impl Totals {
         sum.change_by(step, frames);
         sum
     }
+
+    /// Makes this what a step changes, as [`Totals::of_step`] gives it, but in place: a sum that is
+    /// returned is copied.
+    pub fn set_step(&mut self, step: &Step, frames: &Frames)
+        ensures kept { self.new ≡ kept_of (changed_by frames.now step.now) (bodies_of step.now) }
+        ensures size { size_of self.new ≤ 2 }
+    {
+        *self = Totals::unit();
+        self.change_by(step, frames);
+    }
 }
 
 impl Totals {
@@ -250,7 +261,7 @@ impl Totals {
     {
         let centres = are_centres(times(1_000_000, self.kg), self.x, self.y, self.z);
         let surface = is_share(200_000_000_000_000, self.fsm);
-        let weights = are_shares(self.kg, &self.weights_aft);
+        let weights = are_parts(self.kg, &self.weights_aft);
         let moments = are_shares(times(2_000_000, self.kg), &self.moments_aft);
         both(
             both(0 <= self.kg, both(centres, surface)),
@@ -295,7 +306,7 @@ impl Monoid for Totals {
             y: plus(self.y, right.y),
             z: plus(self.z, right.z),
             fsm: plus(self.fsm, right.fsm),
-            weights_aft: add(&self.weights_aft, &right.weights_aft),
+            weights_aft: add_masses(&self.weights_aft, &right.weights_aft),
             moments_aft: add(&self.moments_aft, &right.moments_aft),
             parts: self.parts + right.parts,
         }

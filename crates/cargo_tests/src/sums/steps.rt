@@ -71,15 +71,18 @@ impl<R: Abort + AllocGlobal> Check<R> for Steps {
         let nothing = join(&load, &discharge)?;
         same(rt, values(&nothing).as_slice(), [0; 11].as_slice());
         same(rt, nothing.size(), 2);
-        let exchange = Totals::of_step(
-            &Step {
-                out: container,
-                put,
-            },
-            frames,
-        );
+        let step = Step {
+            out: container,
+            put,
+        };
+        let exchange = Totals::of_step(&step, frames);
         same(rt, values(&exchange).as_slice(), EXCHANGED.as_slice());
         same(rt, exchange.size(), 2);
+        // In the place of another sum, of which nothing is left.
+        let mut other = discharge;
+        other.set_step(&step, frames);
+        same(rt, values(&other).as_slice(), EXCHANGED.as_slice());
+        same(rt, other.size(), 2);
         Ok(())
     }
 }

@@ -16,10 +16,10 @@ invariant_of-result c =
     let f5 : FitsSigned w128 c.self.inside.fsm = search rules in let h5 : FitsSigned w128 c.negate-5.result = search rules in
     kept_negated
     (record { kg = a.kg; x = a.x; y = a.y; z = a.z; fsm = a.fsm; weights_aft = a.weights_aft; moments_aft = a.moments_aft; parts = a.parts })
-    (record { kg = to_z w128 (of_z w128 c.negate.result); x = to_z w128 (of_z w128 c.negate-2.result); y = to_z w128 (of_z w128 c.negate-3.result); z = to_z w128 (of_z w128 c.negate-4.result); fsm = to_z w128 (of_z w128 c.negate-5.result); weights_aft = c.negate_all.result; moments_aft = c.negate_all-2.result; parts = a.parts })
+    (record { kg = to_z w128 (of_z w128 c.negate.result); x = to_z w128 (of_z w128 c.negate-2.result); y = to_z w128 (of_z w128 c.negate-3.result); z = to_z w128 (of_z w128 c.negate-4.result); fsm = to_z w128 (of_z w128 c.negate-5.result); weights_aft = c.negate_masses.result; moments_aft = c.negate_all.result; parts = a.parts })
     c.self.invariant refl
     (negated_read _ _ f1 h1 c.negate.ensures) (negated_read _ _ f2 h2 c.negate-2.ensures) (negated_read _ _ f3 h3 c.negate-3.ensures) (negated_read _ _ f4 h4 c.negate-4.ensures) (negated_read _ _ f5 h5 c.negate-5.ensures)
-    c.negate_all.ensures c.negate_all-2.ensures (search rules) (search rules)
+    c.negate_masses.ensures c.negate_all.ensures (search rules) (search rules)
 
 pub returns-clause-values : goal.returns-clause-values
 returns-clause-values c =
@@ -31,14 +31,14 @@ returns-clause-values c =
     let f5 : FitsSigned w128 c.self.inside.fsm = search rules in let h5 : FitsSigned w128 c.negate-5.result = search rules in
     values_negated
     (record { kg = a.kg; x = a.x; y = a.y; z = a.z; fsm = a.fsm; weights_aft = a.weights_aft; moments_aft = a.moments_aft; parts = a.parts })
-    (record { kg = to_z w128 (of_z w128 c.negate.result); x = to_z w128 (of_z w128 c.negate-2.result); y = to_z w128 (of_z w128 c.negate-3.result); z = to_z w128 (of_z w128 c.negate-4.result); fsm = to_z w128 (of_z w128 c.negate-5.result); weights_aft = c.negate_all.result; moments_aft = c.negate_all-2.result; parts = a.parts })
+    (record { kg = to_z w128 (of_z w128 c.negate.result); x = to_z w128 (of_z w128 c.negate-2.result); y = to_z w128 (of_z w128 c.negate-3.result); z = to_z w128 (of_z w128 c.negate-4.result); fsm = to_z w128 (of_z w128 c.negate-5.result); weights_aft = c.negate_masses.result; moments_aft = c.negate_all.result; parts = a.parts })
     (negated_read _ _ f1 h1 c.negate.ensures) (negated_read _ _ f2 h2 c.negate-2.ensures) (negated_read _ _ f3 h3 c.negate-3.ensures) (negated_read _ _ f4 h4 c.negate-4.ensures) (negated_read _ _ f5 h5 c.negate-5.ensures)
-    c.negate_all.ensures c.negate_all-2.ensures
+    c.negate_masses.ensures c.negate_all.ensures
     ∙ ap (λ (t : Kept). negated (values t)) c.self.view_is
 
 pub returns-clause-size : goal.returns-clause-size
 returns-clause-size c =
     let a = c.self.inside in
-    let result : Kept = record { kg = to_z w128 (of_z w128 c.negate.result); x = to_z w128 (of_z w128 c.negate-2.result); y = to_z w128 (of_z w128 c.negate-3.result); z = to_z w128 (of_z w128 c.negate-4.result); fsm = to_z w128 (of_z w128 c.negate-5.result); weights_aft = c.negate_all.result; moments_aft = c.negate_all-2.result; parts = a.parts } in
+    let result : Kept = record { kg = to_z w128 (of_z w128 c.negate.result); x = to_z w128 (of_z w128 c.negate-2.result); y = to_z w128 (of_z w128 c.negate-3.result); z = to_z w128 (of_z w128 c.negate-4.result); fsm = to_z w128 (of_z w128 c.negate-5.result); weights_aft = c.negate_masses.result; moments_aft = c.negate_all.result; parts = a.parts } in
     let own : Kept = record { kg = a.kg; x = a.x; y = a.y; z = a.z; fsm = a.fsm; weights_aft = a.weights_aft; moments_aft = a.moments_aft; parts = a.parts } in
     with_places result (search rules) (search rules) ∙ sym (with_places own c.self.invariant.weights_places c.self.invariant.moments_places) ∙ ap size_of c.self.view_is

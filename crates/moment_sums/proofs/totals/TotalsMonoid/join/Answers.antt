@@ -16,15 +16,15 @@ invariant_of-result c =
     let f5 : FitsSigned w128 c.self.inside.fsm = search rules in let g5 : FitsSigned w128 c.right.inside.fsm = search rules in let h5 : FitsSigned w128 c.plus-5.result = search rules in
     let left : Kept = record { kg = a.kg; x = a.x; y = a.y; z = a.z; fsm = a.fsm; weights_aft = a.weights_aft; moments_aft = a.moments_aft; parts = a.parts } in
     let right : Kept = record { kg = b.kg; x = b.x; y = b.y; z = b.z; fsm = b.fsm; weights_aft = b.weights_aft; moments_aft = b.moments_aft; parts = b.parts } in
-    let sum : Kept = record { kg = to_z w128 (of_z w128 c.plus.result); x = to_z w128 (of_z w128 c.plus-2.result); y = to_z w128 (of_z w128 c.plus-3.result); z = to_z w128 (of_z w128 c.plus-4.result); fsm = to_z w128 (of_z w128 c.plus-5.result); weights_aft = c.add.result; moments_aft = c.add-2.result; parts = a.parts + b.parts } in
+    let sum : Kept = record { kg = to_z w128 (of_z w128 c.plus.result); x = to_z w128 (of_z w128 c.plus-2.result); y = to_z w128 (of_z w128 c.plus-3.result); z = to_z w128 (of_z w128 c.plus-4.result); fsm = to_z w128 (of_z w128 c.plus-5.result); weights_aft = c.add_masses.result; moments_aft = c.add.result; parts = a.parts + b.parts } in
     let is : sum ≡ both_kept left right = λ i. record {
       kg = sum_read _ _ _ f1 g1 h1 c.plus.ensures i;
       x = sum_read _ _ _ f2 g2 h2 c.plus-2.ensures i;
       y = sum_read _ _ _ f3 g3 h3 c.plus-3.ensures i;
       z = sum_read _ _ _ f4 g4 h4 c.plus-4.ensures i;
       fsm = sum_read _ _ _ f5 g5 h5 c.plus-5.ensures i;
-      weights_aft = c.add.ensures i;
-      moments_aft = c.add-2.ensures i;
+      weights_aft = c.add_masses.ensures i;
+      moments_aft = c.add.ensures i;
       parts = a.parts + b.parts;
     } in
     let wa = with_places left c.self.invariant.weights_places c.self.invariant.moments_places in
@@ -44,15 +44,15 @@ returns c =
     let f5 : FitsSigned w128 c.self.inside.fsm = search rules in let g5 : FitsSigned w128 c.right.inside.fsm = search rules in let h5 : FitsSigned w128 c.plus-5.result = search rules in
     let left : Kept = record { kg = a.kg; x = a.x; y = a.y; z = a.z; fsm = a.fsm; weights_aft = a.weights_aft; moments_aft = a.moments_aft; parts = a.parts } in
     let right : Kept = record { kg = b.kg; x = b.x; y = b.y; z = b.z; fsm = b.fsm; weights_aft = b.weights_aft; moments_aft = b.moments_aft; parts = b.parts } in
-    let sum : Kept = record { kg = to_z w128 (of_z w128 c.plus.result); x = to_z w128 (of_z w128 c.plus-2.result); y = to_z w128 (of_z w128 c.plus-3.result); z = to_z w128 (of_z w128 c.plus-4.result); fsm = to_z w128 (of_z w128 c.plus-5.result); weights_aft = c.add.result; moments_aft = c.add-2.result; parts = a.parts + b.parts } in
+    let sum : Kept = record { kg = to_z w128 (of_z w128 c.plus.result); x = to_z w128 (of_z w128 c.plus-2.result); y = to_z w128 (of_z w128 c.plus-3.result); z = to_z w128 (of_z w128 c.plus-4.result); fsm = to_z w128 (of_z w128 c.plus-5.result); weights_aft = c.add_masses.result; moments_aft = c.add.result; parts = a.parts + b.parts } in
     let is : sum ≡ both_kept left right = λ i. record {
       kg = sum_read _ _ _ f1 g1 h1 c.plus.ensures i;
       x = sum_read _ _ _ f2 g2 h2 c.plus-2.ensures i;
       y = sum_read _ _ _ f3 g3 h3 c.plus-3.ensures i;
       z = sum_read _ _ _ f4 g4 h4 c.plus-4.ensures i;
       fsm = sum_read _ _ _ f5 g5 h5 c.plus-5.ensures i;
-      weights_aft = c.add.ensures i;
-      moments_aft = c.add-2.ensures i;
+      weights_aft = c.add_masses.ensures i;
+      moments_aft = c.add.ensures i;
       parts = a.parts + b.parts;
     } in
     is ∙ (λ i. both_kept (c.self.view_is i) (c.right.view_is i))
