@@ -156,7 +156,7 @@ fn folds_are_free(alloc: Global) -> bool {
         && none.parts == 0
 }
 
-/// A tree over three values, of which the second is replaced.
+/// A tree over three values, of which the second is replaced, and then the first two.
 fn tree_is_free(alloc: Global) -> Result<bool, AllocError> {
     let mut tree = TotalsTree::build(alloc, &VALUES)?;
     refuse(alloc, 0, 1);
@@ -165,8 +165,12 @@ fn tree_is_free(alloc: Global) -> Result<bool, AllocError> {
     let so_far = tree.prefix(2);
     let joins = tree.joins();
     let same = tree.peek(2);
+    let mut both = [FIVE, SEVEN];
+    tree.set_stretch(0, &mut both);
+    let other = tree.peek(2);
     let free = !was_refused(alloc);
-    Ok(free && length == 3 && so_far.value == Some(5) && joins > 0 && same.value == Some(5))
+    let right = length == 3 && joins > 0 && other.value == Some(7);
+    Ok(free && right && so_far.value == Some(5) && same.value == Some(5))
 }
 
 /// The prefixes of three values, all of which are kept, and chunks of two.

@@ -36,6 +36,22 @@ no_rows (suc rows) h = let one : 1 ≤ 2 ^ rows = pow_mono (let z : 0 ≤ rows =
 pub count_rises : (before old new most : ℕ) → before ≤ old → before < most → (old < most → new ≡ old + 1) → old ≤ new → before < new
 count_rises before old new most le low one grows = dite (dec_le most old) (λ full. omega arith) (λ not. let more = one (lt_of_not-le not) in omega arith)
 
+pub count_goes_on : (before old new most : ℕ) → before ≤ old → before < most → (old < most → old < new) → old ≤ new → before < new
+count_goes_on before old new most le low one grows = dite (dec_le most old) (λ full. omega arith) (λ not. let more = one (lt_of_not-le not) in omega arith)
+
+spread : (m n : ℕ) → m * (n + 1) ≡ m * n + m
+spread m n = grind arith
+
+-- a join for each of so many values in one row more, and in all rows but the first
+pub row_cost : (values rows before old new : ℕ) → old ≤ before + values * rows → new ≤ old + values → new ≤ before + values * (rows + 1)
+row_cost values rows before old new le more = omega (arith, le, more, spread values rows)
+
+pub rows_cost : (values rows all before old new : ℕ) → old ≤ before + values * rows → new ≤ old → rows + 1 ≤ all → new + values ≤ before + values * all
+rows_cost values rows all before old new le same few = omega (arith, le, same, spread values rows, mul-le-mul_left values few)
+
+pub stretch_cost : (values rows k old new : ℕ) → rows ≤ k + 1 → new + values ≤ old + values * rows → new ≤ old + values * k
+stretch_cost values rows k old new few le = omega (arith, le, spread values k, mul-le-mul_left values few)
+
 -- half a number below a power of two is below the power before it
 pub half_below : (a k r : ℕ) → a < 2 ^ (k - r) → a / 2 < 2 ^ (k - (r + 1))
 half_below a k r h =

@@ -1,5 +1,5 @@
 //! Prefixes of a list whose values change.
-ghost use Rattle.std.specs.Prelude.{◌≡◌, ℕ, ◌+◌, ◌-◌, ◌^◌, ◌<◌, ◌≤◌, ◌++◌, length, take, drop};
+ghost use Rattle.std.specs.Prelude.{◌≡◌, ℕ, ◌+◌, ◌-◌, ◌*◌, ◌^◌, ◌<◌, ◌≤◌, ◌++◌, length, take, drop};
 ghost use Rattle.std.specs.Prelude.{[], ◌∷◌, sum_by, slice_set, IfOk, OnOk, OnErr};
 ghost use Rattle.prefix_scan.specs.Folds.{prefix};
 ghost use Rattle.prefix_scan.specs.Laws.{most_parts};
@@ -80,8 +80,8 @@ impl<M: Monoid + Drop> TotalsTree<M> {
         }
     }
 
-    /// How many joins `set` and `prefix` have made since the tree was built, up to the greatest
-    /// number of the type.
+    /// How many joins `set`, `set_stretch` and `prefix` have made since the tree was built, up to
+    /// the greatest number of the type.
     pub fn joins(&self) -> u64
         ensures { result ≡ self.now.joins }
     {
@@ -120,7 +120,26 @@ impl<M: Monoid + Drop> TotalsTree<M> {
             ++ drop (first + length values.old) self.old.values }
         ensures joins { self.new.joins ≡ self.old.joins }
     {
-        replace_stretch(&mut self.rows, first, values);
+        let mut uncounted = 0;
+        replace_stretch(&mut self.rows, first, values, &mut uncounted);
+    }
+
+    /// As [`TotalsTree::renew`], with its joins counted: where there are at most 2^k values, the
+    /// count rises by at most k for each value that is put in. Below the greatest number of its
+    /// type it rises where two or more are.
+    pub fn set_stretch(&mut self, first: usize, values: &mut [M])
+        requires within { first + length values.old ≤ length self.old.values }
+        requires sizes { sum_by M.weight (take first self.old.values ++ values.old
+            ++ drop (first + length values.old) self.old.values) ≤ most_parts }
+        ensures values { self.new.values ≡ take first self.old.values ++ values.old
+            ++ drop (first + length values.old) self.old.values }
+        ensures grows { self.old.joins ≤ self.new.joins }
+        ensures few { (k : ℕ) → length self.old.values ≤ 2 ^ k
+            → self.new.joins ≤ self.old.joins + length values.old * k }
+        ensures counted { 1 < length values.old → self.old.joins < 2 ^ 64 - 1
+            → self.old.joins < self.new.joins }
+    {
+        replace_stretch(&mut self.rows, first, values, &mut self.count);
     }
 
     /// Puts a value at the end. The sizes of the values that are then in the list add up to at most

@@ -120,25 +120,41 @@ fn put_stretch<M: Monoid + Drop>(row: &mut [M], at: usize, values: &[M], len: us
     }
 }
 
-/// Makes the first `len` values those of the row above a row, from the place `at` of that on.
-fn join_stretch<M: Monoid + Drop>(row: &[M], at: usize, values: &mut [M], len: usize)
+/// Makes the first `len` values those of the row above a row, from the place `at` of that on, and
+/// counts these joins.
+fn join_stretch<M: Monoid + Drop>(
+    row: &[M],
+    at: usize,
+    values: &mut [M],
+    len: usize,
+    count: &mut u64,
+)
     requires sizes { sum_by M.weight row.now ≤ most_parts }
     requires within { 2 * (at + len) ≤ length row.now }
     requires some { len ≤ length values.old }
     ensures long { length values.new ≡ length values.old }
     ensures joined { (k : ℕ) → k < len → slice_index_or values.new k M.empty
         ≡ slice_index_or (paired M.op row.now) (at + k) M.empty }
+    ensures grows { count.old ≤ count.new }
+    ensures cost { count.new ≤ count.old + len }
+    ensures counted { 0 < len → count.old < 2 ^ 64 - 1 → count.old < count.new }
 {
     for k in 0..len {
         let left = 2 * (at + k);
-        values[k] = row[left].join(&row[left + 1]);
+        values[k] = counted_join(count, &row[left], &row[left + 1]);
     }
 }
 
 /// Puts the first `len` of some values in the place of as many of a row, from the place `at` on.
 /// Makes the first values those of the row above that are to be renewed by that, from half the
-/// place on, and returns how many they are.
-fn renew_row<M: Monoid + Drop>(row: &mut Vec<M>, at: usize, values: &mut [M], len: usize) -> usize
+/// place on, and returns how many they are, which is as many joins.
+fn renew_row<M: Monoid + Drop>(
+    row: &mut Vec<M>,
+    at: usize,
+    values: &mut [M],
+    len: usize,
+    count: &mut u64,
+) -> usize
     requires within { at + len ≤ length row.old.items }
     requires more { 0 < len }
     requires some { len ≤ length values.old }
@@ -149,18 +165,26 @@ fn renew_row<M: Monoid + Drop>(row: &mut Vec<M>, at: usize, values: &mut [M], le
     ensures few { result ≡ min ((at + len + 1) / 2) (length row.old.items / 2) - at / 2 }
     ensures joined { (k : ℕ) → k < result → slice_index_or values.new k M.empty
         ≡ slice_index_or (paired M.op row.new.items) (at / 2 + k) M.empty }
+    ensures grows { count.old ≤ count.new }
+    ensures cost { count.new ≤ count.old + result }
+    ensures counted { 0 < result → count.old < 2 ^ 64 - 1 → count.old < count.new }
 {
     put_stretch(row, at, values, len);
     let end = ((at + len + 1) / 2).min(row.len() / 2);
     let above = end.saturating_sub(at / 2);
-    join_stretch(row, at / 2, values, above);
+    join_stretch(row, at / 2, values, above, count);
     above
 }
 
 /// Puts values in the place of as many of the first row, from the place `first` on, and renews all
-/// values of the rows above that they are part of, row by row and each once. What was in `values`
-/// is lost.
-pub fn replace_stretch<M: Monoid + Drop>(rows: &mut [Vec<M>], first: usize, values: &mut [M])
+/// values of the rows above that they are part of, row by row and each once, by at most a join for
+/// each of the values in each row but the first. What was in `values` is lost.
+pub fn replace_stretch<M: Monoid + Drop>(
+    rows: &mut [Vec<M>],
+    first: usize,
+    values: &mut [M],
+    count: &mut u64,
+)
     requires rows { AreRows M.op rows.old }
     requires within { first + length values.old ≤ length (first_row rows.old) }
     requires sizes { sum_by M.weight (take first (first_row rows.old) ++ values.old
@@ -168,6 +192,10 @@ pub fn replace_stretch<M: Monoid + Drop>(rows: &mut [Vec<M>], first: usize, valu
     ensures rows { AreRows M.op rows.new }
     ensures list { first_row rows.new ≡ take first (first_row rows.old) ++ values.old
         ++ drop (first + length values.old) (first_row rows.old) }
+    ensures grows { count.old ≤ count.new }
+    ensures few { count.new + length values.old
+        ≤ count.old + length values.old * length rows.old }
+    ensures counted { 1 < length values.old → count.old < 2 ^ 64 - 1 → count.old < count.new }
 {
     if values.is_empty() {
         return;
@@ -175,7 +203,7 @@ pub fn replace_stretch<M: Monoid + Drop>(rows: &mut [Vec<M>], first: usize, valu
     let mut at = first;
     let mut len = values.len();
     for row in rows.iter_mut() {
-        let above = renew_row(row, at, values, len);
+        let above = renew_row(row, at, values, len, count);
         if above == 0 {
             return;
         }

@@ -2,5 +2,6 @@ pub mod ChangeLemmas
 pub mod FourLemmas
 pub mod OffsetLemmas
 pub mod RenewLemmas
+pub mod RunLemmas
 pub mod SumLemmas
 pub mod SwapLemmas

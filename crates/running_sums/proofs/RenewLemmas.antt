@@ -201,20 +201,6 @@ set_small ys place now after h k e = subst AreOfFour (sym e) (of_four_set now pl
 pub set_long : (now after : List Kept) (y : Kept) (place : ℕ) → after ≡ set now place y → length after ≡ length now
 set_long now after y place e = ap length e ∙ length-set now place y
 
-module _ (ys : List Kept) (place done next : ℕ) (now after : List Kept) (inside : place < done → (next ≡ done) × (after ≡ now))
-    (sets : done ≤ place → (next ≡ place / 4 * 4 + 4) × (after ≡ set now (place / 4) (get_or (fours ys) (place / 4) none_kept))) where
-  by_case : (P : List Kept → Type 0) → P now → P (set now (place / 4) (get_or (fours ys) (place / 4) none_kept)) → P after
-  by_case P same set_there =
-      dite (dec_le (suc place) done)
-      (λ low. subst P (sym ((inside (omega (arith, low))).1)) same)
-      (λ not. let high = lt_of_not-le not in subst P (sym ((sets (omega (arith, high))).1)) set_there)
-
-  pub renewed_small : AreOfFour now → AreSmall ys → AreOfFour after
-  renewed_small h k = by_case AreOfFour h (of_four_set now (place / 4) (get_or (fours ys) (place / 4) none_kept) h (of_four_at (fours ys) (place / 4) (of_four ys k)))
-
-  pub renewed_long : length after ≡ length now
-  renewed_long = by_case (λ l. length l ≡ length now) refl (length-set now (place / 4) (get_or (fours ys) (place / 4) none_kept))
-
 module _ (frames : List Frame) where
   pub near_of : (kg : ℕ) (cell : Option Cell) (ops : List Op) (xs : List Step) → length xs ≡ length ops
       → AreNear cell ops (map (change_of frames) xs) (map (change_of frames) (steps_weighed kg cell ops xs))
@@ -231,29 +217,6 @@ pub cell_at : (ops : List Op) (i : ℕ) (op : Op) → i < length ops → get_or 
 cell_at [] i op h e = absurd (omega (arith, h))
 cell_at (x ∷ xs) zero op h e = ap loaded_cell e
 cell_at (x ∷ xs) (suc i) op h e = cell_at xs i op (omega (arith, h)) e
-
--- the number of joins
-pub costs : (cell : Option Cell) (ops : List Op) (place : ℕ) (op : Op) (k joins after most : ℕ) → place < length ops → get_or ops place op ≡ op
-    → joins + moves_in cell (drop place ops) * (k + 1) ≤ most → after ≤ joins + (if moves cell op then 1 else 0) * (k + 1)
-    → after + moves_in (next_cell cell op) (drop (place + 1) ops) * (k + 1) ≤ most
-costs cell ops place op k joins after most inside at so_far turn = by_cases (moves cell op) turn (subst (λ zs. joins + moves_in cell zs * (k + 1) ≤ most) front so_far) where
-  rest : ℕ
-  rest = moves_in (next_cell cell op) (drop (place + 1) ops)
-
-  front : drop place ops ≡ op ∷ drop (place + 1) ops
-  front = drop_more ops place op inside ∙ ap (λ o. o ∷ drop (place + 1) ops) at
-
-  spread : (m n : ℕ) → (1 + m) * n ≡ n + m * n
-  spread m n = grind arith
-
-  by_cases : (b : Bool) → after ≤ joins + (if b then 1 else 0) * (k + 1) → joins + ((if b then 1 else 0) + rest) * (k + 1) ≤ most → after + rest * (k + 1) ≤ most
-  by_cases true h m = omega (arith, h, m, spread rest (k + 1))
-  by_cases false h m = omega (arith, h, m)
-
-pub first_cost : (m k after joins : ℕ) → after ≤ joins + 1 * (k + 1) → after + m * (k + 1) ≤ joins + (m + 1) * (k + 1)
-first_cost m k after joins h = omega (arith, h, spread m (k + 1)) where
-  spread : (m n : ℕ) → (m + 1) * n ≡ m * n + n
-  spread m n = grind arith
 
 -- another weight of the load at a place leaves the steps behind it, and its cell
 pub weighed_behind : (kg : ℕ) (ops : List Op) (i : ℕ) → drop (i + 1) (weighed_at kg i ops) ≡ drop (i + 1) ops

@@ -1,16 +1,16 @@
 -- How many joins a query or an edit takes. Beside that bookkeeping: lists of what steps change,
 -- before and after the steps that move one container were given bodies of another weight; and the
 -- sums of each four of them.
-use Rattle.std.specs.Prelude.{◌≡◌, ℕ, ⊤, ◌+◌, ◌*◌, ◌^◌, ◌<◌, ◌≤◌, List, [], ◌∷◌, ◌++◌, length}
+use Rattle.std.specs.Prelude.{◌≡◌, ℕ, ⊤, ◌+◌, ◌-◌, ◌*◌, ◌^◌, ◌<◌, ◌≤◌, List, [], ◌∷◌, ◌++◌, length}
 use Rattle.std.specs.Prelude.{take, drop, Option, Some, slice_get, false}
 use Rattle.std.specs.List.{swap}
 use Rattle.units_core.specs.declared.cells.Cell.{Cell}
 use Rattle.units_core.specs.declared.frames.Frame.{Frame}
 use Rattle.units_core.specs.declared.steps.Step.{Step}
-use Rattle.prefix_scan.specs.Rows.{paired}
+use Rattle.prefix_scan.specs.Rows.{IsWritten, paired}
 use Rattle.lift_sequence.specs.declared.operations.Op.{Op}
 use Rattle.lift_sequence.specs.Follow.{loaded_at, moves, next_cell}
-use Rattle.moment_sums.specs.Kept.{Kept, bodies_of, both_kept, kept_of, size_of}
+use Rattle.moment_sums.specs.Kept.{Kept, bodies_of, both_kept, kept_of, none_kept, size_of}
 use Rattle.moment_sums.specs.Sum.{changed_by}
 
 -- what each step changes of the sum of what is aboard
@@ -70,6 +70,19 @@ pub record AreMixed (cell : Option Cell) (behind done : ℕ) (ops : List Op)
   pub high : behind ≤ done → set_to ≡ done
   pub are : sums ≡ fours (take set_to changes ++ drop set_to olds)
   pub near : AreNear cell (drop behind ops) (drop behind olds) (drop behind changes)
+
+-- the sums of fours that are wanted, but for a run of them, from one number on up to another, that
+-- is yet to be set
+abbrev pub LacksRun : (four end : ℕ) (all sums wanted : List Kept) → Type 0
+LacksRun four end all sums wanted =
+    IsWritten none_kept four (end - four) (drop four all) sums wanted
+
+-- sums of fours of changes, the first of which are as they are now, but for such a run
+pub record AreMixedBut (cell : Option Cell) (behind four end : ℕ) (ops : List Op)
+    (changes sums : List Kept) : Type 0 where
+  pub wanted : List Kept
+  pub lacks : LacksRun four end (fours changes) sums wanted
+  pub mixed : AreMixed cell behind (end * 4) ops changes wanted
 
 -- the sums of fours of changes before two of them were exchanged
 pub record WereExchanged (one other : ℕ) (changes sums : List Kept) : Type 0 where

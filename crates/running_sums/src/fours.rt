@@ -1,6 +1,6 @@
 //! What the steps of a list change, added up four by four.
 //!
-//! A sum has 608 bytes, and what one step changes says no more than the step does. So the tree is
+//! A sum has 480 bytes, and what one step changes says no more than the step does. So the tree is
 //! over the sums of four steps each, and a query adds the up to three steps behind the last four
 //! one by one. Each step that is added counts as a join. So a query or a change may take one join
 //! more than in a tree over single steps, and stays within as many as the clauses allow.
@@ -64,8 +64,24 @@ fn add_counted(sum: &mut Totals, step: &Step, frames: &Frames, count: &mut u64)
     sum.add_step(step, frames);
 }
 
-/// What the four steps of a number change together, the first four having the number 0. It takes
-/// three joins.
+/// Makes a sum what the four steps of a number change together, the first four having the number 0.
+/// It takes three joins.
+fn set_four(sequence: &Sequence, frames: &Frames, four: usize, sum: &mut Totals, count: &mut u64)
+    requires within { 4 * four + 4 ≤ length sequence.now.ops }
+    ensures value { sum.new ≡ slice_index_or
+        (fours (map (change_of frames.now) sequence.now.steps)) four none_kept }
+    ensures bound { (count.old ≤ count.new) × (count.new ≤ count.old + 3) }
+    ensures counted { count.old + 3 < 2 ^ 64 → count.new ≡ count.old + 3 }
+{
+    sequence.facts();
+    let first = 4 * four;
+    sum.set_step(&sequence.step(first + 1), frames);
+    add_counted(sum, &sequence.step(first + 2), frames, count);
+    add_counted(sum, &sequence.step(first + 3), frames, count);
+    add_counted(sum, &sequence.step(first + 4), frames, count);
+}
+
+/// The same as a sum of its own.
 fn sum_of_four(sequence: &Sequence, frames: &Frames, four: usize, count: &mut u64) -> Totals
     requires within { 4 * four + 4 ≤ length sequence.now.ops }
     ensures value { result ≡ slice_index_or
@@ -73,12 +89,8 @@ fn sum_of_four(sequence: &Sequence, frames: &Frames, four: usize, count: &mut u6
     ensures bound { (count.old ≤ count.new) × (count.new ≤ count.old + 3) }
     ensures counted { count.old + 3 < 2 ^ 64 → count.new ≡ count.old + 3 }
 {
-    sequence.facts();
-    let first = 4 * four;
-    let mut sum = Totals::of_step(&sequence.step(first + 1), frames);
-    add_counted(&mut sum, &sequence.step(first + 2), frames, count);
-    add_counted(&mut sum, &sequence.step(first + 3), frames, count);
-    add_counted(&mut sum, &sequence.step(first + 4), frames, count);
+    let mut sum = Totals::unit();
+    set_four(sequence, frames, four, &mut sum, count);
     sum
 }
 
@@ -115,19 +127,21 @@ fn add_single(sequence: &Sequence, frames: &Frames, k: usize, sum: &mut Totals, 
     }
 }
 
-/// Sets in the room what each four steps change together, from the four of a number on. The joins
-/// made here aren't counted.
-fn set_room(sequence: &Sequence, frames: &Frames, four: usize, room: &mut [Totals])
+/// Sets in the room what each four steps change together, from the four of a number on. It takes
+/// three joins for each.
+fn set_room(sequence: &Sequence, frames: &Frames, four: usize, room: &mut [Totals], count: &mut u64)
     requires within { 4 * (four + length room.old) ≤ length sequence.now.ops }
     ensures long { length room.new ≡ length room.old }
+    ensures bound { (count.old ≤ count.new) × (count.new ≤ count.old + 3 * length room.old) }
+    ensures counted { count.old + 3 * length room.old < 2 ^ 64
+        → count.new ≡ count.old + 3 * length room.old }
     ensures each { (k : ℕ) → k < length room.old → slice_index_or room.new k none_kept
         ≡ slice_index_or (fours (map (change_of frames.now) sequence.now.steps)) (four + k)
         none_kept }
 {
     sequence.facts();
-    let mut uncounted = 0;
     for k in 0..room.len() {
-        room[k] = sum_of_four(sequence, frames, four + k, &mut uncounted);
+        set_four(sequence, frames, four + k, &mut room[k], count);
     }
 }
 
@@ -262,8 +276,60 @@ impl Fours {
         ensures joins { self.new.joins ≡ self.old.joins }
     {
         sequence.facts();
-        set_room(sequence, frames, four, room);
+        let mut uncounted = 0;
+        set_room(sequence, frames, four, room, &mut uncounted);
         self.tree.renew(four, room);
+    }
+
+    /// The same, where each join is counted. Where there are at most 2^l steps, it takes at most l
+    /// + 1 joins for each sum.
+    fn set_piece(&mut self, sequence: &Sequence, frames: &Frames, four: usize, room: &mut [Totals])
+        requires long { length self.old.values ≡ length sequence.now.ops / 4 }
+        requires small { AreOfFour self.old.values }
+        requires within { four + length room.old ≤ length self.old.values }
+        ensures values { IsWritten none_kept four (length room.old)
+            (drop four (fours (map (change_of frames.now) sequence.now.steps))) self.old.values
+            self.new.values }
+        ensures small { AreOfFour self.new.values }
+        ensures cost { CostsUpTo (length room.old) (length sequence.now.ops) self.old.joins
+            self.new.joins }
+        ensures counted { self.old.joins + 3 * length room.old < 2 ^ 64
+            → self.old.joins + 3 * length room.old ≤ self.new.joins }
+    {
+        sequence.facts();
+        set_room(sequence, frames, four, room, &mut self.single);
+        self.tree.set_stretch(four, room);
+    }
+
+    /// Sets what each four steps change together, from the four of a number on up to another, as
+    /// far as they are four. Where there are at most 2^l steps, it takes at most l + 1 joins for
+    /// each. What was in the room is lost.
+    pub fn set_run(
+        &mut self,
+        sequence: &Sequence,
+        frames: &Frames,
+        four: usize,
+        end: usize,
+        room: &mut [Totals],
+    )
+        requires long { length self.old.values ≡ length sequence.now.ops / 4 }
+        requires small { AreOfFour self.old.values }
+        requires fits { end ≤ four + length room.old }
+        ensures values { IsWritten none_kept four (end - four)
+            (drop four (fours (map (change_of frames.now) sequence.now.steps))) self.old.values
+            self.new.values }
+        ensures small { AreOfFour self.new.values }
+        ensures cost { CostsUpTo (end - four) (length sequence.now.ops) self.old.joins
+            self.new.joins }
+        ensures counted { end ≤ length self.old.values
+            → self.old.joins + 3 * (end - four) < 2 ^ 64
+            → self.old.joins + 3 * (end - four) ≤ self.new.joins }
+    {
+        sequence.facts();
+        let whole = end.min(self.tree.len());
+        if four < whole {
+            self.set_piece(sequence, frames, four, &mut room[..whole - four]);
+        }
     }
 
     /// Sets what each four steps change together, from the four of a number on up to another, a

@@ -40,7 +40,8 @@ impl SummedList {
     {
         self.sequence.facts();
         let steps = self.sequence.len() + 1;
-        let mut sums = piece(self.alloc, steps / 4)?;
+        let (first, end) = ((k - 1) / 4, steps / 4);
+        let mut sums = piece(self.alloc, end.saturating_sub(first))?;
         let other = other_room(self.passed.get_mut(), self.alloc, room, steps)?;
         self.sums.lengthen(self.alloc, steps)?;
         let (profile, arrival) = (self.base.profile(), self.base.arrival());
@@ -57,7 +58,7 @@ impl SummedList {
         }
         let frames = self.base.profile().frames();
         self.sums
-            .renew(&self.sequence, frames, (k - 1) / 4, steps / 4, &mut sums);
+            .renew(&self.sequence, frames, first, end, &mut sums);
         move_into(self.passed.get_mut(), other);
         Ok(true)
     }
@@ -78,7 +79,8 @@ impl SummedList {
     {
         self.sequence.facts();
         let steps = self.sequence.len() - 1;
-        let mut sums = piece(self.alloc, steps / 4)?;
+        let (first, end) = ((k - 1) / 4, steps / 4);
+        let mut sums = piece(self.alloc, end.saturating_sub(first))?;
         let other = other_room(self.passed.get_mut(), self.alloc, room, steps)?;
         if !self.sequence.take_out(k) {
             return Ok(false);
@@ -86,7 +88,7 @@ impl SummedList {
         self.sums.shorten(steps);
         let frames = self.base.profile().frames();
         self.sums
-            .renew(&self.sequence, frames, (k - 1) / 4, steps / 4, &mut sums);
+            .renew(&self.sequence, frames, first, end, &mut sums);
         move_into(self.passed.get_mut(), other);
         Ok(true)
     }

@@ -202,6 +202,22 @@ fn values_made_anew(rt: HostRuntime) -> Result<(), Fail> {
     Ok(())
 }
 
+// Another value in each of the two middle places of four: the prefixes are those behind two sets.
+// Three joins are counted, one for each half and one for both, where two sets make four.
+#[test]
+fn values_set_together(rt: HostRuntime) -> Result<(), Fail> {
+    let mut tree = TotalsTree::build(rt.alloc(), &VALUES)?;
+    tree.push(rt.alloc(), FIVE)?;
+    let mut values = [SEVEN, joined(Some(9), 1)];
+    tree.set_stretch(1, &mut values);
+    same(&rt, tree.joins(), 3);
+    same(&rt, tree.peek(1), joined(Some(1), 1));
+    same(&rt, tree.peek(2), joined(Some(7), 2));
+    same(&rt, tree.peek(3), joined(Some(9), 3));
+    same(&rt, tree.peek(4), joined(Some(5), 4));
+    Ok(())
+}
+
 // Two values come in at the end, so that the tree gets a row more, and then three of five go away:
 // the prefixes are those of the values that are there, and no join is counted.
 #[test]

@@ -1,9 +1,12 @@
-use Rattle.std.proofs.Common.{rules, arith, ◌≡◌, suc, ◌+◌, ◌-◌, ◌/◌, ◌^◌, ◌≤◌, ◌++◌, length, ap, ◌∙◌, sym, List, below_more, length-set, take, drop, get_or, set, subst, sum_by}
+use Rattle.std.proofs.Common.{rules, arith, ◌≡◌, refl, suc, ◌+◌, ◌-◌, ◌/◌, ◌^◌, ◌≤◌, ◌++◌, length, ap, ◌∙◌, sym, List, below_more, length-set, take, drop, get_or, set, subst, sum_by}
 use Rattle.std.specs.Prelude.{min}
 use Rattle.prefix_scan.specs.Rows.{paired, lifted, row_at, first_row, IsWritten}
+use Rattle.prefix_scan.proofs.HeightLemmas.{count_goes_on, row_cost, rows_cost}
 use Rattle.prefix_scan.proofs.PairLemmas.{lifted-weight, length-paired}
 use Rattle.prefix_scan.proofs.RowLemmas.{row_at-is, row_at-set_same, row_at-set_other, renewed}
 use Rattle.prefix_scan.proofs.StretchLemmas.{before_above, behind_above, length-lifted, length-with, same_above, with_before, with_behind, with_inside, written}
+use mathlib.Core.Logic.{dite}
+use native.Mathlib.Decide.{ℕ_discrete}
 use Rattle.prefix_scan.proofs.tree_rows.replace_stretch.Goals as goal
 
 pub loop-row-init : goal.loop-row-init
@@ -26,6 +29,11 @@ loop-row-init g c =
       some = omega arith;
       same_length = λ _. length c.args.rows.now;
       up_to = omega arith;
+      fewer = omega arith;
+      first = λ _. (refl, refl);
+      grows = omega arith;
+      cost = omega arith;
+      counted = λ some. absurd (omega (arith, some));
     }
 
 pub renew_row-above-requires-clause-within : goal.renew_row-above-requires-clause-within
@@ -166,7 +174,34 @@ loop-row-preserved g c =
       some = omega (arith, count, inv.some, inv.more, c.renew_row-above.ensures.long, c.if-above-eq0.false);
       same_length = length-set c.loop-row.rows l after ∙ inv.same_length;
       up_to = omega (arith, length-set c.loop-row.rows l after);
+      fewer = omega (arith, inv.fewer, inv.more, c.renew_row-above.ensures.few);
+      first = λ none. absurd (omega (arith, none));
+      grows = omega (arith, inv.grows, c.renew_row-above.ensures.grows);
+      cost = row_cost (length vs) l c.args.count.now c.loop-row.count c.renew_row-above.new.count inv.cost
+          (omega (arith, inv.fewer, inv.more, c.renew_row-above.ensures.few, c.renew_row-above.ensures.cost));
+      counted = λ _ low. count_goes_on c.args.count.now c.loop-row.count c.renew_row-above.new.count (2 ^ 64 - 1) inv.grows low (c.renew_row-above.ensures.counted (omega (arith, c.if-above-eq0.false))) c.renew_row-above.ensures.grows;
     }
+
+pub returns-then-above-eq0-clause-few : goal.returns-then-above-eq0-clause-few
+returns-then-above-eq0-clause-few g c =
+    let inv = c.loop-row.invariant in
+    rows_cost (length c.args.values.now) c.loop-row.row-index (length c.args.rows.now) c.args.count.now c.loop-row.count c.renew_row-above.new.count inv.cost
+    (omega (arith, c.renew_row-above.ensures.cost, c.if-above-eq0.true)) (omega (arith, inv.same_length, c.loop-row-test.true))
+
+pub returns-then-above-eq0-clause-counted : goal.returns-then-above-eq0-clause-counted
+returns-then-above-eq0-clause-counted g c more low =
+    let m = g.M.Monoid in
+    let l = c.loop-row.row-index in
+    let inv = c.loop-row.invariant in
+    let xs = first_row c.args.rows.now in
+    let row = get_or c.loop-row.rows l c.row-item.result in
+    let items : row.items ≡ lifted m.op l xs = sym (row_at-is c.loop-row.rows l c.row-item.result (omega arith)) ∙ inv.above l (omega arith) ∙ c.requires.rows.each l c.loop-row-test.true in
+    dite (ℕ_discrete l 0)
+    (λ none.
+    let first = inv.first none in
+    let whole : length (lifted m.op l xs) ≡ length xs = ap (λ n. length (lifted m.op n xs)) none in
+    absurd (omega (arith, first.0, first.1, more, whole, ap length items, c.requires.within, c.renew_row-above.ensures.few, c.if-above-eq0.true)))
+    (λ some. let before = inv.counted (omega arith) low in omega (arith, before, c.renew_row-above.ensures.grows))
 
 pub returns-clause-rows : goal.returns-clause-rows
 returns-clause-rows g c =

@@ -1,4 +1,4 @@
-use Rattle.std.proofs.Common.{◌≡◌, ◌≤◌, ◌<◌, ◌+◌, ◌++◌, ℕ, length, take, drop}
+use Rattle.std.proofs.Common.{◌≡◌, ◌≤◌, ◌<◌, ◌+◌, ◌-◌, ◌*◌, ◌^◌, ◌++◌, ℕ, length, take, drop}
 use Rattle.prefix_scan.specs.Rows.{lifted, first_row, row_at, IsWritten}
 use Rattle.prefix_scan.proofs.tree_rows.replace_stretch.Given as goal
 
@@ -16,4 +16,9 @@ invariant-loop-row g l =
       some : l.len ≤ length l.values;
       same_length : length l.rows ≡ length l.fn.rows;
       up_to : l.row-index ≤ length l.rows;
+      fewer : l.len ≤ length l.fn.values;
+      first : l.row-index ≡ 0 → (l.at ≡ l.first) × (l.len ≡ length l.fn.values);
+      grows : l.fn.count ≤ l.count;
+      cost : l.count ≤ l.fn.count + length l.fn.values * l.row-index;
+      counted : 0 < l.row-index → l.fn.count < 2 ^ 64 - 1 → l.fn.count < l.count;
     }

@@ -1,12 +1,10 @@
-use Rattle.std.proofs.Common.{◌∙◌, ◌+◌, ◌≤◌, ◌++◌, List, length, map, take, drop, get_or, sym, ap, arith, subst}
-use Rattle.std.proofs.lemmas.List.{get_or-drop}
+use Rattle.std.proofs.Common.{◌≡◌, ◌∙◌, ◌+◌, ◌*◌, ◌/◌, ◌<◌, ◌≤◌, ◌++◌, ℕ, List, length, map, take, drop, get_or, sym, ap, arith, subst}
 use Rattle.prefix_scan.specs.Counted.{Counted}
-use Rattle.prefix_scan.proofs.StretchLemmas.{length-with, with_before, with_behind, with_inside}
-use Rattle.moment_sums.specs.Kept.{Kept, both_kept, none_kept, size_of}
+use Rattle.prefix_scan.specs.Rows.{IsWritten}
+use Rattle.moment_sums.specs.Kept.{Kept, none_kept}
 use Rattle.running_sums.specs.Fours.{AreOfFour, change_of, fours}
 use Rattle.running_sums.proofs.ChangeLemmas.{small}
-use Rattle.running_sums.proofs.FourLemmas.{of_four, of_four_at, of_four_sum}
-use Rattle.running_sums.proofs.FourLemmas.{of_four_append, of_four_drop, of_four_from, of_four_take}
+use Rattle.running_sums.proofs.RunLemmas.{room_small, room_sum, room_written}
 use Rattle.running_sums.proofs.fours.Fours.renew_piece.Goals as goal
 
 pub renew-requires-clause-sizes : goal.renew-requires-clause-sizes
@@ -16,33 +14,25 @@ renew-requires-clause-sizes c =
     let is = ap (λ (f : Counted Kept). f.values) c.self.view_is in
     let old : List Kept = c.self.inside.tree.values in
     let vs : List Kept = c.set_room.new.room in
-    let four = c.args.four in
-    let room_few : AreOfFour vs = of_four_from vs (λ k low. let size = of_four_at (fours xs) (four + k) (of_four xs (small c.args.frames.now steps)) in
-    omega (arith, size, ap size_of (c.set_room.ensures.each k (omega (arith, low, c.set_room.ensures.long))))) in
-    let old_few : AreOfFour old = subst AreOfFour (sym is) c.requires.small in
-    let all = of_four_sum (take four old ++ vs ++ drop (four + length vs) old)
-    (of_four_append (take four old ++ vs) (drop (four + length vs) old) (of_four_append (take four old) vs (of_four_take four old old_few) room_few) (of_four_drop (four + length vs) old old_few)) in
-    let long = length-with both_kept none_kept old vs four (omega (arith, c.requires.within, c.set_room.ensures.long, ap length is)) in
-    omega (arith, all, long, ap length is, c.requires.long, c.facts.ensures.few)
+    let long : length vs ≡ length c.args.room.now = c.set_room.ensures.long in
+    let within : c.args.four + length vs ≤ length old = omega (arith, c.requires.within, long, ap length is) in
+    let sum = room_sum xs old vs c.args.four (λ k h. c.set_room.ensures.each k (omega (arith, h, long))) within (small c.args.frames.now steps) (subst AreOfFour (sym is) c.requires.small) in
+    omega (arith, sum, ap length is, c.requires.long, c.facts.ensures.few)
 
 pub returns-clause-values : goal.returns-clause-values
 returns-clause-values c =
-    let steps = c.args.sequence.now.steps in
-    let xs : List Kept = map (change_of c.args.frames.now) steps in
+    let xs : List Kept = map (change_of c.args.frames.now) c.args.sequence.now.steps in
     let is = ap (λ (f : Counted Kept). f.values) c.self.view_is in
     let old : List Kept = c.self.inside.tree.values in
     let vs : List Kept = c.set_room.new.room in
     let four = c.args.four in
-    let within : four + length vs ≤ length old = omega (arith, c.requires.within, c.set_room.ensures.long, ap length is) in
-    let now = c.renew.ensures.values in
-    record {
-      long = ap length now ∙ length-with both_kept none_kept old vs four within ∙ ap length is;
-      inside = λ k h. ap (λ (l : List Kept). get_or l (four + k) none_kept) now ∙ with_inside both_kept none_kept old vs four within k (omega (arith, h, c.set_room.ensures.long))
-          ∙ c.set_room.ensures.each k h ∙ sym (get_or-drop four (fours xs) k none_kept);
-      before = λ k h. ap (λ (l : List Kept). get_or l k none_kept) now ∙ with_before both_kept none_kept old vs four within k h ∙ ap (λ (l : List Kept). get_or l k none_kept) is;
-      behind = λ k h. ap (λ (l : List Kept). get_or l k none_kept) now ∙ with_behind both_kept none_kept old vs four within k (omega (arith, h, c.set_room.ensures.long))
-          ∙ ap (λ (l : List Kept). get_or l k none_kept) is;
-    }
+    let long : length vs ≡ length c.args.room.now = c.set_room.ensures.long in
+    let within : four + length vs ≤ length old = omega (arith, c.requires.within, long, ap length is) in
+    let after : List Kept = c.renew.new.self.values in
+    subst (λ (l : List Kept). IsWritten none_kept four (length c.args.room.now) (drop four (fours xs)) l after) is
+    (subst (λ (n : ℕ). IsWritten none_kept four n (drop four (fours xs)) old after) long
+    (subst (λ (l : List Kept). IsWritten none_kept four (length vs) (drop four (fours xs)) old l) (sym c.renew.ensures.values)
+    (room_written xs old vs four (λ k h. c.set_room.ensures.each k (omega (arith, h, long))) within)))
 
 pub returns-clause-small : goal.returns-clause-small
 returns-clause-small c =
@@ -51,9 +41,7 @@ returns-clause-small c =
     let is = ap (λ (f : Counted Kept). f.values) c.self.view_is in
     let old : List Kept = c.self.inside.tree.values in
     let vs : List Kept = c.set_room.new.room in
-    let four = c.args.four in
-    let room_few : AreOfFour vs = of_four_from vs (λ k low. let size = of_four_at (fours xs) (four + k) (of_four xs (small c.args.frames.now steps)) in
-    omega (arith, size, ap size_of (c.set_room.ensures.each k (omega (arith, low, c.set_room.ensures.long))))) in
-    let old_few : AreOfFour old = subst AreOfFour (sym is) c.requires.small in
+    let long : length vs ≡ length c.args.room.now = c.set_room.ensures.long in
+    let within : c.args.four + length vs ≤ length old = omega (arith, c.requires.within, long, ap length is) in
     subst AreOfFour (sym c.renew.ensures.values)
-    (of_four_append (take four old ++ vs) (drop (four + length vs) old) (of_four_append (take four old) vs (of_four_take four old old_few) room_few) (of_four_drop (four + length vs) old old_few))
+    (room_small xs old vs c.args.four (λ k h. c.set_room.ensures.each k (omega (arith, h, long))) within (small c.args.frames.now steps) (subst AreOfFour (sym is) c.requires.small))
