@@ -79,7 +79,7 @@ impl Body {
     }
 }
 
-/// What bodies add up to: mass in kg, moments about the after perpendicular, the middle line and the keel in kg mm, free surface moments
+/// What bodies add up to: mass in kg, moments about the after perpendicular, the centre line and the keel in kg mm, free surface moments
 /// in kg mm, and for each frame the mass aft of it and that mass's moment about it.
 #[derive(Clone)]
 pub struct Totals {

@@ -32,7 +32,7 @@ abbrev pub hydrostatics_at : HydroTable → ℤ → Option Hydrostatics
 hydrostatics_at h w = option_map (hydrostatics_in h w) (interval h.kg w)
 
 -- what is aboard, as it bears on how the ship floats: its mass, its moments about the after
--- perpendicular and about the middle line, and that about the keel with the free surfaces
+-- perpendicular and about the centre line, and that about the keel with the free surfaces
 pub record Load : Type 0 where
   pub kg : ℤ
   pub x : ℤ

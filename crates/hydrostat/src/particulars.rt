@@ -9,7 +9,7 @@ pub struct Afloat {
     pub kg: i128,
     /// The moment about the after perpendicular, in kg mm.
     pub x: i128,
-    /// The moment about the middle line, in kg mm, to starboard.
+    /// The moment about the centre line, in kg mm, to starboard.
     pub y: i128,
     /// The moment about the keel with the free surface moments, in kg mm.
     pub upright: i128,

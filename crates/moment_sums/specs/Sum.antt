@@ -8,7 +8,7 @@ use Rattle.units_core.specs.Steps.{change}
 use Rattle.units_core.specs.Totals.{total}
 use Rattle.moment_sums.specs.Shares.{weight_aft, moment_aft}
 
--- the mass; its moments about the after perpendicular, the middle line and the keel; the free
+-- the mass; its moments about the after perpendicular, the centre line and the keel; the free
 -- surface moment; and at each frame, by its number from 0, the mass aft of it and that mass's
 -- moment about it
 pub data Column : Type 0 where

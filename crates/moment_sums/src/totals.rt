@@ -82,7 +82,7 @@ impl Totals {
         self.x
     }
 
-    /// The moment about the middle line, in kg mm.
+    /// The moment about the centre line, in kg mm.
     pub fn y(&self) -> i128
         ensures { result ≡ values self.now MomentY }
     {

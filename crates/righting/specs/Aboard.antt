@@ -28,7 +28,7 @@ pub record IsCrossing (r : Crossing) (t : CurveTable) (w : ℤ) (i : ℕ) : Type
   pub levers : (k : ℕ) → k < 13 → (at r.lever k over r.gap) ≡ curve_at t w k i
 
 -- the levers of a ship by these numbers, and by her moments about the keel (with the free surfaces)
--- and about the middle line
+-- and about the centre line
 abbrev pub lever_by : Crossing → ℤ → ℤ → ℕ → Ratio
 lever_by r upright side k =
     gz (at r.lever k over r.gap) (upright over r.kg) (pos (unsigned_abs side) over r.kg) k

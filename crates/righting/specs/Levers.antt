@@ -9,7 +9,7 @@ use Rattle.units_core.specs.Ratio.{is_no_more}
 use Rattle.units_core.specs.Interpolation.{at}
 
 -- GZ(h) = KN(h) - KG sin h - |TCG| cos h, at the k-th angle, by the height of the centre of gravity
--- and its distance from the middle line
+-- and its distance from the centre line
 abbrev pub gz : Ratio → Ratio → Ratio → ℕ → Ratio
 gz kn height aside k = (kn ⊖ (height ⊗ (at sines k over pos (10 ^ 6)))) ⊖
     (aside ⊗ (at cosines k over pos (10 ^ 6)))

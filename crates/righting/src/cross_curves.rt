@@ -60,7 +60,7 @@ pub fn levers_aboard(profile: &Profile, totals: &Totals, near: &mut usize) -> Op
 
 /// The righting levers of what is aboard, in mm, at 0, 5, .., 60 degrees of heel: KN of the ship's
 /// cross curves at the displacement, less what the centre of gravity's height above the keel, with
-/// the free surfaces, and its distance from the middle line take away. [`Outside::Levers`] where
+/// the free surfaces, and its distance from the centre line take away. [`Outside::Levers`] where
 /// the displacement lies outside of the table of cross curves. (2008 IS Code, part A, 2.2.)
 pub fn levers_of(profile: &Profile, totals: &Totals) -> Result<Levers, Outside>
     requires bounded { IsBounded (values totals.now) }

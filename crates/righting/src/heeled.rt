@@ -86,7 +86,7 @@ fn lever(
     less_both(crossing, rise, shift)
 }
 
-/// A moment about the middle line without its side: the ship heels to the side where her centre of
+/// A moment about the centre line without its side: the ship heels to the side where her centre of
 /// gravity is.
 fn to_either_side(side: i128) -> i128
     requires { unsigned_abs side ≤ 10 ^ 15 }
@@ -97,7 +97,7 @@ fn to_either_side(side: i128) -> i128
 }
 
 /// The righting levers of a ship, by the moments of what is aboard about the keel (with the free
-/// surfaces) and about the middle line.
+/// surfaces) and about the centre line.
 pub fn levers(crossing: &Crossing, upright: i128, side: i128) -> Levers
     requires upright { unsigned_abs upright ≤ 2 * 10 ^ 15 }
     requires side { unsigned_abs side ≤ 10 ^ 15 }

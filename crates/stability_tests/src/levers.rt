@@ -77,7 +77,7 @@ fn levers_of_the_box_ship(rt: HostRuntime) -> Result<(), Fail> {
     on_box_ship(&rt, &upright)
 }
 
-/// The same 500 mm from the middle line: less 500 cos h, as 1,958.544 - 500 * 0.819152 = 1,548.968
+/// The same 500 mm from the centre line: less 500 cos h, as 1,958.544 - 500 * 0.819152 = 1,548.968
 /// at 35 degrees.
 static LISTING: [i128; 13] = [
     -500, -122, 255, 614, 948, 1_241, 1_466, 1_548, 1_510, 1_383, 1_192, 948, 663,
@@ -191,7 +191,7 @@ fn area_at_its_limit(rt: HostRuntime) {
     same(&rt, area_holds(missed, 3_151_268), false);
 }
 
-/// Looks for the greatest lever on the keel and the middle line, where the levers are those of the
+/// Looks for the greatest lever on the keel and the centre line, where the levers are those of the
 /// curves: 4,230 mm at 20 and at 25 degrees, 4,000 mm at 30.
 #[derive(Clone, Copy)]
 struct Greatest;

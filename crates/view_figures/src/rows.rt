@@ -178,7 +178,7 @@ fn row_of_listing(list: Frac, side: Ordering, most: i64) -> Row
     }
 }
 
-/// The moment about the middle line, by the divisor of the particulars.
+/// The moment about the centre line, by the divisor of the particulars.
 fn side_moment(a: &Afloat) -> i128
     ensures { unsigned_abs result ≤ 10 ^ 23 }
 {

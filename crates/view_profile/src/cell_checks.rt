@@ -9,7 +9,7 @@ use view_inputs::{CellRow, DECK, Notices, cell_text};
 const FILE: &str = "cells.csv";
 
 /// Whether a cell stands on the other side than its row: odd rows are to starboard, even rows to
-/// port, that of number 0 on the middle line.
+/// port, that of number 0 on the centre line.
 fn is_on_other_side(row: &CellRow) -> bool {
     let number = row.cell.row;
     if number == 0 {
