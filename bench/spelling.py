@@ -1,4 +1,5 @@
-"""How make_ships spells its cases: the files of a ship, a bay plan, a movement instruction and a steps file, in many of the forms that may be read."""
+"""How make_ships spells its cases: the files of a ship, a bay plan, a movement instruction and a
+steps file, in many of the forms that may be read."""
 import os
 
 
@@ -20,27 +21,47 @@ def write_profile(case, folder):
     write(ship, "hydro.csv", table(draw, 6, case.hydro))
     write(ship, "kn.csv", table(draw, 14, case.kn))
     write(ship, "bonjean.csv", table(draw, 1 + len(case.stations), case.bonjean))
-    write(ship, "tanks.csv", table(draw, 7, [[name, *row] for name, rows in case.tanks.items() for row in rows]))
+    write(
+        ship,
+        "tanks.csv",
+        table(draw, 7, [[name, *row] for name, rows in case.tanks.items() for row in rows]),
+    )
     if case.least:
         write(ship, "gm.csv", table(draw, 2, case.least))
     elif os.path.exists(os.path.join(ship, "gm.csv")):
         os.remove(os.path.join(ship, "gm.csv"))
 
 
-NOTES = ("# a ship", 'name = "A # ship"', "built = 2026-03-14 05:06:07", "'name' = 'x'", "yard.name = 1.5e3", "")
+NOTES = (
+    "# a ship",
+    'name = "A # ship"',
+    "built = 2026-03-14 05:06:07",
+    "'name' = 'x'",
+    "yard.name = 1.5e3",
+    "",
+)
 
 
 def document(case):
     """ship.toml, its arrays of tables as headers or in line."""
     draw = case.draw
     lines = [f"{key} = {integer(draw, value)}" for key, value in case.keys.items()]
-    lines.append("stations_mm = [" + draw.choice((" ", "\n  # from aft\n")) + ", ".join(map(str, case.stations)) + draw.choice((",", "")) + " ]")
+    lines.append(
+        "stations_mm = ["
+        + draw.choice((" ", "\n  # from aft\n"))
+        + ", ".join(map(str, case.stations))
+        + draw.choice((",", ""))
+        + " ]"
+    )
     lines.append(draw.choice(NOTES))
     draw.shuffle(lines)
     places = "x_mm", "y_mm", "z_mm", "half_mm"
     arrays = {
         "blocks": [{"kg": mass, **dict(zip(places, place))} for mass, place in case.blocks],
-        "frames": [dict(zip(("x_mm", "shear_max_kg", "hog_max_kgmm", "sag_max_kgmm"), (x, *limits))) for x, limits in zip(case.frames, case.limits)],
+        "frames": [
+            dict(zip(("x_mm", "shear_max_kg", "hog_max_kgmm", "sag_max_kgmm"), (x, *limits)))
+            for x, limits in zip(case.frames, case.limits)
+        ],
         "fills": [{"tank": name, "kg": mass} for name, mass in case.fills.items()],
     }
     headers = []
@@ -52,13 +73,22 @@ def document(case):
             lines.append(f"{key} = [" + ", ".join(inline) + "]")
         else:
             for entries in tables:
-                headers += ["", draw.choice((f"[[{key}]]", f"[[ '{key}' ]] # next")), *pairs(draw, entries)]
+                headers += [
+                    "",
+                    draw.choice((f"[[{key}]]", f"[[ '{key}' ]] # next")),
+                    *pairs(draw, entries),
+                ]
     end = draw.choice(("\n", "\n", "\r\n"))
-    return end.join(lines + headers).replace("\r\n", "\n").replace("\n", end) + draw.choice(("", end))
+    return end.join(lines + headers).replace("\r\n", "\n").replace("\n", end) + draw.choice(
+        ("", end)
+    )
 
 
 def pairs(draw, entries):
-    spelt = [f"{key} = {integer(draw, value) if isinstance(value, int) else string(draw, value)}" for key, value in entries.items()]
+    spelt = [
+        f"{key} = {integer(draw, value) if isinstance(value, int) else string(draw, value)}"
+        for key, value in entries.items()
+    ]
     draw.shuffle(spelt)
     return spelt
 
@@ -79,7 +109,9 @@ def string(draw, text):
         return f"'{text}'"
     plain = text.replace("\\", "\\\\").replace('"', '\\"')
     if draw.chance(3):
-        plain = "".join(letter if letter not in "AÖ" else f"\\u{ord(letter):04x}" for letter in plain)
+        plain = "".join(
+            letter if letter not in "AÖ" else f"\\u{ord(letter):04x}" for letter in plain
+        )
     return '"' + plain + '"'
 
 
@@ -100,7 +132,12 @@ def field(draw, value, odd):
         text = str(value)
         if odd and draw.chance(4):
             digits = str(abs(value)).rjust(draw.randint(len(str(abs(value))), 18), "0")
-            text = " " * draw.randrange(2) + ("-" if value < 0 or value == 0 and draw.chance(2) else "") + digits + " " * draw.randrange(3)
+            text = (
+                " " * draw.randrange(2)
+                + ("-" if value < 0 or value == 0 and draw.chance(2) else "")
+                + digits
+                + " " * draw.randrange(3)
+            )
         return b'"%s"' % text.encode() if odd and draw.chance(8) else text.encode()
     text = value if isinstance(value, bytes) else value.encode()
     if any(mark in text for mark in b'",\r\n') or odd and draw.chance(4):
@@ -125,8 +162,11 @@ class Interchange:
         self.draw = draw = case.draw
         self.kind = kind
         self.component, self.element, self.mark, self.release, self.terminator = draw.choice(
-            (b":+.?'", b":+.?'", b":+,?'", b"|^;!~", b"\x1d\x1c.\\\x1e", b":+E?'", b"'+.:\""))[:5].decode("latin1")
-        self.advised = self.component + self.element + self.mark + self.release + self.terminator != ":+.?'"
+            (b":+.?'", b":+.?'", b":+,?'", b"|^;!~", b"\x1d\x1c.\\\x1e", b":+E?'", b"'+.:\"")
+        )[:5].decode("latin1")
+        self.advised = (
+            self.component + self.element + self.mark + self.release + self.terminator != ":+.?'"
+        )
         self.blanks = draw.choice(("", "", "\n", "\r\n", " \t"))
         self.segments = []
 
@@ -139,7 +179,12 @@ class Interchange:
 
     def add(self, *elements):
         """A segment of elements, each a text or a list of components."""
-        spelt = [self.component.join(map(self.literal, element)) if isinstance(element, list) else self.literal(element) for element in elements]
+        spelt = [
+            self.component.join(map(self.literal, element))
+            if isinstance(element, list)
+            else self.literal(element)
+            for element in elements
+        ]
         self.segments.append(self.element.join(spelt))
 
     def text(self):
@@ -149,23 +194,43 @@ class Interchange:
         reference = draw.choice(("1", "A'+:?", ""))
         control = draw.choice(("7", "SKT2611", "?"))
         self.add("UNB", ["UNOA", "2"], "SHIP", "PLAN", ["260314", "0430"], control)
-        self.add("UNH", [reference, "x"], [self.kind, "D", "95B", "UN", *draw.choice(([], ["SMDG20"]))])
+        self.add(
+            "UNH", [reference, "x"], [self.kind, "D", "95B", "UN", *draw.choice(([], ["SMDG20"]))]
+        )
         self.segments += body
         self.add("UNT", str(len(body) + 2).rjust(draw.randint(1, 10), "0"), reference)
         self.add("UNZ", draw.choice(("1", "001")), control)
         advice = ""
         if self.advised or draw.chance(3):
-            advice = "UNA" + self.component + self.element + self.mark + self.release + draw.choice(" *x") + self.terminator + self.blanks
-        return (self.blanks + advice + "".join(segment + self.terminator + self.blanks for segment in self.segments)).encode("latin1")
+            advice = (
+                "UNA"
+                + self.component
+                + self.element
+                + self.mark
+                + self.release
+                + draw.choice(" *x")
+                + self.terminator
+                + self.blanks
+            )
+        return (
+            self.blanks
+            + advice
+            + "".join(segment + self.terminator + self.blanks for segment in self.segments)
+        ).encode("latin1")
 
     def location(self, cell):
-        self.add("LOC", draw_one(self.draw, "147", ["147", "9"]), [spelt_cell(self.draw, cell), "", "5"])
+        self.add(
+            "LOC", draw_one(self.draw, "147", ["147", "9"]), [spelt_cell(self.draw, cell), "", "5"]
+        )
 
     def container(self, name):
-        self.add("EQD", self.draw.choice(("CN", "")), [name, "x"][: self.draw.choice((1, 1, 2))], "22G1")
+        self.add(
+            "EQD", self.draw.choice(("CN", "")), [name, "x"][: self.draw.choice((1, 1, 2))], "22G1"
+        )
 
     def measure(self, mass):
-        """One or both masses; only the verified one counts where it is there, and of several of a kind the first."""
+        """One or both masses; only the verified one counts where it is there, and of several of a
+        kind the first."""
         draw = self.draw
         kind = draw.choice(("VGM", "WT", "WT", "both"))
         if kind == "both":

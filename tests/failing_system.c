@@ -1,7 +1,9 @@
-/* A system that notes the threads that are started, and that can't open or read a file. tests/program.d/system preloads it into the program.
+/* A system that notes the threads that are started, and that can't open or read a file.
+   tests/program.d/system preloads it into the program.
 
-   Each start of a thread is a byte on descriptor 9, where that is open. A file whose name ends as FAILS says can't be opened where FAILS_TO_OPEN has the
-   number of an error, which is then the reason, and can't be read where FAILS_TO_READ has one. */
+   Each start of a thread is a byte on descriptor 9, where that is open. A file whose name ends as
+   FAILS says can't be opened where FAILS_TO_OPEN has the number of an error, which is then the
+   reason, and can't be read where FAILS_TO_READ has one. */
 #define _GNU_SOURCE
 #include <dlfcn.h>
 #include <errno.h>
@@ -26,7 +28,8 @@ static int error_in(const char *name) {
 }
 
 __attribute__((constructor)) static void find_calls(void) {
-    real_create = (int (*)(pthread_t *, const pthread_attr_t *, void *(*)(void *), void *))dlsym(RTLD_NEXT, "pthread_create");
+    real_create = (int (*)(pthread_t *, const pthread_attr_t *, void *(*)(void *), void *))dlsym(
+        RTLD_NEXT, "pthread_create");
     real_open = (int (*)(const char *, int, ...))dlsym(RTLD_NEXT, "open");
     real_read = (ssize_t(*)(int, void *, size_t))dlsym(RTLD_NEXT, "read");
     name_end = getenv("FAILS");
@@ -40,7 +43,8 @@ static int is_named(const char *path) {
     return !strcmp(path + strlen(path) - strlen(name_end), name_end);
 }
 
-int pthread_create(pthread_t *thread, const pthread_attr_t *attributes, void *(*routine)(void *), void *argument) {
+int pthread_create(pthread_t *thread, const pthread_attr_t *attributes, void *(*routine)(void *),
+                   void *argument) {
     ssize_t noted = write(9, "x", 1);
     (void)noted;
     return real_create(thread, attributes, routine, argument);

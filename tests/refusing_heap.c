@@ -1,14 +1,19 @@
-/* A heap that refuses one growth. tests/program.d/growths preloads it into crates/memory_trials, whose watch.rt names the growth, and into the program
-   itself.
+/* A heap that refuses one growth. tests/program.d/growths preloads it into crates/memory_trials,
+   whose watch.rt names the growth, and into the program itself.
 
-   The program is run again and again, in a process of its own each time, where REFUSED says "growths" or "starts": once with ample memory, and then with
-   its first growth of all threads together, or start of a thread, refused, with its second, and so on, until none is. Each run in which one was refused has
-   to end with status 4 and the line "no memory", and may have written nothing but answers to edits. One that doesn't is told, with status 70. If all do, what the run with ample memory wrote is written, and its status is given; and to descriptor 9 how many were refused. The last run,
-   in which none was refused, has to write the same.
+   The program is run again and again, in a process of its own each time, where REFUSED says
+   "growths" or "starts": once with ample memory, and then with its first growth of all threads
+   together, or start of a thread, refused, with its second, and so on, until none is. Each run in
+   which one was refused has to end with status 4 and the line "no memory", and may have written
+   nothing but answers to edits. One that doesn't is told, with status 70. If all do, what the run
+   with ample memory wrote is written, and its status is given; and to descriptor 9 how many were
+   refused. The last run, in which none was refused, has to write the same.
 
-   For memory_trials requests of two kinds of sizes, which no heap can meet, are messages. ARM + (thread << 24) + growth: from now on this growth of this thread is refused,
-   the thread that asks being 0 and those that are started since then 1, 2 and so on; for thread 255 the start of this number is refused. ASK:
-   answered with a block where a growth was refused since then, with none where not. What a start itself asks for isn't counted. */
+   For memory_trials requests of two kinds of sizes, which no heap can meet, are messages. ARM +
+   (thread << 24) + growth: from now on this growth of this thread is refused, the thread that asks
+   being 0 and those that are started since then 1, 2 and so on; for thread 255 the start of this
+   number is refused. ASK: answered with a block where a growth was refused since then, with none
+   where not. What a start itself asks for isn't counted. */
 #define _GNU_SOURCE
 #include <dlfcn.h>
 #include <errno.h>
@@ -31,12 +36,14 @@ extern void *__libc_malloc(size_t size);
 extern void *__libc_realloc(void *block, size_t size);
 
 static atomic_uint armed_thread, armed_growth, refused, started;
-/* The number of this thread since growths were named, how many it has asked for, and whether it is starting another. */
+/* The number of this thread since growths were named, how many it has asked for, and whether it is
+   starting another. */
 static _Thread_local unsigned number, asked;
 static _Thread_local int is_starting;
 
-/* The growth and the start that are refused to this process, or 0; how many growths all of its threads have asked for; and whether one of either was refused,
-   in memory that it shares with the process that looks at it. */
+/* The growth and the start that are refused to this process, or 0; how many growths all of its
+   threads have asked for; and whether one of either was refused, in memory that it shares with the
+   process that looks at it. */
 static unsigned named, named_start;
 static atomic_uint asked_by_all;
 static atomic_uint *was_refused;
@@ -116,7 +123,8 @@ struct run {
     int status, out, err;
 };
 
-/* Runs the program in a process of its own, and waits for its end. There it returns, with nothing of the run. */
+/* Runs the program in a process of its own, and waits for its end. There it returns, with nothing
+   of the run. */
 static int run_with(unsigned growth, unsigned start, struct run *run) {
     run->out = memfd_create("out", 0);
     run->err = memfd_create("err", 0);
@@ -145,9 +153,10 @@ static char *text_in(int file, size_t *size) {
     return text;
 }
 
-/* Whether a text is the front of another, and one that the command may leave: none, lines of answers to edits, or the first lines of a
-   table or of a session. */
-static int is_front(const char *command, const char *text, size_t size, const char *whole, size_t all) {
+/* Whether a text is the front of another, and one that the command may leave: none, lines of
+   answers to edits, or the first lines of a table or of a session. */
+static int is_front(const char *command, const char *text, size_t size, const char *whole,
+                    size_t all) {
     if (size > all || memcmp(text, whole, size) != 0)
         return 0;
     if (strcmp(command, "table") == 0 || strcmp(command, "session") == 0)
@@ -165,7 +174,8 @@ static void end(int status) {
     _exit(status);
 }
 
-/* Runs the program with each growth or start refused in turn. It returns in the process of each run, and in no other. */
+/* Runs the program with each growth or start refused in turn. It returns in the process of each
+   run, and in no other. */
 static void refuse_each(int is_start, const char *command) {
     struct run run;
     size_t all, all_err, size, size_err;
@@ -178,10 +188,13 @@ static void refuse_each(int is_start, const char *command) {
             return;
         char *out = text_in(run.out, &size), *err = text_in(run.err, &size_err);
         int is_last = !atomic_load(was_refused);
-        int is_right = is_last ? run.status == status && size == all && memcmp(out, whole, all) == 0 && strcmp(err, whole_err) == 0
-                               : run.status == 4 && strcmp(err, "no memory\n") == 0 && is_front(command, out, size, whole, all);
+        int is_right = is_last ? run.status == status && size == all &&
+                                     memcmp(out, whole, all) == 0 && strcmp(err, whole_err) == 0
+                               : run.status == 4 && strcmp(err, "no memory\n") == 0 &&
+                                     is_front(command, out, size, whole, all);
         if (!is_right) {
-            fprintf(stderr, "with %u refused: status %d: %.300s%.300s\n", number, run.status, err, out);
+            fprintf(stderr, "with %u refused: status %d: %.300s%.300s\n", number, run.status, err,
+                    out);
             end(70);
         }
         if (is_last) {
@@ -197,14 +210,17 @@ static void refuse_each(int is_start, const char *command) {
 
 /* Before main, since looking up a name may ask for memory. */
 __attribute__((constructor)) static void begin(int count, char **words) {
-    create = (int (*)(pthread_t *, const pthread_attr_t *, void *(*)(void *), void *))dlsym(RTLD_NEXT, "pthread_create");
+    create = (int (*)(pthread_t *, const pthread_attr_t *, void *(*)(void *), void *))dlsym(
+        RTLD_NEXT, "pthread_create");
     const char *what = getenv("REFUSED");
-    was_refused = mmap(NULL, sizeof *was_refused, PROT_READ | PROT_WRITE, MAP_SHARED | MAP_ANONYMOUS, -1, 0);
+    was_refused = mmap(NULL, sizeof *was_refused, PROT_READ | PROT_WRITE,
+                       MAP_SHARED | MAP_ANONYMOUS, -1, 0);
     if (what != NULL)
         refuse_each(strcmp(what, "starts") == 0, count > 1 ? words[1] : "");
 }
 
-int pthread_create(pthread_t *thread, const pthread_attr_t *attributes, void *(*routine)(void *), void *argument) {
+int pthread_create(pthread_t *thread, const pthread_attr_t *attributes, void *(*routine)(void *),
+                   void *argument) {
     unsigned mine = atomic_fetch_add(&started, 1) + 1;
     if (atomic_load(&armed_thread) == STARTS && atomic_load(&armed_growth) == mine) {
         atomic_store(&refused, 1);

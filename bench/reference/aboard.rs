@@ -35,7 +35,13 @@ impl<'a> Aboard<'a> {
     /// The blocks of the light ship, the fillings and the containers.
     pub fn bodies(&self) -> Vec<Body> {
         let containers = self.containers.values().map(|item| self.body(item));
-        self.ship.blocks.iter().copied().chain(self.fillings.values().copied()).chain(containers).collect()
+        self.ship
+            .blocks
+            .iter()
+            .copied()
+            .chain(self.fillings.values().copied())
+            .chain(containers)
+            .collect()
     }
 
     /// What each step changes, in their order.
@@ -57,7 +63,13 @@ impl<'a> Aboard<'a> {
                 Ok(Change { word: format!("D{cell}"), out: Some(self.body(&item)), put: None })
             }
             Step::Fill { tank, mass } => {
-                let visible = tank.iter().map(|byte| if (33..=126).contains(byte) { char::from(*byte) } else { '?' });
+                let visible = tank.iter().map(|byte| {
+                    if (33..=126).contains(byte) {
+                        char::from(*byte)
+                    } else {
+                        '?'
+                    }
+                });
                 let word = format!("T{}", visible.collect::<String>());
                 let (out, put) = self.fill(&tank, mass)?;
                 Ok(Change { word, out, put: Some(put) })
@@ -83,7 +95,10 @@ impl<'a> Aboard<'a> {
         }
         // A cell of 40 feet meets the next one of 40 feet, two bays on.
         let neighbours = (cell.bay - 2..=cell.bay + 2).map(|bay| Cell { bay, ..cell });
-        if neighbours.into_iter().any(|other| other.overlaps(cell) && self.containers.contains_key(&other)) {
+        if neighbours
+            .into_iter()
+            .any(|other| other.overlaps(cell) && self.containers.contains_key(&other))
+        {
             return refuse("the cell is taken, or another container overlaps");
         }
         let body = self.body(&item);
@@ -101,7 +116,10 @@ impl<'a> Aboard<'a> {
 
     /// Gives what the tank held before, if it held anything, and what it holds now.
     fn fill(&mut self, tank: &[u8], mass: i128) -> Answer<(Option<Body>, Body)> {
-        let filling = self.ship.filling(tank, mass).ok_or("the ship hasn't the tank, or its table hasn't the mass")?;
+        let filling = self
+            .ship
+            .filling(tank, mass)
+            .ok_or("the ship hasn't the tank, or its table hasn't the mass")?;
         Ok((self.fillings.insert(tank.to_vec(), filling), filling))
     }
 }

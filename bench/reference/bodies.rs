@@ -21,8 +21,14 @@ impl Cell {
         if !text.iter().all(u8::is_ascii_digit) {
             return None;
         }
-        let number = |from: usize, to: usize| text[from..to].iter().fold(0, |sum, digit| 10 * sum + i32::from(digit - b'0'));
-        Some(Cell { bay: number(0, 3 - short), row: number(3 - short, 5 - short), tier: number(5 - short, 7 - short) })
+        let number = |from: usize, to: usize| {
+            text[from..to].iter().fold(0, |sum, digit| 10 * sum + i32::from(digit - b'0'))
+        };
+        Some(Cell {
+            bay: number(0, 3 - short),
+            row: number(3 - short, 5 - short),
+            tier: number(5 - short, 7 - short),
+        })
     }
 
     /// The first and the last bay that it stands over: an even bay stands over both its neighbours.
@@ -37,7 +43,10 @@ impl Cell {
     pub fn overlaps(self, other: Cell) -> bool {
         let (after, fore) = self.span();
         let (other_after, other_fore) = other.span();
-        self.row == other.row && self.tier == other.tier && after <= other_fore && other_after <= fore
+        self.row == other.row
+            && self.tier == other.tier
+            && after <= other_fore
+            && other_after <= fore
     }
 }
 
@@ -74,13 +83,17 @@ impl Body {
         } else if frame >= x + half {
             (self.mass, self.mass * (frame - x))
         } else {
-            ((self.mass * reach).div_euclid(2 * half), (self.mass * reach * reach).div_euclid(4 * half))
+            (
+                (self.mass * reach).div_euclid(2 * half),
+                (self.mass * reach * reach).div_euclid(4 * half),
+            )
         }
     }
 }
 
-/// What bodies add up to: mass in kg, moments about the after perpendicular, the centre line and the keel in kg mm, free surface moments
-/// in kg mm, and for each frame the mass aft of it and that mass's moment about it.
+/// What bodies add up to: mass in kg, moments about the after perpendicular, the centre line and
+/// the keel in kg mm, free surface moments in kg mm, and for each frame the mass aft of it and that
+/// mass's moment about it.
 #[derive(Clone)]
 pub struct Totals {
     pub mass: i128,
@@ -93,7 +106,14 @@ pub struct Totals {
 
 impl Totals {
     pub fn none(frames: &[i128]) -> Totals {
-        Totals { mass: 0, along: 0, across: 0, up: 0, free_surfaces: 0, aft: vec![(0, 0); frames.len()] }
+        Totals {
+            mass: 0,
+            along: 0,
+            across: 0,
+            up: 0,
+            free_surfaces: 0,
+            aft: vec![(0, 0); frames.len()],
+        }
     }
 
     /// One body, with the x of the frames.

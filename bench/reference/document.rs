@@ -1,4 +1,5 @@
-//! A reader of TOML documents: it takes every document that keeps the rules of TOML, and doesn't look for breaches of them.
+//! A reader of TOML documents: it takes every document that keeps the rules of TOML, and doesn't
+//! look for breaches of them.
 
 use crate::{refuse, Answer};
 use std::collections::BTreeMap;
@@ -139,7 +140,10 @@ impl Reader {
 
     fn bare_key(&mut self) -> Answer<String> {
         let begin = self.at;
-        while self.next().is_some_and(|letter| letter.is_ascii_alphanumeric() || letter == '_' || letter == '-') {
+        while self
+            .next()
+            .is_some_and(|letter| letter.is_ascii_alphanumeric() || letter == '_' || letter == '-')
+        {
             self.at += 1;
         }
         if self.at == begin {
@@ -193,7 +197,12 @@ impl Reader {
     }
 
     /// Reads items with commas between them, up to the bracket that closes them.
-    fn items(&mut self, close: &str, unclosed: &'static str, mut item: impl FnMut(&mut Self) -> Answer<()>) -> Answer<()> {
+    fn items(
+        &mut self,
+        close: &str,
+        unclosed: &'static str,
+        mut item: impl FnMut(&mut Self) -> Answer<()>,
+    ) -> Answer<()> {
         loop {
             self.skip_lines();
             if self.take(close) {
@@ -248,7 +257,8 @@ impl Reader {
         Ok(text)
     }
 
-    /// A string of several lines, behind its opening quotes; up to two quotes may stand before the closing three.
+    /// A string of several lines, behind its opening quotes; up to two quotes may stand before the
+    /// closing three.
     fn long_string(&mut self, quote: char) -> Answer<String> {
         let _ = self.take("\r\n") || self.take("\n");
         let closing = quote.to_string().repeat(3);
@@ -304,7 +314,8 @@ impl Reader {
     }
 }
 
-/// A whole number as TOML writes it: with a sign or not, in the base 10, 16, 8 or 2, `_` between digits.
+/// A whole number as TOML writes it: with a sign or not, in the base 10, 16, 8 or 2, `_` between
+/// digits.
 fn integer(word: &str) -> Option<i128> {
     let plain = word.replace('_', "");
     let based = [("0x", 16), ("0o", 8), ("0b", 2)];

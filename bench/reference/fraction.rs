@@ -46,7 +46,8 @@ impl Table {
         if argument < self.rows[0][0] {
             return None;
         }
-        // The first row whose argument isn't below this one; the first interval also has its own beginning.
+        // The first row whose argument isn't below this one; the first interval also has its own
+        // beginning.
         let above = self.rows.partition_point(|row| row[0] < argument).max(1);
         let high = self.rows.get(above)?;
         Some(Between { low: &self.rows[above - 1], high, at: argument })
@@ -54,7 +55,8 @@ impl Table {
 }
 
 impl Between<'_> {
-    /// The value of a column, on the straight line between both rows. All columns have the same denominator.
+    /// The value of a column, on the straight line between both rows. All columns have the same
+    /// denominator.
     pub fn value(&self, column: usize) -> Fraction {
         let (x0, y0) = (self.low[0], self.low[column]);
         let (x1, y1) = (self.high[0], self.high[column]);

@@ -1,4 +1,5 @@
-//! The interchange of a message (ISO 9735): its characters, its segments, and what its envelope asks for.
+//! The interchange of a message (ISO 9735): its characters, its segments, and what its envelope
+//! asks for.
 
 use crate::{refuse, Answer};
 use std::borrow::Cow;
@@ -23,10 +24,13 @@ impl<'a> Segment<'a> {
         pieces(self.spelt, self.characters.element, self.characters.release)
     }
 
-    /// A component, without release characters; one that isn't there is empty. Elements are numbered from that of the tag, which is 0.
+    /// A component, without release characters; one that isn't there is empty. Elements are
+    /// numbered from that of the tag, which is 0.
     pub fn component(&self, element: usize, component: usize) -> Cow<'a, [u8]> {
         let element = self.elements().nth(element).unwrap_or(&[]);
-        let spelt = pieces(element, self.characters.component, self.characters.release).nth(component).unwrap_or(&[]);
+        let spelt = pieces(element, self.characters.component, self.characters.release)
+            .nth(component)
+            .unwrap_or(&[]);
         literal(spelt, self.characters.release)
     }
 
@@ -35,7 +39,9 @@ impl<'a> Segment<'a> {
     }
 
     fn is_lawful(&self) -> bool {
-        let short = |element| pieces(element, self.characters.component, self.characters.release).count() <= 64;
+        let short = |element| {
+            pieces(element, self.characters.component, self.characters.release).count() <= 64
+        };
         !self.tag().is_empty() && self.elements().count() <= 64 && self.elements().all(short)
     }
 }
@@ -90,7 +96,13 @@ pub struct Message<'a> {
 
 pub fn open<'a>(text: &'a [u8], name: &[u8]) -> Answer<Message<'a>> {
     let mut text = skip_blanks(text);
-    let mut characters = Characters { component: b':', element: b'+', decimal_mark: b'.', release: Some(b'?'), terminator: b'\'' };
+    let mut characters = Characters {
+        component: b':',
+        element: b'+',
+        decimal_mark: b'.',
+        release: Some(b'?'),
+        terminator: b'\'',
+    };
     if let Some(advice) = text.strip_prefix(b"UNA") {
         characters = advised(advice)?;
         text = &advice[6..];
@@ -119,13 +131,22 @@ fn advised(advice: &[u8]) -> Answer<Characters> {
         return refuse("the text ends in UNA");
     }
     let release = if advice[3] == b' ' { None } else { Some(advice[3]) };
-    let marks: Vec<u8> = [Some(advice[0]), Some(advice[1]), Some(advice[5]), release].into_iter().flatten().collect();
+    let marks: Vec<u8> = [Some(advice[0]), Some(advice[1]), Some(advice[5]), release]
+        .into_iter()
+        .flatten()
+        .collect();
     for (i, mark) in marks.iter().enumerate() {
         if marks[..i].contains(mark) || mark.is_ascii_alphanumeric() || b"\r\n\t ".contains(mark) {
             return refuse("the characters of UNA can't serve");
         }
     }
-    Ok(Characters { component: advice[0], element: advice[1], decimal_mark: advice[2], release, terminator: advice[5] })
+    Ok(Characters {
+        component: advice[0],
+        element: advice[1],
+        decimal_mark: advice[2],
+        release,
+        terminator: advice[5],
+    })
 }
 
 /// Splits a text into its segments up to `UNZ`, behind which only blanks stand.
@@ -163,10 +184,15 @@ fn check_trailers(segments: &[Segment]) -> Answer<()> {
         return refuse("UNT doesn't stand before UNZ alone");
     }
     let count = trailer.component(1, 0);
-    if count.len() > 10 || digits(&count) != Some(segments.len() as u64 - 2) || digits(&end.component(1, 0)) != Some(1) {
+    if count.len() > 10
+        || digits(&count) != Some(segments.len() as u64 - 2)
+        || digits(&end.component(1, 0)) != Some(1)
+    {
         return refuse("a count is wrong");
     }
-    if trailer.component(2, 0) != segments[1].component(1, 0) || end.component(2, 0) != segments[0].component(5, 0) {
+    if trailer.component(2, 0) != segments[1].component(1, 0)
+        || end.component(2, 0) != segments[0].component(5, 0)
+    {
         return refuse("a reference is wrong");
     }
     Ok(())
@@ -177,5 +203,9 @@ pub fn digits(text: &[u8]) -> Option<u64> {
     if text.is_empty() || !text.iter().all(u8::is_ascii_digit) {
         return None;
     }
-    Some(text.iter().fold(0, |sum: u64, digit| sum.saturating_mul(10).saturating_add(u64::from(digit - b'0'))))
+    Some(
+        text.iter().fold(0, |sum: u64, digit| {
+            sum.saturating_mul(10).saturating_add(u64::from(digit - b'0'))
+        }),
+    )
 }

@@ -102,10 +102,17 @@ fn failed(ship: &Ship, exact: &Exact) -> Option<&'static str> {
         ("C7", exact.floating.list.is_some_and(|list| list.within(ship.list_max))),
         (
             "C8",
-            exact.aft.at_most(ship.draught_max) && exact.forward.at_most(ship.draught_max) && exact.floating.trim.within(ship.trim_max),
+            exact.aft.at_most(ship.draught_max)
+                && exact.forward.at_most(ship.draught_max)
+                && exact.floating.trim.within(ship.trim_max),
         ),
         ("C9", loads().all(|((shear, _), limits)| shear.abs() <= limits.shear)),
-        ("C10", loads().all(|((_, bending), limits)| *bending <= limits.hogging && *bending >= -limits.sagging)),
+        (
+            "C10",
+            loads().all(|((_, bending), limits)| {
+                *bending <= limits.hogging && *bending >= -limits.sagging
+            }),
+        ),
         ("C11", exact.least_height.is_none_or(is_high_enough)),
     ];
     criteria.iter().find(|(_, holds)| !holds).map(|(code, _)| *code)

@@ -1,5 +1,5 @@
-//! The plain reference: `loadseq check` and `loadseq first` for inputs that are accepted, straight from the definitions, on exact whole
-//! numbers of 128 bits. `bench/README.md` says what it is for.
+//! The plain reference: `loadseq check` and `loadseq first` for inputs that are accepted, straight
+//! from the definitions, on exact whole numbers of 128 bits. `bench/README.md` says what it is for.
 //!
 //! Built by `rustc --edition 2021 -O -o OUT bench/reference/main.rs`.
 
@@ -45,10 +45,12 @@ struct Words {
     phases: bool,
 }
 
-const USAGE: &str = "usage: reference check|first FOLDER BAPLIE MOVINS [--steps FILE] [--workers N] [--chunk N] [--phases]";
+const USAGE: &str = "usage: reference check|first FOLDER BAPLIE MOVINS \
+    [--steps FILE] [--workers N] [--chunk N] [--phases]";
 
 impl Words {
-    /// None where the words are no command. Numbers of workers and lengths of chunks change nothing, and are skipped.
+    /// None where the words are no command. Numbers of workers and lengths of chunks change
+    /// nothing, and are skipped.
     fn read() -> Option<Words> {
         let mut plain = Vec::new();
         let mut steps = None;

@@ -1,4 +1,5 @@
-//! What messages say: the items of a bay plan, the lifts of a movement instruction, the steps of a steps file.
+//! What messages say: the items of a bay plan, the lifts of a movement instruction, the steps of a
+//! steps file.
 
 use crate::bodies::Cell;
 use crate::interchange::{self, digits, Message, Segment};
@@ -66,7 +67,8 @@ pub fn lifts(text: &[u8]) -> Answer<Vec<Step>> {
     Ok(lifts)
 }
 
-/// The groups of a message. Where a handling is given, it holds for all of them; else those that the message orders.
+/// The groups of a message. Where a handling is given, it holds for all of them; else those that
+/// the message orders.
 fn groups<'a>(message: &'a Message<'a>, given: Option<Handling>) -> Answer<Vec<Group<'a>>> {
     let mut groups: Vec<Group> = Vec::new();
     let mut handling = given;
@@ -84,7 +86,13 @@ fn groups<'a>(message: &'a Message<'a>, given: Option<Handling>) -> Answer<Vec<G
             }
             (b"LOC", b"147") => {
                 let handling = handling.ok_or("no handling stands before a group")?;
-                groups.push(Group { handling, location: segment, container: None, verified: None, gross: None });
+                groups.push(Group {
+                    handling,
+                    location: segment,
+                    container: None,
+                    verified: None,
+                    gross: None,
+                });
                 in_group = true;
             }
             (tag, qualifier) if in_group => {
@@ -109,11 +117,13 @@ fn groups<'a>(message: &'a Message<'a>, given: Option<Handling>) -> Answer<Vec<G
 
 impl Group<'_> {
     fn cell(&self) -> Answer<Cell> {
-        Ok(Cell::read(&self.location.component(2, 0)).ok_or("a location isn't six or seven digits")?)
+        Ok(Cell::read(&self.location.component(2, 0))
+            .ok_or("a location isn't six or seven digits")?)
     }
 
     fn name(&self) -> Answer<Vec<u8>> {
-        let name = self.container.map_or(Vec::new(), |container| container.component(2, 0).into_owned());
+        let name =
+            self.container.map_or(Vec::new(), |container| container.component(2, 0).into_owned());
         if name.len() > 17 {
             return refuse("an identification is too long");
         }
@@ -138,7 +148,8 @@ impl Group<'_> {
 
 /// Digits, and optionally a mark and further digits. A fraction that isn't zero rounds up.
 fn mass(text: &[u8], decimal_mark: u8) -> Answer<i128> {
-    let is_mark = |byte: &u8| !byte.is_ascii_digit() && (b".,".contains(byte) || *byte == decimal_mark);
+    let is_mark =
+        |byte: &u8| !byte.is_ascii_digit() && (b".,".contains(byte) || *byte == decimal_mark);
     let (whole, fraction) = match text.iter().position(is_mark) {
         Some(at) => (&text[..at], &text[at + 1..]),
         None => (text, &[][..]),
@@ -167,16 +178,20 @@ pub fn steps(text: &[u8], lifts: &[Step]) -> Answer<Vec<Step>> {
         let cell = |i: usize| Cell::read(field(i)).ok_or("a cell isn't six or seven digits");
         steps.push(match field(0) {
             b"lift" if field(2).is_empty() && field(3).is_empty() => {
-                let lift = usize::try_from(number(field(1))? - 1).or(refuse("there is no such lift"))?;
+                let lift =
+                    usize::try_from(number(field(1))? - 1).or(refuse("there is no such lift"))?;
                 if lift >= lifts.len() || std::mem::replace(&mut done[lift], true) {
                     return refuse("there is no such lift, or it stands twice");
                 }
                 lifts[lift].clone()
             }
-            b"tank" if (1..=16).contains(&field(1).len()) && field(3).is_empty() => {
-                Step::Fill { tank: field(1).to_vec(), mass: number_within(field(2), 0, 1_000_000_000)? }
+            b"tank" if (1..=16).contains(&field(1).len()) && field(3).is_empty() => Step::Fill {
+                tank: field(1).to_vec(),
+                mass: number_within(field(2), 0, 1_000_000_000)?,
+            },
+            b"restow" if field(3).len() <= 17 => {
+                Step::Restow { from: cell(1)?, to: cell(2)?, name: field(3).to_vec() }
             }
-            b"restow" if field(3).len() <= 17 => Step::Restow { from: cell(1)?, to: cell(2)?, name: field(3).to_vec() },
             _ => return refuse("a step is none of the three kinds"),
         });
     }

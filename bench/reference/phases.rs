@@ -29,6 +29,10 @@ impl Phases {
         for (name, time) in &self.times {
             eprintln!("{name:24} {:10.1}", milliseconds(*time));
         }
-        eprintln!("{:24} {:10.1}", "all", milliseconds(self.times.iter().map(|(_, time)| *time).sum()));
+        eprintln!(
+            "{:24} {:10.1}",
+            "all",
+            milliseconds(self.times.iter().map(|(_, time)| *time).sum())
+        );
     }
 }

@@ -79,7 +79,12 @@ impl Ship {
             fills: read_fills(&document)?,
             cells: read_cells(&files.cells, &stations)?,
             hydrostatics: read_table(&files.hydrostatics, &hydro, 200, GAP)?,
-            cross_curves: read_table(&files.cross_curves, &[vec![mass], vec![height; 13]].concat(), 64, GAP)?,
+            cross_curves: read_table(
+                &files.cross_curves,
+                &[vec![mass], vec![height; 13]].concat(),
+                64,
+                GAP,
+            )?,
             bonjean: read_table(&files.bonjean, &areas, 64, DRAUGHT)?,
             tanks: read_tanks(&files.tanks, &stations)?,
             least_heights: match &files.least_heights {
@@ -91,18 +96,25 @@ impl Ship {
             limits,
         };
         for (i, (tank, _)) in ship.fills.iter().enumerate() {
-            if !ship.tanks.contains_key(tank) || ship.fills[..i].iter().any(|(other, _)| other == tank) {
+            if !ship.tanks.contains_key(tank)
+                || ship.fills[..i].iter().any(|(other, _)| other == tank)
+            {
                 return refuse("a fill names no tank, or one that is filled already");
             }
         }
         Ok(ship)
     }
 
-    /// The filling of a tank, where its table has the mass. Its place and free surface moment are rounded down.
+    /// The filling of a tank, where its table has the mass. Its place and free surface moment are
+    /// rounded down.
     pub fn filling(&self, tank: &[u8], mass: i128) -> Option<Body> {
         let record = self.tanks.get(tank)?.at(mass)?;
         let value = |column| record.value(column).floor();
-        Some(Body { mass, place: Place { x: value(1), y: value(2), z: value(3), half: value(4) }, free_surface: value(5) })
+        Some(Body {
+            mass,
+            place: Place { x: value(1), y: value(2), z: value(3), half: value(4) },
+            free_surface: value(5),
+        })
     }
 }
 
@@ -114,7 +126,12 @@ fn whole(table: &Entries, key: &str, least: i128, greatest: i128) -> Answer<i128
 }
 
 /// The elements of an array, none where it may be missing and is.
-fn elements<'a>(document: &'a Entries, key: &str, least: usize, greatest: usize) -> Answer<&'a [Value]> {
+fn elements<'a>(
+    document: &'a Entries,
+    key: &str,
+    least: usize,
+    greatest: usize,
+) -> Answer<&'a [Value]> {
     let values: &[Value] = match document.get(key) {
         Some(Value::Array(values)) => values,
         None if least == 0 => &[],
@@ -126,7 +143,12 @@ fn elements<'a>(document: &'a Entries, key: &str, least: usize, greatest: usize)
     Ok(values)
 }
 
-fn tables<'a>(document: &'a Entries, key: &str, least: usize, greatest: usize) -> Answer<Vec<&'a Entries>> {
+fn tables<'a>(
+    document: &'a Entries,
+    key: &str,
+    least: usize,
+    greatest: usize,
+) -> Answer<Vec<&'a Entries>> {
     let table = |value: &'a Value| match value {
         Value::Table(table) => Ok(table),
         _ => refuse("an element of ship.toml is no table"),
@@ -139,7 +161,10 @@ fn read_stations(document: &Entries) -> Answer<Vec<i128>> {
         Value::Integer(x) => within(*x, -LENGTH, LENGTH),
         _ => refuse("a station is no whole number"),
     };
-    let stations = elements(document, "stations_mm", 2, 64)?.iter().map(station).collect::<Answer<Vec<i128>>>()?;
+    let stations = elements(document, "stations_mm", 2, 64)?
+        .iter()
+        .map(station)
+        .collect::<Answer<Vec<i128>>>()?;
     rising(&stations, 2 * LENGTH)?;
     Ok(stations)
 }
@@ -163,8 +188,17 @@ fn placed(place: Place, stations: &[i128]) -> Answer<Place> {
 fn read_blocks(document: &Entries, stations: &[i128]) -> Answer<Vec<Body>> {
     let block = |table: &Entries| {
         let length = |key| whole(table, key, -LENGTH, LENGTH);
-        let place = Place { x: length("x_mm")?, y: length("y_mm")?, z: length("z_mm")?, half: whole(table, "half_mm", 0, LENGTH)? };
-        Ok(Body { mass: whole(table, "kg", 1, MASS)?, place: placed(place, stations)?, free_surface: 0 })
+        let place = Place {
+            x: length("x_mm")?,
+            y: length("y_mm")?,
+            z: length("z_mm")?,
+            half: whole(table, "half_mm", 0, LENGTH)?,
+        };
+        Ok(Body {
+            mass: whole(table, "kg", 1, MASS)?,
+            place: placed(place, stations)?,
+            free_surface: 0,
+        })
     };
     tables(document, "blocks", 1, 200)?.into_iter().map(block).collect()
 }
@@ -179,7 +213,11 @@ fn read_frames(document: &Entries, stations: &[i128]) -> Answer<(Vec<i128>, Vec<
         }
         frames.push(x);
         let shear = whole(table, "shear_max_kg", 0, MASS)?;
-        limits.push(Limits { shear, hogging: whole(table, "hog_max_kgmm", 0, MOMENT)?, sagging: whole(table, "sag_max_kgmm", 0, MOMENT)? });
+        limits.push(Limits {
+            shear,
+            hogging: whole(table, "hog_max_kgmm", 0, MOMENT)?,
+            sagging: whole(table, "sag_max_kgmm", 0, MOMENT)?,
+        });
     }
     rising(&frames, 2 * LENGTH)?;
     Ok((frames, limits))
@@ -207,8 +245,15 @@ fn body_of(text: &[u8], fields: usize) -> Answer<Vec<Vec<Vec<u8>>>> {
 
 /// A table of numbers, each column within its limits.
 fn read_table(text: &[u8], limits: &[(i128, i128)], greatest: usize, gap: i128) -> Answer<Table> {
-    let row = |record: Vec<Vec<u8>>| record.iter().zip(limits).map(|(field, limit)| number_within(field, limit.0, limit.1)).collect();
-    let rows = body_of(text, limits.len())?.into_iter().map(row).collect::<Answer<Vec<Vec<i128>>>>()?;
+    let row = |record: Vec<Vec<u8>>| {
+        record
+            .iter()
+            .zip(limits)
+            .map(|(field, limit)| number_within(field, limit.0, limit.1))
+            .collect()
+    };
+    let rows =
+        body_of(text, limits.len())?.into_iter().map(row).collect::<Answer<Vec<Vec<i128>>>>()?;
     as_table(rows, greatest, gap)
 }
 
@@ -224,7 +269,10 @@ fn as_table(rows: Vec<Vec<i128>>, greatest: usize, gap: i128) -> Answer<Table> {
 fn read_place(fields: &[Vec<u8>], stations: &[i128]) -> Answer<Place> {
     let length = |field: &[u8]| number_within(field, -LENGTH, LENGTH);
     let half = number_within(&fields[3], 0, LENGTH)?;
-    placed(Place { x: length(&fields[0])?, y: length(&fields[1])?, z: length(&fields[2])?, half }, stations)
+    placed(
+        Place { x: length(&fields[0])?, y: length(&fields[1])?, z: length(&fields[2])?, half },
+        stations,
+    )
 }
 
 fn read_cells(text: &[u8], stations: &[i128]) -> Answer<HashMap<Cell, Place>> {
@@ -250,7 +298,14 @@ fn read_tanks(text: &[u8], stations: &[i128]) -> Answer<HashMap<Vec<u8>, Table>>
         }
         let place = read_place(&record[2..6], stations)?;
         let mass = number_within(&record[1], 0, MASS)?;
-        let row = vec![mass, place.x, place.y, place.z, place.half, number_within(&record[6], 0, FREE_SURFACE)?];
+        let row = vec![
+            mass,
+            place.x,
+            place.y,
+            place.z,
+            place.half,
+            number_within(&record[6], 0, FREE_SURFACE)?,
+        ];
         match rows.last_mut() {
             Some((last, of_tank)) if *last == name => of_tank.push(row),
             _ => rows.push((name, vec![row])),

@@ -7,9 +7,11 @@ use crate::phases::Phases;
 use crate::profile::Ship;
 use std::fmt::Write;
 
-const HEADING: &str = "STEP LIFT KG GM MEAN AFT FWD TRIM LIST A30 A40 A3040 GZ ANGLE CLOSE FRAMES VERDICT\n";
+const HEADING: &str =
+    "STEP LIFT KG GM MEAN AFT FWD TRIM LIST A30 A40 A3040 GZ ANGLE CLOSE FRAMES VERDICT\n";
 
-/// So many steps are added up, then judged, then written; a clock that is read for each step would count too much.
+/// So many steps are added up, then judged, then written; a clock that is read for each step would
+/// count too much.
 const BLOCK: usize = 256;
 
 /// The report's text, and whether all steps pass.
@@ -30,13 +32,16 @@ pub fn report(ship: &Ship, arrival: &[Body], changes: &[Change], phases: &mut Ph
     // Line 0 is the arrival, and line k what is aboard after step k.
     let lines: Vec<usize> = (0..=changes.len()).collect();
     for block in lines.chunks(BLOCK) {
-        let all_totals: Vec<Totals> = block.iter().map(|step| next(&mut totals, *step, changes, ship)).collect();
+        let all_totals: Vec<Totals> =
+            block.iter().map(|step| next(&mut totals, *step, changes, ship)).collect();
         phases.end("totals");
-        let judgements: Vec<Judgement> = all_totals.iter().map(|totals| judge(ship, totals)).collect();
+        let judgements: Vec<Judgement> =
+            all_totals.iter().map(|totals| judge(ship, totals)).collect();
         phases.end("judging");
         for ((step, totals), judgement) in block.iter().zip(&all_totals).zip(&judgements) {
             let word = if *step == 0 { "-" } else { &changes[step - 1].word };
-            write_line(&mut text, *step, word, totals.mass, judgement).expect("a text takes every line");
+            write_line(&mut text, *step, word, totals.mass, judgement)
+                .expect("a text takes every line");
             first = first.or(judgement.failed().map(|criterion| (*step, criterion)));
         }
         phases.end("lines");
@@ -63,7 +68,13 @@ fn next(totals: &mut Totals, step: usize, changes: &[Change], ship: &Ship) -> To
     totals.clone()
 }
 
-fn write_line(text: &mut String, step: usize, word: &str, mass: i128, judgement: &Judgement) -> std::fmt::Result {
+fn write_line(
+    text: &mut String,
+    step: usize,
+    word: &str,
+    mass: i128,
+    judgement: &Judgement,
+) -> std::fmt::Result {
     write!(text, "{step} {word} {mass} ")?;
     let figures = match judgement {
         Judgement::Outside(cause) => return writeln!(text, "OUTSIDE {cause}"),

@@ -36,14 +36,20 @@ pub fn records(text: &[u8]) -> Vec<Vec<Vec<u8>>> {
     records
 }
 
-fn end_record(records: &mut Vec<Vec<Vec<u8>>>, record: &mut Vec<Vec<u8>>, field: &mut Vec<u8>, begun: bool) {
+fn end_record(
+    records: &mut Vec<Vec<Vec<u8>>>,
+    record: &mut Vec<Vec<u8>>,
+    field: &mut Vec<u8>,
+    begun: bool,
+) {
     if begun {
         record.push(std::mem::take(field));
         records.push(std::mem::take(record));
     }
 }
 
-/// Reads what stands behind an opening quote; gives the place behind the closing one, or the end of the text.
+/// Reads what stands behind an opening quote; gives the place behind the closing one, or the end of
+/// the text.
 fn quoted(text: &[u8], from: usize, field: &mut Vec<u8>) -> usize {
     let mut at = from;
     while at < text.len() {
