@@ -154,7 +154,7 @@ impl Kept {
     }
 
     /// How many of them are left where an edit was made behind them: 64 edits are kept in all.
-    fn left(&self) -> u32 {
+    fn count_left(&self) -> u32 {
         self.count.min(63)
     }
 
@@ -202,7 +202,7 @@ impl Kept {
         let made = session.apply(edit_of(kind)).is_ok();
         let after = list_of(alloc, session)?;
         let back = session.undo() == Ok(true);
-        let there = self.are_there(session, self.left());
+        let there = self.are_there(session, self.count_left());
         Ok(if made && back && there {
             Some(after)
         } else {
@@ -258,7 +258,11 @@ impl<'a> Editing<'a> {
         let back = self.session.undo() == Ok(true) && self.is_before();
         let given = self.gives_back();
         let kept = self.kept;
-        edited && back && given && kept.are_there(self.session, kept.left()) && self.is_before()
+        edited
+            && back
+            && given
+            && kept.are_there(self.session, kept.count_left())
+            && self.is_before()
     }
 
     /// Gives back the room that an edit got for what searches keep, so that it asks for it the next
@@ -285,7 +289,7 @@ impl<'a> Editing<'a> {
     /// Whether it was taken back, and just the others are kept. It is made again then.
     pub fn is_taken_back(&mut self) -> bool {
         let kept = self.kept;
-        let back = self.is_before() && kept.are_there(self.session, kept.left());
+        let back = self.is_before() && kept.are_there(self.session, kept.count_left());
         let again = self.session.apply(edit_of(self.kind)).is_ok();
         back && again && self.is_after()
     }

@@ -164,7 +164,7 @@ fn steps(sequence: &Sequence) -> bool {
 }
 
 /// The two, which are independent of each other, moved past each other.
-fn shifted(sequence: &mut Sequence) -> bool {
+fn shift_first(sequence: &mut Sequence) -> bool {
     if sequence.len() != 2 {
         return false;
     }
@@ -172,7 +172,7 @@ fn shifted(sequence: &mut Sequence) -> bool {
 }
 
 /// The two exchanged.
-fn swapped(sequence: &mut Sequence) -> bool {
+fn exchange_both(sequence: &mut Sequence) -> bool {
     if sequence.len() != 2 {
         return false;
     }
@@ -180,7 +180,7 @@ fn swapped(sequence: &mut Sequence) -> bool {
 }
 
 /// The first step given another weight.
-fn weighed(sequence: &mut Sequence) -> bool {
+fn reweigh_first(sequence: &mut Sequence) -> bool {
     let Some(kg) = Kg::new(7) else {
         return false;
     };
@@ -212,7 +212,7 @@ fn cases(ground: &Ground, sequence: &Sequence) -> bool
 }
 
 /// The number at the head of a list of three, carried to its end.
-fn carried(mut list: Vec<u32>) -> bool {
+fn carry_first(mut list: Vec<u32>) -> bool {
     if list.len() != 3 {
         return false;
     }
@@ -233,8 +233,8 @@ fn calls_are_free(alloc: Global) -> Result<bool, AllocError> {
     let mut right = call.case().lines() == 3 && ground(call.ground());
     let (base, mut sequence) = call.into_parts();
     right &= cases(&base, &sequence);
-    right &= steps(&sequence) && shifted(&mut sequence) && swapped(&mut sequence);
-    right &= weighed(&mut sequence) && is_light(&sequence) && carried(list);
+    right &= steps(&sequence) && shift_first(&mut sequence) && exchange_both(&mut sequence);
+    right &= reweigh_first(&mut sequence) && is_light(&sequence) && carry_first(list);
     let free = !was_refused(alloc);
     Ok(free && right)
 }

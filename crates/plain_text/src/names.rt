@@ -3,7 +3,7 @@ use std::alloc::{AllocError, Global};
 
 /// A name of an input as the report prints it: a question mark for each byte that is no character
 /// of ASCII that can be seen, and for each blank.
-pub fn shown(alloc: Global, bytes: &[u8]) -> Result<String, AllocError> {
+pub fn shown_word(alloc: Global, bytes: &[u8]) -> Result<String, AllocError> {
     let mut text = String::new(alloc);
     for byte in bytes {
         text.push(if byte.is_ascii_graphic() {

@@ -2,7 +2,7 @@
 use crate::checks::{holds, same};
 use plain_text::{
     QUOTED, Runs, add_line, add_paragraph, add_quoted, add_wrapped, count_of, front, many, many_of,
-    path, quoted, quoted_line_is_seen, shown, shown_line,
+    path, quoted, quoted_line_is_seen, shown_line, shown_word,
 };
 use std::alloc::AllocError;
 
@@ -10,7 +10,7 @@ use std::alloc::AllocError;
 #[test]
 fn names_on_one_line(rt: HostRuntime) -> Result<(), AllocError> {
     let alloc = rt.alloc();
-    same(&rt, shown(alloc, b"A b\tc\xff")?.as_str(), "A?b?c?");
+    same(&rt, shown_word(alloc, b"A b\tc\xff")?.as_str(), "A?b?c?");
     same(&rt, shown_line(alloc, b"A b\tc\xff")?.as_str(), "A b?c?");
     same(&rt, front(alloc, "ABCDE", 3)?.as_str(), "ABC");
     same(

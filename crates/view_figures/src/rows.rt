@@ -77,7 +77,7 @@ pub(crate) fn size(fraction: Frac) -> Frac
 }
 
 /// A row of a value of the whole ship that is printed with its sign.
-fn signed(limit: Limit, reading: Reading, used: Used) -> Row {
+fn signed_row(limit: Limit, reading: Reading, used: Used) -> Row {
     Row {
         limit,
         place: 0,
@@ -94,7 +94,7 @@ fn row_at_least(limit: Limit, value: Frac, least: i64) -> Row
     requires den { unsigned_abs value.den ≤ 10 ^ 23 }
     requires least { unsigned_abs least ≤ 10 ^ 7 }
 {
-    signed(
+    signed_row(
         limit,
         at_least_whole(value, least),
         used_of(whole(least), value),
@@ -108,7 +108,7 @@ fn row_of_area(limit: Limit, sum: Frac, least: i64) -> Row
     requires least { unsigned_abs least ≤ 10 ^ 7 }
 {
     let used = used_of(whole(least), fine_area(sum));
-    signed(limit, area_reading(sum, least), used)
+    signed_row(limit, area_reading(sum, least), used)
 }
 
 /// The angle of a number, in degrees: they are 5 degrees apart.
@@ -139,7 +139,7 @@ fn row_of_peak(number: usize) -> Row
     } else {
         used_of(whole(ANGLE_LEAST), angle)
     };
-    signed(Limit::PeakAngle, reading, used)
+    signed_row(Limit::PeakAngle, reading, used)
 }
 
 /// The row of a ship without a list.
@@ -306,7 +306,7 @@ fn row_of_least_gm(gm: Frac, least: Frac) -> Row
     requires least_num { unsigned_abs least.num ≤ 10 ^ 14 }
     requires least_den { unsigned_abs least.den ≤ 10 ^ 8 }
 {
-    signed(Limit::LeastGm, at_least(gm, least), used_of(least, gm))
+    signed_row(Limit::LeastGm, at_least(gm, least), used_of(least, gm))
 }
 
 /// The frame of a load: where most of its limit is used, of several the aftermost.

@@ -10,7 +10,7 @@ use crate::places::lifts_in_call;
 use crate::records::{field, record_at};
 use indexmap::IndexMap;
 use lift_sequence::Op;
-use plain_text::{front, in_thousandths, many, shown};
+use plain_text::{front, in_thousandths, many, shown_word};
 use port_call::{Case, Inputs};
 use std::alloc::{AllocError, Global};
 use stow_messages::{Item, Lift, copy_text};
@@ -323,7 +323,7 @@ fn add_twice(
     for (id, known) in names.iter() {
         if known.aboard > 1 {
             if count == 0 {
-                let id = shown(alloc, id.as_slice())?;
+                let id = shown_word(alloc, id.as_slice())?;
                 let one = cell_text(alloc, known.first)?;
                 let other = cell_text(alloc, known.second)?;
                 first = format!(in alloc; "{id} in {one} and {other}")?;
@@ -353,7 +353,7 @@ fn add_steps(
     if let Some(OddLift { step, .. }) = odd.loaded_twice.first {
         let count = many(alloc, odd.loaded_twice.count, "load")?;
         let id = match ops.get((step as usize).wrapping_sub(1)) {
-            Some(Op::Lift(Lift::Load(item))) => shown(alloc, item.id.as_slice())?,
+            Some(Op::Lift(Lift::Load(item))) => shown_word(alloc, item.id.as_slice())?,
             _ => String::new(alloc),
         };
         let text = format!(in alloc; "{count} of an identification aboard: {id}, step {step}")?;
@@ -442,7 +442,7 @@ fn add_left(
     let Some((cell, item)) = least else {
         return Ok(());
     };
-    let id = shown(alloc, item.id.as_slice())?;
+    let id = shown_word(alloc, item.id.as_slice())?;
     let cell = cell_text(alloc, cell)?;
     let port = front(alloc, port, 12)?;
     let verb = if count == 1 { "stays" } else { "stay" };

@@ -75,12 +75,12 @@ fn entries_in(
     for segment in message.segments() {
         let kind = kind_of(&segment);
         if let Some(group) = gathering.ended_by(kind) {
-            add_entry(&mut entries, group, group.weighed(mark), port)?;
+            add_entry(&mut entries, group, group.measured_mass(mark), port)?;
         }
         gathering.add(kind, &segment);
     }
     if let Some(group) = gathering.last() {
-        add_entry(&mut entries, &group, group.weighed(mark), port)?;
+        add_entry(&mut entries, &group, group.measured_mass(mark), port)?;
     }
     Ok(entries)
 }

@@ -130,7 +130,7 @@ impl<'a> Located<'a> {
     }
 
     /// What its measurement writes, if it has one.
-    pub fn weighed(&self, mark: u8) -> Option<Weighed<'a>> {
+    pub fn measured_mass(&self, mark: u8) -> Option<Weighed<'a>> {
         let measure = self.measure()?;
         if let Some(kg) = kilograms_in_digits(&measure, mark) {
             return Some(Weighed {

@@ -1,7 +1,7 @@
 //! The messages of a run.
 use arrayvec::ArrayVec;
 use edifact_text::{Kind, Message, Raw, open};
-use plain_text::{shown, shown_line};
+use plain_text::{shown_line, shown_word};
 use port_call::Inputs;
 use std::alloc::{AllocError, Global};
 
@@ -59,7 +59,7 @@ pub fn literal(raw: Raw<'_>) -> ArrayVec<u8, LONGEST> {
 
 /// The text of a component, as the report shows names.
 pub fn raw_shown(alloc: Global, raw: Raw<'_>) -> Result<String, AllocError> {
-    shown(alloc, literal(raw).as_slice())
+    shown_word(alloc, literal(raw).as_slice())
 }
 
 /// The text of a component, on one line.

@@ -219,7 +219,7 @@ fn note_group<'a>(
     mark: u8,
     port: Option<&[u8]>,
 ) -> Result<(), AllocError> {
-    let weighed = group.weighed(mark);
+    let weighed = group.measured_mass(mark);
     odd.note(group, weighed, mark);
     add_entry(entries, group, weighed, port)
 }

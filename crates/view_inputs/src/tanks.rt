@@ -28,7 +28,7 @@ pub struct TankRows {
 
 impl TankRows {
     /// Its name on one line.
-    pub fn shown(&self, alloc: Global) -> Result<String, AllocError> {
+    pub fn name_line(&self, alloc: Global) -> Result<String, AllocError> {
         shown_line(alloc, self.name.as_slice())
     }
 

@@ -1,5 +1,5 @@
 //! Text in HTML.
-use std::alloc::{AllocError, Global};
+use std::alloc::AllocError;
 
 /// Adds a text of ASCII as HTML has it: the four characters that HTML has another use for are
 /// entities.
@@ -14,11 +14,4 @@ pub fn add_escaped(html: &mut String, text: &str) -> Result<(), AllocError> {
         }
     }
     Ok(())
-}
-
-/// A text of ASCII as HTML has it.
-pub fn escaped(alloc: Global, text: &str) -> Result<String, AllocError> {
-    let mut html = String::new(alloc);
-    add_escaped(&mut html, text)?;
-    Ok(html)
 }

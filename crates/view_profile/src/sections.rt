@@ -318,7 +318,7 @@ fn add_fill(
     let Some(tank) = parts.tank(fill.tank) else {
         return Ok(());
     };
-    let name = tank.shown(alloc)?;
+    let name = tank.name_line(alloc)?;
     let mass = tonnes(alloc, i128::from(fill.kg))?;
     let (name, mass) = (name.as_str(), mass.as_str());
     let (least, most) = tank.reach();

@@ -38,7 +38,7 @@ pub fn add_tanks(
     let mut none = Found::nothing(alloc);
     let mut far = Found::nothing(alloc);
     for tank in tanks {
-        let name = tank.shown(alloc)?;
+        let name = tank.name_line(alloc)?;
         if rises_from_none(tank) {
             let (least, _) = tank.reach();
             let least = tonnes(alloc, i128::from(least))?;
@@ -77,7 +77,7 @@ pub fn add_fills(
         let (_, most) = tank.reach();
         if kg > 0 && kg.saturating_mul(100) < most {
             if count == 0 {
-                let name = tank.shown(alloc)?;
+                let name = tank.name_line(alloc)?;
                 let mass = tonnes(alloc, i128::from(kg))?;
                 first = format!(in alloc; "{name}, {mass} t")?;
             }

@@ -6,7 +6,7 @@ use crate::hydro_checks::add_hydro;
 use crate::limit_checks::{add_alone, add_frames, add_keys, add_limits, add_sizes};
 use crate::tank_checks::{add_fills, add_tanks};
 use csv_text::number;
-use plain_text::shown;
+use plain_text::shown_word;
 use ship_profile::{Profile, ProfileBytes};
 use std::alloc::{AllocError, Global};
 use view_inputs::{CellRow, Notice, Notices, TankRows, document, record_at, tanks_in, unread_keys};
@@ -125,7 +125,7 @@ fn add_unread(
             text.push_str(", ")?;
         }
         is_first = false;
-        text.push_str(shown(alloc, name.as_slice())?.as_str())?;
+        text.push_str(shown_word(alloc, name.as_slice())?.as_str())?;
     }
     if count > 3 {
         let more = count.saturating_sub(3);

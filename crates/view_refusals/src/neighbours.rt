@@ -53,7 +53,7 @@ impl Numbers {
     }
 
     /// All of them in two digits, each behind a blank.
-    fn listed(&self, alloc: Global) -> Result<String, AllocError> {
+    fn list_text(&self, alloc: Global) -> Result<String, AllocError> {
         let mut text = String::new(alloc);
         for (number, mark) in self.marks.iter().enumerate() {
             if *mark {
@@ -89,11 +89,11 @@ pub fn bay_words(alloc: Global, rows: &[CellRow], cell: Cell) -> Result<String, 
         return Ok(text);
     }
     if !near.has(usize::from(row)) {
-        let list = near.listed(alloc)?;
+        let list = near.list_text(alloc)?;
         let text = format!(in alloc; "Bay {bay:03} has no row {row:02}; its rows are{list}.")?;
         return Ok(text);
     }
-    let list = tiers.listed(alloc)?;
+    let list = tiers.list_text(alloc)?;
     let text = format!(in alloc;
         "Bay {bay:03} row {row:02} has no tier {tier:02}; its tiers are{list}."
     )?;
@@ -136,6 +136,6 @@ pub fn tank_words(alloc: Global, tanks: &[TankRows], name: &[u8]) -> Result<Stri
     let Some(tank) = nearest else {
         return Ok(format!(in alloc; "tanks.csv has {count}.")?);
     };
-    let name = tank.shown(alloc)?;
+    let name = tank.name_line(alloc)?;
     Ok(format!(in alloc; "tanks.csv has {count}, of which \"{name}\" comes nearest.")?)
 }

@@ -5,7 +5,7 @@ use crate::neighbours::{bay_words, tank_words};
 use crate::told::{Quote, Told, more_of, tell_segment};
 use edifact_text::{Kind, segment_at};
 use lift_sequence::{Op, SeqCode, SeqFault, ops};
-use plain_text::{count_of, in_thousandths, many, shown, shown_line};
+use plain_text::{count_of, in_thousandths, many, shown_line, shown_word};
 use port_call::Inputs;
 use std::alloc::{AllocError, Global};
 use stow_messages::{Item, Lift};
@@ -21,7 +21,7 @@ fn name_words(alloc: Global, id: &[u8]) -> Result<String, AllocError> {
     if id.is_empty() {
         String::from_str(alloc, "a container without identification")
     } else {
-        shown(alloc, id)
+        shown_word(alloc, id)
     }
 }
 
@@ -272,7 +272,7 @@ fn add_meant(
     if id.is_empty() {
         return Ok(());
     }
-    let name = shown(alloc, id)?;
+    let name = shown_word(alloc, id)?;
     match cell_with(before, id) {
         Some(cell) => {
             let cell = cell_text(alloc, cell)?;

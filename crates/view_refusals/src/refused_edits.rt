@@ -1,7 +1,7 @@
 //! What is told of an edit that is refused.
 use crate::refused_cargo::{refused_place, since_words};
 use lift_sequence::{Op, SeqCode, SeqFault};
-use plain_text::{count_of, in_thousandths, shown, shown_line};
+use plain_text::{count_of, in_thousandths, shown_line, shown_word};
 use port_call::Case;
 use std::alloc::{AllocError, Global};
 use step_edits::{Edit, EditFault, edit_list, fault_of};
@@ -40,7 +40,7 @@ fn name_in_words(alloc: Global, id: &[u8]) -> Result<String, AllocError> {
     if id.is_empty() {
         String::from_str(alloc, "a container")
     } else {
-        shown(alloc, id)
+        shown_word(alloc, id)
     }
 }
 
@@ -121,7 +121,7 @@ fn empty_words(
         return Ok(text);
     }
     if let Some(other) = cell_with(alloc, items, before, id)? {
-        let id = shown(alloc, id)?;
+        let id = shown_word(alloc, id)?;
         let other = cell_text(alloc, other)?;
         write!(text, " {id} stands in {other}.")?;
     }

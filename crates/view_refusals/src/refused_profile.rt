@@ -7,7 +7,7 @@ use crate::refused_records::{
 use crate::refused_tables::{few_records, filled_twice, tell_element};
 use crate::ship_limits::{beyond_words, falling_words, few_words};
 use crate::told::{Quote, Told};
-use plain_text::{shown, shown_line};
+use plain_text::{shown_line, shown_word};
 use ship_profile::{File, Key, ProfileBytes, ProfileFault};
 use std::alloc::{AllocError, Global};
 use std::str::from_utf8;
@@ -123,7 +123,7 @@ fn unread_words(alloc: Global, text: &[u8], table: &Table) -> Result<String, All
         } else {
             ", "
         };
-        let name = shown(alloc, name.as_slice())?;
+        let name = shown_word(alloc, name.as_slice())?;
         write!(words, "{between}{name}")?;
     }
     if !words.is_empty() {

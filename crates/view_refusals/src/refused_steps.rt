@@ -4,7 +4,7 @@ use crate::told::{Told, tell_record_of};
 use csv::ByteRecord;
 use csv_text::{next_record, open_records};
 use edifact_text::Kind;
-use plain_text::{Runs, many_of, path, shown};
+use plain_text::{Runs, many_of, path, shown_word};
 use port_call::Inputs;
 use std::alloc::{AllocError, Global};
 use stow_messages::{Lift, StepsCode, StepsFault};
@@ -34,7 +34,7 @@ fn earlier_record(
 }
 
 /// Which lifts a steps file orders.
-fn ordered(alloc: Global, text: &[u8], lifts: usize) -> Result<Vec<bool>, AllocError> {
+fn ordered_lifts(alloc: Global, text: &[u8], lifts: usize) -> Result<Vec<bool>, AllocError> {
     let mut marks = Vec::with_capacity(alloc, lifts)?;
     for _ in 0..lifts {
         marks.push(false)?;
@@ -60,7 +60,7 @@ fn missing_words(alloc: Global, text: &[u8], lifts: usize) -> Result<String, All
     let mut runs = Runs::new(alloc);
     let mut count = 0u32;
     let mut number = 0u32;
-    for is_ordered in &ordered(alloc, text, lifts)? {
+    for is_ordered in &ordered_lifts(alloc, text, lifts)? {
         number = number.saturating_add(1);
         if !*is_ordered {
             runs.add(number, number)?;
@@ -81,7 +81,7 @@ fn lift_words(alloc: Global, lift: &Lift) -> Result<String, AllocError> {
     let name = if id.is_empty() {
         String::from_str(alloc, "no identification")?
     } else {
-        shown(alloc, id)?
+        shown_word(alloc, id)?
     };
     Ok(format!(in alloc; "{deed} {name}")?)
 }

@@ -125,7 +125,7 @@ pub fn few_records(alloc: Global, file: File, text: &[u8]) -> Result<String, All
     if file == File::Tanks {
         for tank in &tanks_in(alloc, text)? {
             if tank.rows.len() == 1 {
-                let name = tank.shown(alloc)?;
+                let name = tank.name_line(alloc)?;
                 return Ok(format!(in alloc; "Tank {name} has one record.")?);
             }
         }

@@ -289,7 +289,7 @@ impl Sitting {
     }
 
     /// What a line asks for that changes nothing.
-    fn told<M: Makers>(
+    fn text_for<M: Makers>(
         &self,
         alloc: Global,
         files: &mut M,
@@ -332,7 +332,7 @@ impl Sitting {
                 self.opened_from(rt, alloc, gate, files, setting, (folder, number))
             }
             _ => {
-                let text = self.told(alloc, files, setting, request, line)?;
+                let text = self.text_for(alloc, files, setting, request, line)?;
                 Ok((self, text))
             }
         }

@@ -90,7 +90,7 @@ fn tanks(rt: HostRuntime) -> Result<(), Fail> {
     let (Some(first), Some(second)) = (tanks.first(), tanks.get(1)) else {
         panic!(&rt; "there are fewer tanks")
     };
-    same(&rt, first.shown(alloc)?.as_str(), "DB 1");
+    same(&rt, first.name_line(alloc)?.as_str(), "DB 1");
     holds(&rt, first.reach() == (10, 70));
     same(&rt, first.record, 2);
     same(&rt, second.record, 4);

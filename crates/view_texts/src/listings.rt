@@ -4,7 +4,7 @@ use crate::sheets::{first_unmet, row_by};
 use crate::steps::lift_at;
 use criteria::Criterion;
 use lift_sequence::Op;
-use plain_text::{add_line, front, in_thousandths, shown};
+use plain_text::{add_line, front, in_thousandths, shown_word};
 use port_call::Case;
 use seq_report::{Lines, cause_word};
 use std::alloc::{AllocError, Global};
@@ -35,7 +35,7 @@ fn moved_texts(
     let Some(item) = moved.item(case, step as usize) else {
         return Ok(nothing);
     };
-    let id = shown(alloc, item.id.as_slice())?;
+    let id = shown_word(alloc, item.id.as_slice())?;
     let id = front(alloc, id.as_str(), ID)?;
     let tonnes = in_thousandths(alloc, i128::from(item.kg.get()))?;
     Ok((id, tonnes))

@@ -1,6 +1,6 @@
 //! What a step does, in words.
 use lift_sequence::Op;
-use plain_text::{in_thousandths, shown, shown_line};
+use plain_text::{in_thousandths, shown_line, shown_word};
 use port_call::Case;
 use std::alloc::{AllocError, Global};
 use stow_messages::Lift;
@@ -23,7 +23,7 @@ pub fn lift_text(alloc: Global, op: Option<&Op>) -> Result<String, AllocError> {
             Ok(format!(in alloc; "D{cell}")?)
         }
         Op::Fill { name, .. } => {
-            let name = shown(alloc, name.as_slice())?;
+            let name = shown_word(alloc, name.as_slice())?;
             Ok(format!(in alloc; "T{name}")?)
         }
         Op::Restow { from, to, .. } => {
@@ -60,7 +60,7 @@ fn container_words(
     let name = if item.id.is_empty() {
         String::from_str(alloc, "a container without identification")?
     } else {
-        shown(alloc, item.id.as_slice())?
+        shown_word(alloc, item.id.as_slice())?
     };
     let text = format!(in alloc; "{name}, {tonnes} t")?;
     Ok(text)
