@@ -12,7 +12,7 @@ pub const QUOTED: usize = 58;
 
 /// A byte in print: a point stands for what is no character of ASCII that can be seen, and no
 /// blank.
-fn seen(byte: u8) -> u8
+fn printable(byte: u8) -> u8
     ensures { result ≡ seen byte }
 {
     if 32 <= byte && byte <= 126 {
@@ -28,7 +28,7 @@ fn add_seen(text: &mut String, bytes: &[u8]) -> Result<(), AllocError>
         (string_bytes text.new ≡ string_bytes text.old ++ map seen bytes.now) }
 {
     for byte in bytes {
-        text.push(char::from(seen(*byte)))?;
+        text.push(char::from(printable(*byte)))?;
     }
     Ok(())
 }
@@ -57,7 +57,7 @@ fn quoted_ended(alloc: Global, bytes: &[u8], end: u8) -> Result<String, AllocErr
     let mut text = String::new(alloc);
     if bytes.len() < 58 {
         add_seen(&mut text, bytes)?;
-        text.push(char::from(seen(end)))?;
+        text.push(char::from(printable(end)))?;
         return Ok(text);
     }
     let (front, _) = bytes.split_at(56);
