@@ -25,7 +25,7 @@ static VALUES: [Last; 3] = [
 ];
 
 /// The join of this number of parts.
-fn joined(value: Option<u32>, parts: u32) -> Last
+fn last_of(value: Option<u32>, parts: u32) -> Last
     ensures { result.parts ≡ parts }
 {
     Last { value, parts }
@@ -33,7 +33,7 @@ fn joined(value: Option<u32>, parts: u32) -> Last
 
 #[test]
 fn folds(rt: HostRuntime) {
-    same(&rt, fold(&VALUES), joined(Some(3), 3));
+    same(&rt, fold(&VALUES), last_of(Some(3), 3));
     same(&rt, fold::<Last>(&[]), Last::unit());
     same(&rt, VALUES[0].size(), 1);
     same(&rt, MAX_PARTS, 1 << 19);
@@ -43,7 +43,7 @@ fn folds(rt: HostRuntime) {
 #[test]
 fn scan_and_cuts(rt: HostRuntime) -> Result<(), Fail> {
     let before = offsets(rt.alloc(), &VALUES)?;
-    let expected = [joined(None, 0), joined(Some(1), 1), joined(Some(1), 2)];
+    let expected = [last_of(None, 0), last_of(Some(1), 1), last_of(Some(1), 2)];
     same(&rt, before.as_slice(), expected.as_slice());
     Ok(())
 }
@@ -68,8 +68,8 @@ static LATER: [Last; 2] = [
 #[test]
 fn running_joins(rt: HostRuntime) {
     let mut running = Running::new(SEVEN, &LATER);
-    same(&rt, running.next(), Some(joined(Some(7), 2)));
-    same(&rt, running.next(), Some(joined(Some(3), 3)));
+    same(&rt, running.next(), Some(last_of(Some(7), 2)));
+    same(&rt, running.next(), Some(last_of(Some(3), 3)));
     same(&rt, running.next(), None);
 }
 

@@ -15,4 +15,4 @@ pub use counts::{Runs, count_of, many, many_of};
 pub use figures::{in_hundredths, in_ten_thousandths, in_tenths, in_thousandths};
 pub use names::{front, path, shown_line, shown_word};
 pub use paragraphs::{add_line, add_paragraph, add_wrapped};
-pub use quotes::{QUOTED, add_quoted, quoted, quoted_line_is_seen};
+pub use quotes::{QUOTED, add_quoted, quote, quoted_line_is_seen};

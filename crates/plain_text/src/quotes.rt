@@ -69,7 +69,7 @@ fn quoted_ended(alloc: Global, bytes: &[u8], end: u8) -> Result<String, AllocErr
 /// Bytes of an input, and behind them the terminator, if there is one, as they are quoted: on one
 /// line, in at most [`QUOTED`] columns, a point for each byte that can't be seen, and two points at
 /// the end of what is cut.
-pub fn quoted(alloc: Global, bytes: &[u8], end: Option<u8>) -> Result<String, AllocError>
+pub fn quote(alloc: Global, bytes: &[u8], end: Option<u8>) -> Result<String, AllocError>
     ensures { IfOk result (λ text. string_bytes text ≡ quoted_text (with_end bytes.now end)) }
 {
     match end {
@@ -85,7 +85,7 @@ pub fn add_quoted(
     bytes: &[u8],
     end: Option<u8>,
 ) -> Result<(), AllocError> {
-    let line = quoted(alloc, bytes, end)?;
+    let line = quote(alloc, bytes, end)?;
     text.push_str("            ")?;
     text.push_str(line.as_str())?;
     text.push_str("\n")

@@ -2,7 +2,7 @@
 use crate::checks::{holds, same};
 use plain_text::{
     QUOTED, Runs, add_line, add_paragraph, add_quoted, add_wrapped, count_of, front, many, many_of,
-    path, quoted, quoted_line_is_seen, shown_line, shown_word,
+    path, quote, quoted_line_is_seen, shown_line, shown_word,
 };
 use std::alloc::AllocError;
 
@@ -74,12 +74,12 @@ fn paragraphs(rt: HostRuntime) -> Result<(), AllocError> {
 #[test]
 fn quotes(rt: HostRuntime) -> Result<(), AllocError> {
     let alloc = rt.alloc();
-    let line = quoted(alloc, b"LOC+147\r\n\x7f+5", Some(b'\''))?;
+    let line = quote(alloc, b"LOC+147\r\n\x7f+5", Some(b'\''))?;
     same(&rt, line.as_str(), "LOC+147...+5'");
     let full = b"1234567890123456789012345678901234567890123456789012345678";
     same(&rt, full.len(), QUOTED);
-    same(&rt, quoted(alloc, full, None)?.as_bytes(), full.as_slice());
-    let cut = quoted(alloc, full, Some(b'\''))?;
+    same(&rt, quote(alloc, full, None)?.as_bytes(), full.as_slice());
+    let cut = quote(alloc, full, Some(b'\''))?;
     same(&rt, cut.len(), QUOTED);
     holds(&rt, cut.as_bytes().ends_with(b"3456.."));
     let mut text = String::new(alloc);

@@ -547,7 +547,7 @@ fn told_by(
     message: MessageText<'_>,
     port: Option<&[u8]>,
 ) -> Result<Told, AllocError> {
-    let opened = message.opened();
+    let opened = message.message();
     let identity = identity_of(alloc, opened.as_ref())?;
     let Some(opened) = opened else {
         return Ok(Told {

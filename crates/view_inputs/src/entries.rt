@@ -56,7 +56,7 @@ pub fn entries_of(
     kind: Kind,
     port: Option<&[u8]>,
 ) -> Result<Vec<Entry>, AllocError> {
-    match (MessageText { text, kind }).opened() {
+    match (MessageText { text, kind }).message() {
         Some(message) => entries_in(alloc, &message, kind, port),
         None => Ok(Vec::new(alloc)),
     }

@@ -83,7 +83,7 @@ fn or_empty(alloc: Global, text: Option<String>) -> String {
 
 /// What a message of this kind says; nothing where the text is no such message.
 pub fn identity_in(alloc: Global, text: &[u8], kind: Kind) -> Result<Identity, AllocError> {
-    identity_of(alloc, MessageText { text, kind }.opened().as_ref())
+    identity_of(alloc, MessageText { text, kind }.message().as_ref())
 }
 
 /// What a message says, if there is one.

@@ -31,7 +31,7 @@ impl<'a> MessageText<'a> {
     }
 
     /// The message, where the text is one.
-    pub fn opened(&self) -> Option<Message<'a>> {
+    pub fn message(&self) -> Option<Message<'a>> {
         open(self.text, self.kind).ok()
     }
 }

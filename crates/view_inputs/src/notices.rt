@@ -440,7 +440,7 @@ pub fn add_notices_on(
 /// The notices on a message: N1 to N11; none on a text that is no such message.
 pub fn message_notices(alloc: Global, message: MessageText<'_>) -> Result<Vec<Notice>, AllocError> {
     let mut notices = Notices::new(alloc);
-    if let Some(opened) = message.opened() {
+    if let Some(opened) = message.message() {
         let identity = identity_of(alloc, Some(&opened))?;
         let _entries = add_notices_on(alloc, &mut notices, message, &opened, &identity, None)?;
     }

@@ -1,6 +1,6 @@
 //! The curves by step: which points of each are drawn, worked out once for its chart and for the
 //! script.
-use crate::decimation::drawn;
+use crate::decimation::drawn_points;
 use crate::series::{Figure, Series, curve_of};
 use claim_run::{Gate, Job, Workers, run};
 use plain_text::count_of;
@@ -67,7 +67,7 @@ fn is_broken(figures: &[Option<i128>], before: Option<usize>, behind: usize) -> 
 fn points_of(alloc: Global, figures: &[Option<i128>]) -> Result<Vec<CurvePoint>, AllocError> {
     let mut points = Vec::new(alloc);
     let mut before = None;
-    for at in &drawn(alloc, figures)? {
+    for at in &drawn_points(alloc, figures)? {
         if let Some(Some(figure)) = figures.get(*at) {
             points.push(CurvePoint {
                 step: count_of(*at),

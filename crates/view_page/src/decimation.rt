@@ -229,7 +229,7 @@ fn stretches_drawn(alloc: Global, curve: &[Option<i128>]) -> Result<Vec<usize>, 
 /// The conditions of a curve that are drawn, in their order. Up to 1,200 conditions every one with
 /// a figure is drawn; of more, which are cut into 300 stretches, of each stretch the first and the
 /// last with a figure, and the first with the least and with the greatest figure.
-pub fn drawn(alloc: Global, curve: &[Option<i128>]) -> Result<Vec<usize>, AllocError>
+pub fn drawn_points(alloc: Global, curve: &[Option<i128>]) -> Result<Vec<usize>, AllocError>
     ensures { IfOk result (λ ks. IsDrawn curve.now ks.items) }
 {
     if curve.len() <= WHOLE {

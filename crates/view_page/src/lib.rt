@@ -3,7 +3,8 @@
 //!
 //! [`page_of`] makes it of what [`charted_in`] gives, for which workers judge each condition once:
 //! what is found of it, and the figures that are drawn ([`Series`]). Of a long list of conditions
-//! the curves show the first, the last, the least and the greatest of each stretch ([`drawn`]).
+//! the curves show the first, the last, the least and the greatest of each stretch
+//! ([`drawn_points`]).
 //!
 //! The definitions are `Series`, `Charted`, `Decimation` and `Scales` of `specs/`.
 #![tactic(auto)]
@@ -28,7 +29,7 @@ mod tight_steps;
 mod walks;
 
 pub use charted::{Charted, charted_in};
-pub use decimation::drawn;
+pub use decimation::drawn_points;
 pub use pages::{Conditions, ReadInputs, page_of};
 pub use percents::percent_of;
 pub use scales::{Height, Scale, Tenths, tick_step, x_of};

@@ -52,7 +52,7 @@ pub fn kept_of(
     first: Option<(u32, Criterion)>,
 ) -> Result<Vec<bool>, AllocError> {
     let mut kept = Vec::new(alloc);
-    for _ in 0..series.plotted().len() {
+    for _ in 0..series.figures().len() {
         kept.push(false)?;
     }
     for figure in FIGURES {

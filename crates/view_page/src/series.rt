@@ -97,7 +97,7 @@ impl Series {
     }
 
     /// The figures of the conditions.
-    pub fn plotted(&self) -> &[Option<Plotted>]
+    pub fn figures(&self) -> &[Option<Plotted>]
         ensures { result.now ≡ self.now }
     {
         &self.plotted
@@ -185,8 +185,8 @@ pub fn curve_of(
     series: &Series,
     figure: Figure,
 ) -> Result<Vec<Option<i128>>, AllocError> {
-    let mut curve = Vec::with_capacity(alloc, series.plotted().len())?;
-    for plotted in series.plotted() {
+    let mut curve = Vec::with_capacity(alloc, series.figures().len())?;
+    for plotted in series.figures() {
         curve.push(match plotted {
             Some(plotted) => plotted.figure(figure),
             None => None,

@@ -190,7 +190,7 @@ fn sheet_text(alloc: Global, lines: &Lines<'_>, step: u32) -> Result<String, Sto
 }
 
 /// What an explanation of a condition is asked to print, of what is seen of the inputs.
-fn explained(
+fn explanation_for(
     alloc: Global,
     lines: &Lines<'_>,
     seen: &Seen,
@@ -313,7 +313,7 @@ fn explanation_to<G: Gate, T: Threads + Wait + Sync, O: Write>(
         Ok(seen) => seen,
         Err(stop) => return Err(stop),
     };
-    let text = match explained(alloc, &seen.worked.lines(), &seen, inputs, line.condition) {
+    let text = match explanation_for(alloc, &seen.worked.lines(), &seen, inputs, line.condition) {
         Ok(text) => text,
         Err(stop) => return Err(stop),
     };

@@ -39,7 +39,7 @@ impl Model for Shelf {
 }
 
 /// Copies of lines.
-fn copied(alloc: Global, lines: &[Vec<u8>]) -> Result<Vec<Vec<u8>>, AllocError>
+fn copy_lines(alloc: Global, lines: &[Vec<u8>]) -> Result<Vec<Vec<u8>>, AllocError>
     ensures { IfOk result (λ list. texts_of list.items ≡ texts_of lines.now) }
 {
     let mut list = Vec::new(alloc);
@@ -80,7 +80,7 @@ impl Shelf {
         ensures trails { (from : List Op)
             → AreTrails from self.old → IsTrail from tried.now → AreTrails from self.new }
     {
-        let lines = copied(alloc, tried.lines())?;
+        let lines = copy_lines(alloc, tried.lines())?;
         let ticket = self.desk.publish(rt, tried.session())?;
         self.kept.push(Kept { ticket, lines })?;
         Ok(self.kept.len())
@@ -100,7 +100,7 @@ impl Shelf {
         let Some(kept) = self.kept.get(place) else {
             return Ok(None);
         };
-        let lines = copied(alloc, &kept.lines)?;
+        let lines = copy_lines(alloc, &kept.lines)?;
         let session = self.desk.open(&kept.ticket)?;
         Ok(Some(Tried::with(session, lines)))
     }

@@ -115,7 +115,7 @@ fn edits_in<'a>(
 
 /// Makes the edits of a text, one after another; or gives the number of the first that can't be
 /// made.
-fn made(alloc: Global, tried: Tried, edits: &[u8]) -> Result<Result<Tried, usize>, AllocError>
+fn with_edits(alloc: Global, tried: Tried, edits: &[u8]) -> Result<Result<Tried, usize>, AllocError>
     ensures { IfOk result (λ made. IfOk made (λ now.
         (now.session.base ≡ tried.session.base)
         × ((from : List Op) → IsTrail from tried → IsTrail from now))) }
@@ -190,7 +190,7 @@ pub fn open_from<T: Wait, R: Readers>(
         Ok(edits) => edits,
         Err(fault) => return Ok(Err(fault)),
     };
-    match made(alloc, start, edits)? {
+    match with_edits(alloc, start, edits)? {
         Ok(now) => Ok(Ok(now.without_past(rt, alloc)?)),
         Err(number) => Ok(Err(Unfit::Unmade(number))),
     }

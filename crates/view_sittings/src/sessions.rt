@@ -117,7 +117,7 @@ fn turn<G: Gate, T: Threads + Wait + Sync, M: Readers + Makers, O: Write>(
         put(out, "")?;
         return Ok((now, false));
     }
-    let (next, answer) = now.answered(rt, alloc, gate, files, setting, line, order)?;
+    let (next, answer) = now.answer(rt, alloc, gate, files, setting, line, order)?;
     put(out, answer.as_str())?;
     Ok((next, true))
 }

@@ -57,7 +57,7 @@ impl Sitting {
     }
 
     /// Tries the edit of a line.
-    fn edited<G: Gate, T: Threads + Wait + Sync>(
+    fn edit<G: Gate, T: Threads + Wait + Sync>(
         self,
         rt: &T,
         alloc: Global,
@@ -102,7 +102,7 @@ impl Sitting {
     }
 
     /// Takes the last edit back.
-    fn taken_back<G: Gate, T: Threads + Wait + Sync>(
+    fn take_back<G: Gate, T: Threads + Wait + Sync>(
         self,
         rt: &T,
         alloc: Global,
@@ -144,7 +144,7 @@ impl Sitting {
     }
 
     /// Publishes the list in the session.
-    fn published<T: Wait>(self, rt: &T, alloc: Global) -> Result<(Sitting, String), AllocError>
+    fn publish<T: Wait>(self, rt: &T, alloc: Global) -> Result<(Sitting, String), AllocError>
         ensures lists { IfOk result (λ next. next.0.tried ≡ self.tried) }
         ensures from { (base : GroundRecord) (from : List Op) → IsFrom base from self
             → IfOk result (λ next. IsFrom base from next.0) }
@@ -172,7 +172,7 @@ impl Sitting {
     }
 
     /// Goes on with the list that was published in the session with this number.
-    fn opened<G: Gate, T: Threads + Wait + Sync>(
+    fn open<G: Gate, T: Threads + Wait + Sync>(
         self,
         rt: &T,
         alloc: Global,
@@ -203,7 +203,7 @@ impl Sitting {
     }
 
     /// Publishes the list to a folder.
-    fn published_to<M: Readers + Makers>(
+    fn publish_list<M: Readers + Makers>(
         self,
         alloc: Global,
         files: &mut M,
@@ -250,7 +250,7 @@ impl Sitting {
 
     /// Goes on with the list that was published to a folder with this number. The list with which
     /// the session began is the first one on its shelf.
-    fn opened_from<G: Gate, T: Threads + Wait + Sync, R: Readers>(
+    fn open_publication<G: Gate, T: Threads + Wait + Sync, R: Readers>(
         self,
         rt: &T,
         alloc: Global,
@@ -311,7 +311,7 @@ impl Sitting {
     }
 
     /// Answers a line that is no edit.
-    fn asked<G: Gate, T: Threads + Wait + Sync, M: Readers + Makers>(
+    fn answer_request<G: Gate, T: Threads + Wait + Sync, M: Readers + Makers>(
         self,
         rt: &T,
         alloc: Global,
@@ -325,11 +325,11 @@ impl Sitting {
             → IfOk result (λ next. IsFrom base from next.0) }
     {
         match (request, setting.desk) {
-            (Request::Publish, None) => self.published(rt, alloc),
-            (Request::Publish, Some(folder)) => self.published_to(alloc, files, setting, folder),
-            (Request::Open(number), None) => self.opened(rt, alloc, gate, setting, number),
+            (Request::Publish, None) => self.publish(rt, alloc),
+            (Request::Publish, Some(folder)) => self.publish_list(alloc, files, setting, folder),
+            (Request::Open(number), None) => self.open(rt, alloc, gate, setting, number),
             (Request::Open(number), Some(folder)) => {
-                self.opened_from(rt, alloc, gate, files, setting, (folder, number))
+                self.open_publication(rt, alloc, gate, files, setting, (folder, number))
             }
             _ => {
                 let text = self.text_for(alloc, files, setting, request, line)?;
@@ -339,7 +339,7 @@ impl Sitting {
     }
 
     /// Answers a line; what it asks for is done.
-    pub fn answered<G: Gate, T: Threads + Wait + Sync, M: Readers + Makers>(
+    pub fn answer<G: Gate, T: Threads + Wait + Sync, M: Readers + Makers>(
         self,
         rt: &T,
         alloc: Global,
@@ -358,10 +358,10 @@ impl Sitting {
             → IfOk result (λ next. IsFrom base from next.0) }
     {
         match order {
-            Command::Edit(edit) => self.edited(rt, alloc, gate, setting, line, edit),
-            Command::Undo => self.taken_back(rt, alloc, gate, setting, line),
+            Command::Edit(edit) => self.edit(rt, alloc, gate, setting, line, edit),
+            Command::Undo => self.take_back(rt, alloc, gate, setting, line),
             Command::Other(request) => {
-                self.asked(rt, alloc, gate, files, setting, request, line)
+                self.answer_request(rt, alloc, gate, files, setting, request, line)
             }
         }
     }

@@ -2,15 +2,15 @@
 use crate::checks::{holds, same};
 use std::alloc::{AllocError, Global};
 use std::test::Fail;
-use view_page::{Height, Scale, Tenths, drawn, percent_of, tick_step, x_of};
+use view_page::{Height, Scale, Tenths, drawn_points, percent_of, tick_step, x_of};
 
 /// Of a short curve every condition with a figure is drawn.
 #[test]
 fn short_curves(rt: HostRuntime) -> Result<(), Fail> {
     let curve = [Some(3i128), None, Some(-1), Some(3)];
-    let ks = drawn(rt.alloc(), &curve)?;
+    let ks = drawn_points(rt.alloc(), &curve)?;
     same(&rt, ks.as_slice(), [0usize, 2, 3].as_slice());
-    let none = drawn(rt.alloc(), &[None])?;
+    let none = drawn_points(rt.alloc(), &[None])?;
     holds(&rt, none.is_empty());
     Ok(())
 }
@@ -43,7 +43,7 @@ fn long_curve(alloc: Global) -> Result<Vec<Option<i128>>, AllocError> {
 #[test]
 fn long_curves(rt: HostRuntime) -> Result<(), Fail> {
     let curve = long_curve(rt.alloc())?;
-    let ks = drawn(rt.alloc(), curve.as_slice())?;
+    let ks = drawn_points(rt.alloc(), curve.as_slice())?;
     same(&rt, ks.len(), 898);
     same(&rt, ks.first().copied(), Some(0usize));
     same(&rt, ks.last().copied(), Some(2_999usize));

@@ -28,7 +28,7 @@ fn worse_of(one: Value, other: Value) -> Value
 }
 
 /// The worst of two parts that follow each other, by that of each, if it has any.
-pub fn joined(one: Option<Value>, other: Option<Value>) -> Option<Value>
+pub fn worst_in(one: Option<Value>, other: Option<Value>) -> Option<Value>
     ensures { option_map candidate_of result
         ≡ joined (option_map candidate_of one) (option_map candidate_of other) }
 {

@@ -4,7 +4,7 @@ ghost use Rattle.units_core.specs.Interpolation.{at};
 ghost use Rattle.worst_values.specs.Limits.{bending_limit, bendings, part_of, shears};
 ghost use Rattle.worst_values.specs.Worst.{candidate_of, worst_of};
 
-use crate::joining::joined;
+use crate::joining::worst_in;
 use crate::values::Value;
 use ship_profile::Frame;
 use units_core::Frac;
@@ -61,7 +61,7 @@ pub fn worst_shear(frames: &[Frame], shear: &[i128; 16], step: u32) -> Option<Va
 {
     let mut worst = None;
     for i in 0..frames.len() {
-        worst = joined(
+        worst = worst_in(
             worst,
             Some(part_of(shear[i], frames[i].shear_max, step, i as u32)),
         );
@@ -90,7 +90,7 @@ pub fn worst_bending(frames: &[Frame], bending: &[i128; 16], step: u32) -> Optio
     let mut worst = None;
     for i in 0..frames.len() {
         let load = bending[i];
-        worst = joined(
+        worst = worst_in(
             worst,
             Some(part_of(load, bending_limit(&frames[i], load), step, i as u32)),
         );

@@ -47,7 +47,7 @@ impl Row {
     }
 
     /// The row with a further value.
-    pub fn joined(self, found: Value) -> Row
+    pub fn with_value(self, found: Value) -> Row
         ensures { option_map candidate_of result.worst
             ≡ joined (option_map candidate_of self.worst) (Some (candidate_of found)) }
     {

@@ -64,7 +64,7 @@ impl Rows {
             return;
         };
         if !self.rows[row].is_below(&found) {
-            self.rows[row] = self.rows[row].joined(found);
+            self.rows[row] = self.rows[row].with_value(found);
         }
     }
 

@@ -36,7 +36,11 @@ impl Model for Stretches {
 }
 
 /// A criterion, if it is marked, else what was found behind it.
-fn marked(is_marked: bool, criterion: Criterion, behind: Option<Criterion>) -> Option<Criterion>
+fn criterion_or(
+    is_marked: bool,
+    criterion: Criterion,
+    behind: Option<Criterion>,
+) -> Option<Criterion>
     ensures { result ≡ (if is_marked then Some criterion else behind) }
 {
     if is_marked { Some(criterion) } else { behind }
@@ -48,18 +52,18 @@ fn first_marked(unmet: &Unmet) -> Option<Criterion>
     ensures { result ≡ first_marked criteria unmet.now }
 {
     let [c0, c1, c2, c3, c4, c5, c6, c7, c8, c9, c10, c11, _, _, _, _, _] = *unmet;
-    let found = marked(c11, Criterion::C11, None);
-    let found = marked(c10, Criterion::C10, found);
-    let found = marked(c9, Criterion::C9, found);
-    let found = marked(c8, Criterion::C8, found);
-    let found = marked(c7, Criterion::C7, found);
-    let found = marked(c6, Criterion::C6, found);
-    let found = marked(c5, Criterion::C5, found);
-    let found = marked(c4, Criterion::C4, found);
-    let found = marked(c3, Criterion::C3, found);
-    let found = marked(c2, Criterion::C2, found);
-    let found = marked(c1, Criterion::C1, found);
-    marked(c0, Criterion::C0, found)
+    let found = criterion_or(c11, Criterion::C11, None);
+    let found = criterion_or(c10, Criterion::C10, found);
+    let found = criterion_or(c9, Criterion::C9, found);
+    let found = criterion_or(c8, Criterion::C8, found);
+    let found = criterion_or(c7, Criterion::C7, found);
+    let found = criterion_or(c6, Criterion::C6, found);
+    let found = criterion_or(c5, Criterion::C5, found);
+    let found = criterion_or(c4, Criterion::C4, found);
+    let found = criterion_or(c3, Criterion::C3, found);
+    let found = criterion_or(c2, Criterion::C2, found);
+    let found = criterion_or(c1, Criterion::C1, found);
+    criterion_or(c0, Criterion::C0, found)
 }
 
 /// The first line of a stretch that doesn't meet some criterion, where its first line is this.

@@ -1,6 +1,6 @@
 ghost use Rattle.std.specs.Prelude.{◌≡◌, ℕ, ◌+◌, ◌<◌, ◌≤◌, length, sum_by, IfOk};
 
-use super::{VALUES, joined};
+use super::{VALUES, last_of};
 use crate::checks::{holds, same};
 use prefix_scan::{Cuts, Flat, Last, Monoid, Prefixes, TotalsTree, offsets_tree};
 use std::alloc::{AllocError, Global};
@@ -25,13 +25,13 @@ const SEVEN: Last = Last {
 fn scan_and_cuts(rt: HostRuntime) -> Result<(), Fail> {
     let mut tree = TotalsTree::build(rt.alloc(), &VALUES)?;
     same(&rt, tree.len(), 3);
-    same(&rt, tree.prefix(2), joined(Some(1), 2));
-    same(&rt, tree.prefix(3), joined(Some(3), 3));
+    same(&rt, tree.prefix(2), last_of(Some(1), 2));
+    same(&rt, tree.prefix(3), last_of(Some(3), 3));
     tree.set(1, FIVE);
-    same(&rt, tree.prefix(2), joined(Some(5), 2));
+    same(&rt, tree.prefix(2), last_of(Some(5), 2));
     let cuts = Cuts::at(rt.alloc(), &[2, 3], 3)?;
     let before = offsets_tree(rt.alloc(), &tree, &cuts)?;
-    let expected = [joined(None, 0), joined(Some(5), 2)];
+    let expected = [last_of(None, 0), last_of(Some(5), 2)];
     same(&rt, before.as_slice(), expected.as_slice());
     Ok(())
 }
@@ -40,9 +40,9 @@ fn scan_and_cuts(rt: HostRuntime) -> Result<(), Fail> {
 fn flat_prefixes(rt: HostRuntime) -> Result<(), Fail> {
     let flat = Flat::build(rt.alloc(), &VALUES)?;
     same(&rt, flat.len(), 3);
-    same(&rt, flat.prefix(0), joined(None, 0));
-    same(&rt, flat.prefix(2), joined(Some(1), 2));
-    same(&rt, flat.prefix(3), joined(Some(3), 3));
+    same(&rt, flat.prefix(0), last_of(None, 0));
+    same(&rt, flat.prefix(2), last_of(Some(1), 2));
+    same(&rt, flat.prefix(3), last_of(Some(3), 3));
     Ok(())
 }
 
@@ -53,7 +53,7 @@ fn cuts_one_past_the_end(rt: HostRuntime) -> Result<(), Fail> {
     let tree = TotalsTree::build(rt.alloc(), &VALUES)?;
     let cuts = Cuts::at(rt.alloc(), &[3, 4], 4)?;
     let before = offsets_tree(rt.alloc(), &tree, &cuts)?;
-    let expected = [joined(None, 0), joined(Some(3), 3)];
+    let expected = [last_of(None, 0), last_of(Some(3), 3)];
     same(&rt, before.as_slice(), expected.as_slice());
     Ok(())
 }
@@ -69,9 +69,9 @@ fn joins_over_three_values(rt: HostRuntime) -> Result<(), Fail> {
     same(&rt, tree.joins(), 1);
     tree.set(2, FIVE);
     same(&rt, tree.joins(), 1);
-    same(&rt, tree.prefix(3), joined(Some(5), 3));
+    same(&rt, tree.prefix(3), last_of(Some(5), 3));
     same(&rt, tree.joins(), 3);
-    same(&rt, tree.peek(3), joined(Some(5), 3));
+    same(&rt, tree.peek(3), last_of(Some(5), 3));
     same(&rt, tree.joins(), 3);
     Ok(())
 }
@@ -111,7 +111,7 @@ fn first_values(alloc: Global, n: u32) -> Result<Vec<Last>, AllocError>
     let mut values = Vec::new(alloc);
     for k in 0..n {
         let value = if k % 3 == 1 { None } else { Some(k) };
-        values.push(joined(value, 1))?;
+        values.push(last_of(value, 1))?;
     }
     Ok(values)
 }
@@ -151,7 +151,7 @@ fn agrees_after_each_set(alloc: Global, n: u32) -> Result<bool, AllocError>
     let mut values = first_values(alloc, n)?;
     let mut tree = TotalsTree::build(alloc, &values)?;
     for i in 0..n {
-        let value = joined(if i % 2 == 0 { Some(100 + i) } else { None }, 1);
+        let value = last_of(if i % 2 == 0 { Some(100 + i) } else { None }, 1);
         values[i as usize] = value;
         tree.set(i as usize, value);
         let mut flat = Flat::build(alloc, &values)?;
@@ -183,8 +183,8 @@ fn a_tree_of_its_values(rt: HostRuntime) -> Result<(), Fail> {
     let tree = tree.with_values(rt.alloc(), longer)?;
     same(&rt, tree.len(), 4);
     same(&rt, tree.joins(), 1);
-    same(&rt, tree.peek(3), joined(Some(1), 3));
-    same(&rt, tree.peek(4), joined(Some(3), 4));
+    same(&rt, tree.peek(3), last_of(Some(1), 3));
+    same(&rt, tree.peek(4), last_of(Some(3), 4));
     Ok(())
 }
 
@@ -196,9 +196,9 @@ fn values_made_anew(rt: HostRuntime) -> Result<(), Fail> {
     let mut values = [FIVE, SEVEN];
     tree.renew(0, &mut values);
     same(&rt, tree.joins(), 0);
-    same(&rt, tree.peek(1), joined(Some(5), 1));
-    same(&rt, tree.peek(2), joined(Some(7), 2));
-    same(&rt, tree.peek(3), joined(Some(3), 3));
+    same(&rt, tree.peek(1), last_of(Some(5), 1));
+    same(&rt, tree.peek(2), last_of(Some(7), 2));
+    same(&rt, tree.peek(3), last_of(Some(3), 3));
     Ok(())
 }
 
@@ -208,13 +208,13 @@ fn values_made_anew(rt: HostRuntime) -> Result<(), Fail> {
 fn values_set_together(rt: HostRuntime) -> Result<(), Fail> {
     let mut tree = TotalsTree::build(rt.alloc(), &VALUES)?;
     tree.push(rt.alloc(), FIVE)?;
-    let mut values = [SEVEN, joined(Some(9), 1)];
+    let mut values = [SEVEN, last_of(Some(9), 1)];
     tree.set_stretch(1, &mut values);
     same(&rt, tree.joins(), 3);
-    same(&rt, tree.peek(1), joined(Some(1), 1));
-    same(&rt, tree.peek(2), joined(Some(7), 2));
-    same(&rt, tree.peek(3), joined(Some(9), 3));
-    same(&rt, tree.peek(4), joined(Some(5), 4));
+    same(&rt, tree.peek(1), last_of(Some(1), 1));
+    same(&rt, tree.peek(2), last_of(Some(7), 2));
+    same(&rt, tree.peek(3), last_of(Some(9), 3));
+    same(&rt, tree.peek(4), last_of(Some(5), 4));
     Ok(())
 }
 
@@ -224,14 +224,14 @@ fn values_set_together(rt: HostRuntime) -> Result<(), Fail> {
 fn values_at_the_end(rt: HostRuntime) -> Result<(), Fail> {
     let mut tree = TotalsTree::build(rt.alloc(), &VALUES)?;
     tree.push(rt.alloc(), FIVE)?;
-    same(&rt, tree.peek(4), joined(Some(5), 4));
+    same(&rt, tree.peek(4), last_of(Some(5), 4));
     tree.push(rt.alloc(), SEVEN)?;
     same(&rt, tree.len(), 5);
-    same(&rt, tree.peek(5), joined(Some(7), 5));
-    same(&rt, tree.peek(3), joined(Some(3), 3));
+    same(&rt, tree.peek(5), last_of(Some(7), 5));
+    same(&rt, tree.peek(3), last_of(Some(3), 3));
     tree.truncate(2);
     same(&rt, tree.len(), 2);
-    same(&rt, tree.peek(2), joined(Some(1), 2));
+    same(&rt, tree.peek(2), last_of(Some(1), 2));
     same(&rt, tree.joins(), 0);
     Ok(())
 }

@@ -63,7 +63,7 @@ fn found_and_drawn_at_once(rt: HostRuntime) -> Result<(), Fail> {
         charted.findings.rows.get(7).map(|list| list.step),
         Some(1),
     );
-    same(&rt, charted.series.plotted().len(), 2);
+    same(&rt, charted.series.figures().len(), 2);
     same(
         &rt,
         charted.series.at(0).map(|drawn| drawn.aft),

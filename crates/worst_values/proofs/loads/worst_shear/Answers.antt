@@ -21,9 +21,9 @@ loop-i-preserved c =
     let at_frame : Frame → ℕ → Candidate = λ fr k. record { step = c.args.step; place = k; safety = part_of (at c.args.shear.now k) fr.shear_max } in
     let all : List Frame → ℕ → List Candidate = λ fs k. shears (λ j. at c.args.shear.now j) c.args.step fs k in
     let now = option_map candidate_of c.loop-i.worst in
-    frame_more at_frame all (λ fr more k. refl) c.args.frames.now i frame now (option_map candidate_of c.joined-worst.result) (worst_of (all c.args.frames.now 0)) c.loop-i-test.true c.index-frames-i.is
+    frame_more at_frame all (λ fr more k. refl) c.args.frames.now i frame now (option_map candidate_of c.worst_in-worst.result) (worst_of (all c.args.frames.now 0)) c.loop-i-test.true c.index-frames-i.is
     c.loop-i.invariant
-    (c.joined-worst.ensures ∙ ap (λ (x : Candidate). joined now (Some x)) (part ∙ (λ j. record { step = c.args.step; place = i; safety = part_of load (sym c.index-frames-i.is j).shear_max })))
+    (c.worst_in-worst.ensures ∙ ap (λ (x : Candidate). joined now (Some x)) (part ∙ (λ j. record { step = c.args.step; place = i; safety = part_of load (sym c.index-frames-i.is j).shear_max })))
 
 pub returns : goal.returns
 returns c =

@@ -12,11 +12,11 @@ pub returns-then-not-is_below-clause-here : goal.returns-then-not-is_below-claus
 returns-then-not-is_below-clause-here c =
     let xs = c.self.inside.rows in
     let row = c.args.row in
-    let y = c.joined.result in
+    let y = c.with_value.result in
     let inside : row < length xs = omega (arith, c.requires, ap length c.self.view_is, length-map xs shown) in
     let old : (d : Row) → shown (get_or xs row d) ≡ row_of c.args.self.now row =
     λ d. ap shown (any_default xs row d empty inside) ∙ sym (row_of_values xs row) ∙ ap (λ (l : List (Option Candidate)). row_of l row) c.self.view_is in
-    row_of_values (set xs row y) row ∙ ap shown (get_or-set_same xs row y empty inside) ∙ c.joined.ensures
+    row_of_values (set xs row y) row ∙ ap shown (get_or-set_same xs row y empty inside) ∙ c.with_value.ensures
     ∙ ap (λ (o : Option Candidate). joined o (Some (candidate_of c.in-Some.found))) (old _)
     ∙ ap (λ (o : Option Value). joined (row_of c.args.self.now row) (option_map candidate_of o)) (sym c.in-Some.is)
 
@@ -24,5 +24,5 @@ pub returns-then-not-is_below-clause-others : goal.returns-then-not-is_below-cla
 returns-then-not-is_below-clause-others c =
     let xs = c.self.inside.rows in
     let row = c.args.row in
-    let y = c.joined.result in
+    let y = c.with_value.result in
     λ j apart. row_of_values (set xs row y) j ∙ ap shown (get_or-set_other xs row j y empty apart) ∙ sym (row_of_values xs j) ∙ ap (λ (l : List (Option Candidate)). row_of l j) c.self.view_is

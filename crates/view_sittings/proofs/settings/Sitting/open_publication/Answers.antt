@@ -4,7 +4,7 @@ use Rattle.view_session.specs.Shelves.{AreTrails, IsOpened, published}
 use Rattle.view_session.specs.Trails.{IsTrail, TriedRecord}
 use Rattle.view_sittings.specs.declared.publications.Unfit.{Unfit}
 use Rattle.view_sittings.proofs.SittingLemmas.{opened_base}
-use Rattle.view_sittings.proofs.settings.Sitting.opened_from.Goals as goal
+use Rattle.view_sittings.proofs.settings.Sitting.open_publication.Goals as goal
 
 pub returns : goal.returns
 returns g c = record {

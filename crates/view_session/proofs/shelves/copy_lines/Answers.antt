@@ -1,7 +1,7 @@
 use Rattle.std.proofs.Common.{◌∙◌, ap}
 use Rattle.view_session.specs.Trails.{texts_of}
 use Rattle.view_session.proofs.TrailLemmas.{copy_more}
-use Rattle.view_session.proofs.shelves.copied.Goals as goal
+use Rattle.view_session.proofs.shelves.copy_lines.Goals as goal
 
 pub loop-line-preserved : goal.loop-line-preserved
 loop-line-preserved c =

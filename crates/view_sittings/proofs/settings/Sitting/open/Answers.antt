@@ -2,7 +2,7 @@ use Rattle.std.proofs.Common.{◌∙◌, Option, IfSome, ap, sym, subst}
 use Rattle.view_session.specs.Shelves.{AreTrails, IsOpened, published}
 use Rattle.view_session.specs.Trails.{IsTrail, TriedRecord}
 use Rattle.view_sittings.proofs.SittingLemmas.{opened_base}
-use Rattle.view_sittings.proofs.settings.Sitting.opened.Goals as goal
+use Rattle.view_sittings.proofs.settings.Sitting.open.Goals as goal
 
 pub returns : goal.returns
 returns g c = record {
