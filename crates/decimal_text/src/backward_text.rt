@@ -169,8 +169,8 @@ impl<'a> BackwardText<'a> {
         opening: u8,
         parting: u8,
         between: u8,
-        firsts: &[i128],
-        seconds: &[i128],
+        firsts: &[i64],
+        seconds: &[i64],
         last: usize,
     )
         requires ascii_opening { opening < 128 }

@@ -211,9 +211,9 @@ impl<'a> DigitWriter<'a> {
     fn write_pair(
         self,
         byte: u8,
-        first: i128,
+        first: i64,
         between: u8,
-        second: i128,
+        second: i64,
         bytes: &mut [u8],
         end: usize,
     ) -> usize
@@ -227,8 +227,8 @@ impl<'a> DigitWriter<'a> {
             ≡ (byte ∷ pair_text between first second) ++ drop end bytes.old }
         ensures plain { IsAscii (drop end bytes.old) → IsAscii (drop result bytes.new) }
     {
-        let start = self.write_whole(between, second, bytes, end);
-        self.write_whole(byte, first, bytes, start)
+        let start = self.write_whole(between, i128::from(second), bytes, end);
+        self.write_whole(byte, i128::from(first), bytes, start)
     }
 
     /// Writes the pairs of two lists up to the one of this number, as `BackwardText::put_pairs`
@@ -238,8 +238,8 @@ impl<'a> DigitWriter<'a> {
         opening: u8,
         parting: u8,
         between: u8,
-        firsts: &[i128],
-        seconds: &[i128],
+        firsts: &[i64],
+        seconds: &[i64],
         last: usize,
         bytes: &mut [u8],
         end: usize,

@@ -114,7 +114,7 @@ fn put_numbers(line: &mut BackwardText<'_>, figures: &RoundedFigures)
         figures.area_30_40,
         figures.lever,
         figures.angle as i128,
-        figures.strains.closing,
+        i128::from(figures.strains.closing),
     ];
     line.put_each(b' ', &behind);
     put_list(line, figures.list);

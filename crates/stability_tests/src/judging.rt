@@ -103,7 +103,7 @@ fn numbers(figures: &RoundedFigures) -> ([i128; 11], Option<i128>) {
         figures.area_30_40,
         figures.lever,
         figures.angle as i128,
-        figures.strains.closing,
+        i128::from(figures.strains.closing),
     ];
     (numbers, figures.list)
 }

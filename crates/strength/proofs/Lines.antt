@@ -1,7 +1,6 @@
 -- An area read on a line whose slope is rounded up is that on the line through two areas, rounded down.
-use Rattle.std.proofs.Common.{rules, arith, ◌≡◌, ◌∙◌, ℕ, ◌+◌, ◌-◌, ◌*◌, ◌^◌, ◌<◌, ◌≤◌, ℤ, pos, ◌+ℤ◌, ◌-ℤ◌, ◌*ℤ◌, ◌≤ℤ◌, ◌<ℤ◌, unsigned_abs, List, length, get_or, map, Some, inr, ap, sym, subst}
+use Rattle.std.proofs.Common.{rules, arith, ◌≡◌, ◌∙◌, ℕ, ◌+◌, ◌*◌, ◌^◌, ◌<◌, ◌≤◌, ℤ, pos, ◌+ℤ◌, ◌-ℤ◌, ◌*ℤ◌, ◌≤ℤ◌, ◌<ℤ◌, unsigned_abs, List, length, Some, inr, sym, subst}
 use Rattle.std.specs.Int.{int_div_euclid}
-use Rattle.std.specs.List.{range_with_len}
 use Rattle.std.specs.Prelude.{slice_index_or}
 use Rattle.std.proofs.lemmas.Int.{by_lt_z, unsigned_abs-mul}
 use Rattle.std.proofs.lemmas.List.FromFn.{get_or-map-range_with_len, length-map-range_with_len}
@@ -16,7 +15,7 @@ use Rattle.units_core.proofs.Signed.{signed_arith, distributes, one_part, produc
 use borrow.Author.Differences.{same_in}
 use Rattle.ship_tables.specs.Curves.{curve, curve_at}
 use Rattle.ship_tables.specs.Record.{CurveTable, IsBonjeanTable, IsCurve}
-use Rattle.ship_profile.specs.Sections.{area_line, area_row}
+use Rattle.ship_profile.specs.Sections.{area_line}
 use Rattle.ship_profile.specs.declared.sections.AreaLine.{AreaLine}
 use Rattle.strength.specs.Rows.{IsRowOf}
 

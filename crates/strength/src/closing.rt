@@ -2,15 +2,11 @@ ghost use Rattle.std.specs.Prelude.{◌≡◌, ◌&&◌, neg_ℤ, int_le};
 ghost use Rattle.strength.specs.Strains.{closes};
 
 /// Whether a load is between two limits, the first with the other sign: a shear force, a bending
-/// moment (sagging is negative) or a closing error. A load that takes more than 64 bits isn't; of
-/// another, `!load` is -1 - load, so no limit is negated.
+/// moment (sagging is negative) or a closing error. `!load` is -1 - load, so no limit is negated.
 #[inline(always)]
-pub fn is_between(load: i128, low: i64, high: i64) -> bool
+pub fn is_between(load: i64, low: i64, high: i64) -> bool
     ensures { result ≡ (int_le (neg_ℤ low) load && int_le load high) }
 {
-    let Ok(load) = i64::try_from(load) else {
-        return false;
-    };
     if !load >= low {
         return false;
     }
@@ -18,7 +14,7 @@ pub fn is_between(load: i128, low: i64, high: i64) -> bool
 }
 
 /// Whether the closing error is within its limit either way.
-pub fn closes(error: i128, most: i64) -> bool
+pub fn closes(error: i64, most: i64) -> bool
     ensures { result ≡ closes error most }
 {
     is_between(error, most, most)

@@ -12,14 +12,48 @@ fn product(a: i64, b: i64) -> i128
     i128::from(a) * i128::from(b)
 }
 
+/// An 800,000th of 41 times a number, rounded down.
+#[inline(always)]
+fn short_buoyancy(volume: u64) -> u64
+    requires { volume ≤ 3 * 10 ^ 16 }
+    ensures value { result ≡ volume * 41 / 800000 }
+    ensures within { result ≤ 2 * 10 ^ 12 }
+{
+    volume * 41 / 800_000
+}
+
+/// The same of a number below 0, which is rare.
+#[cold]
+#[inline(never)]
+fn long_buoyancy(volume: i64) -> i64
+    requires { unsigned_abs volume ≤ 3 * 10 ^ 16 }
+    ensures value { result ≡ int_div_euclid (volume *ℤ pos 41) (pos 800000) }
+    ensures within { unsigned_abs result ≤ 2 * 10 ^ 12 }
+{
+    (volume * 41).div_euclid(800_000)
+}
+
+/// An 800,000th of 41 times a number, rounded down. A division without a sign takes half as long.
+#[inline(always)]
+fn buoyancy_of(volume: i64) -> i64
+    requires { unsigned_abs volume ≤ 3 * 10 ^ 16 }
+    ensures value { result ≡ int_div_euclid (volume *ℤ pos 41) (pos 800000) }
+    ensures within { unsigned_abs result ≤ 2 * 10 ^ 12 }
+{
+    match u64::try_from(volume) {
+        Ok(volume) => short_buoyancy(volume) as i64,
+        Err(_) => long_buoyancy(volume),
+    }
+}
+
 /// The buoyancy in kg of twice a volume, rounded down.
 pub fn buoyancy(volume: i64) -> i64
     requires within { unsigned_abs volume ≤ 3 * 10 ^ 16 }
     ensures value { IsBuoyancy result volume }
-    ensures size { unsigned_abs result ≤ 10 ^ 20 }
+    ensures size { unsigned_abs result ≤ 2 * 10 ^ 12 }
 {
     // 1025 / 20,000,000 is 41 / 800,000.
-    (volume * 41).div_euclid(800_000)
+    buoyancy_of(volume)
 }
 
 /// What 41 times the moment of a volume is divided by.
@@ -97,24 +131,36 @@ fn times_41(top: i128) -> i128
     top * 41
 }
 
+/// A moment in 64 bits, which are enough for each that a hull of these sizes can have.
+#[inline(always)]
+fn narrow(moment: i128) -> i64
+    requires { unsigned_abs moment ≤ 4 * 10 ^ 18 }
+    ensures value { result ≡ moment }
+    ensures within { unsigned_abs result ≤ 4 * 10 ^ 18 }
+{
+    moment as i64
+}
+
 /// The same of a number that is below 0 or doesn't fit 64 bits, which is rare.
 #[cold]
 #[inline(never)]
-fn long_moment(top: i128) -> i128
-    requires { unsigned_abs top ≤ 10 ^ 24 }
-    ensures { result ≡ int_div_euclid (top *ℤ pos 41) (pos 2400000) }
+fn long_moment(top: i128) -> i64
+    requires { unsigned_abs top ≤ 2 * 10 ^ 23 }
+    ensures value { result ≡ int_div_euclid (top *ℤ pos 41) (pos 2400000) }
+    ensures within { unsigned_abs result ≤ 4 * 10 ^ 18 }
 {
-    quotient_down(times_41(top))
+    narrow(quotient_down(times_41(top)))
 }
 
 /// A 2,400,000th of 41 times a number, rounded down.
 #[inline(always)]
-fn moment_of(top: i128) -> i128
-    requires { unsigned_abs top ≤ 10 ^ 24 }
-    ensures { result ≡ int_div_euclid (top *ℤ pos 41) (pos 2400000) }
+fn moment_of(top: i128) -> i64
+    requires { unsigned_abs top ≤ 2 * 10 ^ 23 }
+    ensures value { result ≡ int_div_euclid (top *ℤ pos 41) (pos 2400000) }
+    ensures within { unsigned_abs result ≤ 4 * 10 ^ 18 }
 {
     match u64::try_from(top) {
-        Ok(top) => i128::from(short_moment(top)),
+        Ok(top) => narrow(i128::from(short_moment(top))),
         Err(_) => long_moment(top),
     }
 }
@@ -127,19 +173,19 @@ fn moment_top(f: i64, volume: i64, arm: i128) -> i128
     requires within { unsigned_abs volume ≤ 3 * 10 ^ 16 }
     requires arm_within { unsigned_abs arm ≤ 10 ^ 23 }
     ensures value { result ≡ ((pos 3 *ℤ f) *ℤ volume) -ℤ arm }
-    ensures size { unsigned_abs result ≤ 10 ^ 24 }
+    ensures size { unsigned_abs result ≤ 2 * 10 ^ 23 }
 {
     product(3 * f, volume) - arm
 }
 
 /// The moment of buoyancy about `f` in kg mm, rounded down, of twice a volume and of six times its
 /// moment about the after perpendicular.
-pub fn buoyancy_moment(f: i64, volume: i64, arm: i128) -> i128
+pub fn buoyancy_moment(f: i64, volume: i64, arm: i128) -> i64
     requires f_near { unsigned_abs f ≤ 10 ^ 6 }
     requires within { unsigned_abs volume ≤ 3 * 10 ^ 16 }
     requires arm_within { unsigned_abs arm ≤ 10 ^ 23 }
     ensures value { IsMoment result f volume arm }
-    ensures size { unsigned_abs result ≤ 10 ^ 27 }
+    ensures size { unsigned_abs result ≤ 4 * 10 ^ 18 }
 {
     // 1025 / 60,000,000 is 41 / 2,400,000.
     moment_of(moment_top(f, volume, arm))

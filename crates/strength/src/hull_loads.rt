@@ -53,13 +53,13 @@ impl Strains {
         let mut list = ArrayVec::new();
         for i in 0..frames {
             list.push(FrameLoad {
-                shear: self.shear[i],
-                bending: self.bending[i],
+                shear: i128::from(self.shear[i]),
+                bending: i128::from(self.bending[i]),
             });
         }
         Loads {
             frames: list,
-            closing: self.closing,
+            closing: i128::from(self.closing),
         }
     }
 }

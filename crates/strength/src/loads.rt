@@ -18,13 +18,14 @@ pub struct FrameLoad {
 }
 
 /// The numbers of [`Loads`] in one place, in which they are worked out: they are written anew for
-/// each condition, and no list grows. [`Strains::loads`] makes [`Loads`] of them.
+/// each condition, and no list grows. 64 bits are enough for each load that a ship of these sizes
+/// can have. [`Strains::loads`] makes [`Loads`] of them.
 #[derive(Clone, Copy, Default)]
 pub struct Strains {
     /// The shear forces by the numbers of the frames, 0 behind the last.
-    pub shear: [i128; 16],
+    pub shear: [i64; 16],
     /// The bending moments, in the same way.
-    pub bending: [i128; 16],
+    pub bending: [i64; 16],
     /// The closing error.
-    pub closing: i128,
+    pub closing: i64,
 }

@@ -10,15 +10,26 @@ use crate::forces::{buoyancy, buoyancy_moment};
 use crate::hulls::Hull;
 use crate::loads::Strains;
 use crate::stations::mm;
-use crate::sums::{arm_aft, volume_aft};
+use crate::sums::{arm_aft, volume_aft, weight_aft};
 use crate::walks::Walk;
 use moment_sums::Totals;
 use ship_profile::Profile;
 
+/// A mass in kg, or a moment in kg mm, of what is aboard, in 64 bits.
+#[inline(always)]
+fn narrow(number: i128) -> i64
+    requires { unsigned_abs number ≤ 10 ^ 16 }
+    ensures value { result ≡ number }
+    ensures within { unsigned_abs result ≤ 10 ^ 16 }
+{
+    number as i64
+}
+
 /// A difference.
-fn minus(one: i128, other: i128) -> i128
-    requires one { unsigned_abs one ≤ 10 ^ 30 }
-    requires other { unsigned_abs other ≤ 10 ^ 30 }
+#[inline(always)]
+fn minus(one: i64, other: i64) -> i64
+    requires one { unsigned_abs one ≤ 10 ^ 16 }
+    requires other { unsigned_abs other ≤ 4 * 10 ^ 18 }
     ensures { result ≡ one -ℤ other }
 {
     one - other
@@ -52,12 +63,16 @@ pub fn set_strains(
     };
     for i in 0..frames.len() {
         let n = hull.intervals_aft(i);
-        let x = mm(frames[i].x);
-        let volume = volume_aft(stations, walk, n);
-        let arm = arm_aft(stations, walk, n);
-        strains.shear[i] = minus(totals.weight_aft(i), i128::from(buoyancy(volume)));
-        strains.bending[i] = minus(totals.moment_aft(i), buoyancy_moment(x, volume, arm));
+        let counts = hull.last_weight(i);
+        let volume = volume_aft(stations, walk, n, counts.volume);
+        let arm = arm_aft(stations, walk, n, counts.moment);
+        let weight = narrow(totals.weight_aft(i));
+        let moment = narrow(totals.moment_aft(i));
+        strains.shear[i] = minus(weight, buoyancy(volume));
+        strains.bending[i] = minus(moment, buoyancy_moment(mm(frames[i].x), volume, arm));
     }
-    let volume = volume_aft(stations, walk, stations.len() - 1);
-    strains.closing = minus(i128::from(buoyancy(volume)), totals.kg());
+    let last = stations.len() - 1;
+    let counts = weight_aft(stations, last);
+    let volume = volume_aft(stations, walk, last, counts.volume);
+    strains.closing = minus(buoyancy(volume), narrow(totals.kg()));
 }

@@ -2,6 +2,7 @@ ghost use Rattle.std.specs.Prelude.{◌≡◌, ℕ, ℤ, ◌*◌, ◌-◌, ◌^�
 ghost use Rattle.std.specs.Prelude.{length, unsigned_abs};
 ghost use Rattle.units_core.specs.Interpolation.{at};
 ghost use Rattle.strength.specs.Buoyancy.{arm_top, force_top, tops};
+ghost use Rattle.strength.specs.Hull.{weight_aft};
 ghost use Rattle.strength.specs.Running.{AreSums};
 
 use crate::stations::mm;
@@ -43,25 +44,22 @@ pub fn set_sums(profile: &Profile, walk: &mut Walk)
     let weights = profile.sections().weights();
     let mut volume = 0;
     let mut moment = 0;
+    walk.volumes[0] = 0;
+    walk.moments[0] = 0;
     for k in 0..weights.len() {
         let area = walk.areas[k];
-        walk.volumes[k] = volume;
-        walk.moments[k] = moment;
         volume += volume_by(area, weights[k].volume);
         moment += moment_by(area, weights[k].moment);
+        walk.volumes[k + 1] = volume;
+        walk.moments[k + 1] = moment;
     }
-    walk.volumes[weights.len()] = volume;
-    walk.moments[weights.len()] = moment;
 }
 
 /// By what the area at a station counts in the interval aft of it; 0 at the first station.
-#[inline(always)]
-fn weight_aft(stations: &[Mm], n: usize) -> StationWeight
+pub fn weight_aft(stations: &[Mm], n: usize) -> StationWeight
     requires { n < length stations.now }
-    ensures volume { result.volume ≡ at stations.now n -ℤ at stations.now (n - 1) }
+    ensures value { result ≡ weight_aft (at stations.now) n }
     ensures volume_size { unsigned_abs result.volume ≤ 2 * 10 ^ 6 }
-    ensures moment { result.moment ≡ (at stations.now n -ℤ at stations.now (n - 1))
-        *ℤ ((pos 2 *ℤ at stations.now n) +ℤ at stations.now (n - 1)) }
     ensures moment_size { unsigned_abs result.moment ≤ 12 * 10 ^ 12 }
 {
     let x = mm(stations[n]);
@@ -72,30 +70,36 @@ fn weight_aft(stations: &[Mm], n: usize) -> StationWeight
     }
 }
 
-/// Twice the volume of the first `n` intervals between stations.
+/// Twice the volume of the first `n` intervals between stations, by what the area behind them
+/// counts in the last one. The stations are for the contract alone.
 #[inline(always)]
-pub fn volume_aft(stations: &[Mm], walk: &Walk, n: usize) -> i64
-    requires inside { n < length stations.now }
-    requires few { length stations.now ≤ 64 }
-    requires sums { AreSums walk.now.areas walk.now.volumes walk.now.moments (at stations.now)
-        (length stations.now - 1) }
+pub fn volume_aft(_stations: &[Mm], walk: &Walk, n: usize, weight: i64) -> i64
+    requires inside { n < length _stations.now }
+    requires few { length _stations.now ≤ 64 }
+    requires weight { weight ≡ at _stations.now n -ℤ at _stations.now (n - 1) }
+    requires weight_size { unsigned_abs weight ≤ 2 * 10 ^ 6 }
+    requires sums { AreSums walk.now.areas walk.now.volumes walk.now.moments (at _stations.now)
+        (length _stations.now - 1) }
     ensures value { (areas : ℕ → ℤ) → ((k : ℕ) → k ≤ n → at walk.now.areas k ≡ areas k)
-        → result ≡ tops (force_top (at stations.now) areas) n }
+        → result ≡ tops (force_top (at _stations.now) areas) n }
     ensures size { unsigned_abs result ≤ 3 * 10 ^ 16 }
 {
-    walk.volumes[n] + volume_by(walk.areas[n], weight_aft(stations, n).volume)
+    walk.volumes[n] + volume_by(walk.areas[n], weight)
 }
 
 /// Six times the moment of that volume about the after perpendicular.
 #[inline(always)]
-pub fn arm_aft(stations: &[Mm], walk: &Walk, n: usize) -> i128
-    requires inside { n < length stations.now }
-    requires few { length stations.now ≤ 64 }
-    requires sums { AreSums walk.now.areas walk.now.volumes walk.now.moments (at stations.now)
-        (length stations.now - 1) }
+pub fn arm_aft(_stations: &[Mm], walk: &Walk, n: usize, weight: i64) -> i128
+    requires inside { n < length _stations.now }
+    requires few { length _stations.now ≤ 64 }
+    requires weight { weight ≡ (at _stations.now n -ℤ at _stations.now (n - 1))
+        *ℤ ((pos 2 *ℤ at _stations.now n) +ℤ at _stations.now (n - 1)) }
+    requires weight_size { unsigned_abs weight ≤ 12 * 10 ^ 12 }
+    requires sums { AreSums walk.now.areas walk.now.volumes walk.now.moments (at _stations.now)
+        (length _stations.now - 1) }
     ensures value { (areas : ℕ → ℤ) → ((k : ℕ) → k ≤ n → at walk.now.areas k ≡ areas k)
-        → result ≡ tops (arm_top (at stations.now) areas) n }
+        → result ≡ tops (arm_top (at _stations.now) areas) n }
     ensures size { unsigned_abs result ≤ 10 ^ 23 }
 {
-    walk.moments[n] + moment_by(walk.areas[n], weight_aft(stations, n).moment)
+    walk.moments[n] + moment_by(walk.areas[n], weight)
 }

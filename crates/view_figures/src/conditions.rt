@@ -113,7 +113,7 @@ fn condition_of(profile: &Profile, hull: &Hull, step: u32, totals: &Totals) -> O
             let levers = levers_aboard(profile, totals, &mut 0)?;
             Ok(told_inside(profile, totals, &exact, &levers, &strains))
         }
-        Err(outside) => Err(why_missed(profile, totals, outside, strains.closing)),
+        Err(outside) => Err(why_missed(profile, totals, outside, i128::from(strains.closing))),
     };
     Some(Condition {
         step,

@@ -33,11 +33,17 @@ pub fn frame_rows(profile: &Profile, strains: &Strains) -> FrameRows {
                 shear: row_of_load(
                     Limit::Shear,
                     place,
-                    strains.shear[at],
+                    i128::from(strains.shear[at]),
                     frame.shear_max,
                     FORCE_UNIT,
                 ),
-                bending: row_of_load(Limit::Bending, place, bending, most, MOMENT_UNIT),
+                bending: row_of_load(
+                    Limit::Bending,
+                    place,
+                    i128::from(bending),
+                    most,
+                    MOMENT_UNIT,
+                ),
             });
         }
     }

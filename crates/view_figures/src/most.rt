@@ -193,8 +193,8 @@ fn strains_share(frames: &[Frame], strains: &Strains) -> Option<Frac>
     for at in 0..frames.len() {
         let frame = &frames[at];
         let bending = strains.bending[at];
-        shares.note(strains.shear[at], frame.shear_max);
-        shares.note(bending, bending_limit(frame, bending));
+        shares.note(i128::from(strains.shear[at]), frame.shear_max);
+        shares.note(i128::from(bending), bending_limit(frame, bending));
     }
     more(shares.other, shares.short.share())
 }
@@ -218,7 +218,7 @@ pub fn most_used(profile: &Profile, exact: &Exact, strains: &Strains) -> Option<
 {
     let a = &exact.afloat;
     let mut most = Greatest::of(strains_share(profile.frames().as_slice(), strains));
-    most.note(load_share(strains.closing, profile.closing_max()));
+    most.note(load_share(i128::from(strains.closing), profile.closing_max()));
     most.note(list_share(profile, a));
     note_draughts(&mut most, profile, a);
     note_curve(&mut most, &exact.curve);

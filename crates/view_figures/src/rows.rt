@@ -335,10 +335,12 @@ fn row_of_worst(profile: &Profile, exact: &Exact, strains: &Strains, limit: Limi
     let number = place as u32;
     if limit == Limit::Shear {
         let shear = *strains.shear.get(place)?;
+        let shear = i128::from(shear);
         return Some(row_of_load(limit, number, shear, frame.shear_max, FORCE_UNIT));
     }
     let bending = *strains.bending.get(place)?;
     let most = bending_limit(frame, bending);
+    let bending = i128::from(bending);
     Some(row_of_load(limit, number, bending, most, MOMENT_UNIT))
 }
 
@@ -365,7 +367,7 @@ pub fn row_of(
     let draught_max = length_limit(profile.draught_max());
     let trim_max = length_limit(profile.trim_max());
     Some(match limit {
-        Limit::Closing => row_of_closing(profile, strains.closing),
+        Limit::Closing => row_of_closing(profile, i128::from(strains.closing)),
         Limit::Gm => row_at_least(limit, gm_of(a), GM_LEAST),
         Limit::AreaTo30 => row_of_area(limit, exact.curve.sum_30, AREA_TO_30),
         Limit::AreaTo40 => row_of_area(limit, exact.curve.sum_40, AREA_TO_40),

@@ -65,7 +65,7 @@ fn load_at(strains: &Strains, kind: Kind, at: usize) -> Option<i128> {
         Kind::Shear => &strains.shear,
         Kind::Bending => &strains.bending,
     };
-    Some(*loads.get(at)?)
+    Some(i128::from(*loads.get(at)?))
 }
 
 /// The limits of a kind at a frame.
@@ -117,8 +117,8 @@ fn figures_along(
             let (above, below) = limits_at(frame, kind);
             along.push(Here {
                 x: x_along(i128::from(frame.x.get()), first, last),
-                least: least.div_euclid(unit),
-                greatest: greatest.div_euclid(unit),
+                least: i128::from(least).div_euclid(unit),
+                greatest: i128::from(greatest).div_euclid(unit),
                 arrival: match arrival {
                     Some(load) => Some(load.div_euclid(unit)),
                     None => None,

@@ -11,7 +11,7 @@ pub const FRAMES: usize = 16;
 /// A load, and the first step at which it stands.
 #[derive(Clone, Copy, Debug, Default)]
 pub struct Load {
-    pub load: i128,
+    pub load: i64,
     pub step: u32,
 }
 
@@ -19,10 +19,10 @@ pub struct Load {
 /// that uses most of its limit.
 #[derive(Clone, Copy, Debug, Default)]
 pub struct Reach {
-    pub shear_least: i128,
-    pub shear_greatest: i128,
-    pub bending_least: i128,
-    pub bending_greatest: i128,
+    pub shear_least: i64,
+    pub shear_greatest: i64,
+    pub bending_least: i64,
+    pub bending_greatest: i64,
     pub shear: Load,
     pub bending: Load,
 }
@@ -35,18 +35,17 @@ pub struct Reaches {
 }
 
 /// The size of a load by its limit, which counts as 1 where it is 0.
-fn part_of(load: i128, frame: &Frame) -> Frac {
+fn part_of(load: i64, frame: &Frame) -> Frac {
     let most = bending_limit(frame, load);
-    let size = load.unsigned_abs().min(i128::MAX as u128);
     Frac {
-        num: size as i128,
+        num: i128::from(load.unsigned_abs()),
         den: i128::from(most.max(1)),
     }
 }
 
 /// Whether a bending moment uses less of its limit than another. Most have one sign, and so one
 /// limit.
-fn uses_less(one: i128, other: i128, frame: &Frame) -> bool {
+fn uses_less(one: i64, other: i64, frame: &Frame) -> bool {
     if (one >= 0) == (other >= 0) {
         return one.unsigned_abs() < other.unsigned_abs();
     }
@@ -54,12 +53,12 @@ fn uses_less(one: i128, other: i128, frame: &Frame) -> bool {
 }
 
 /// Whether a load lies between others.
-fn is_between(load: i128, least: i128, greatest: i128) -> bool {
+fn is_between(load: i64, least: i64, greatest: i64) -> bool {
     least <= load && load <= greatest
 }
 
 /// The load at a frame of a condition.
-fn reach_at(shear: i128, bending: i128, step: u32) -> Reach {
+fn reach_at(shear: i64, bending: i64, step: u32) -> Reach {
     Reach {
         shear_least: shear,
         shear_greatest: shear,
@@ -86,13 +85,13 @@ impl Reach {
 
     /// Whether loads lie between those that were there: then neither uses more of its limit than
     /// the one that uses most, which is the least or the greatest of its kind.
-    fn has(&self, shear: i128, bending: i128) -> bool {
+    fn has(&self, shear: i64, bending: i64) -> bool {
         is_between(shear, self.shear_least, self.shear_greatest)
             && is_between(bending, self.bending_least, self.bending_greatest)
     }
 
     /// Joins the loads of the condition of a step.
-    fn note(&mut self, shear: i128, bending: i128, step: u32, frame: &Frame) {
+    fn note(&mut self, shear: i64, bending: i64, step: u32, frame: &Frame) {
         if self.has(shear, bending) {
             return;
         }

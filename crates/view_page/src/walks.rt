@@ -26,26 +26,26 @@ use strength::Hull;
 use worst_values::{Findings, bending_limit, note_line};
 
 /// The greatest part of its limit that the shear force uses at any frame, in percent.
-fn shear_percent(frames: &[Frame], shear: &[i128; 16]) -> i128
+fn shear_percent(frames: &[Frame], shear: &[i64; 16]) -> i128
     requires { length frames.now ≤ 16 }
     ensures { result ≡ shear_percent (λ i. at shear.now i) frames.now }
 {
     let mut most = 0i128;
     for i in 0..frames.len() {
-        most = percent_with(most, shear[i], frames[i].shear_max);
+        most = percent_with(most, i128::from(shear[i]), frames[i].shear_max);
     }
     most
 }
 
 /// The greatest part of its limit that the bending moment uses at any frame, in percent.
-fn bending_percent(frames: &[Frame], bending: &[i128; 16]) -> i128
+fn bending_percent(frames: &[Frame], bending: &[i64; 16]) -> i128
     requires { length frames.now ≤ 16 }
     ensures { result ≡ bending_percent (λ i. at bending.now i) frames.now }
 {
     let mut most = 0i128;
     for i in 0..frames.len() {
         let load = bending[i];
-        most = percent_with(most, load, bending_limit(&frames[i], load));
+        most = percent_with(most, i128::from(load), bending_limit(&frames[i], load));
     }
     most
 }

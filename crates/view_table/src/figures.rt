@@ -54,7 +54,7 @@ fn put_columns(end: &mut BackwardText<'_>, figures: &RoundedFigures)
         figures.area_30_40,
         figures.lever,
         figures.angle as i128,
-        figures.strains.closing,
+        i128::from(figures.strains.closing),
     ];
     end.put_each(b',', &behind);
     put_field(end, figures.list);
@@ -191,7 +191,7 @@ fn put_levers(end: &mut BackwardText<'_>, figures: &RoundedFigures)
         ++ (member (codes ",\"close_kg\"") (Some figures.now.strains.closing) ++ end.old)) }
     ensures short { length end.new ≤ length end.old + 161 }
 {
-    put_member(end, ",\"close_kg\"", figures.strains.closing);
+    put_member(end, ",\"close_kg\"", i128::from(figures.strains.closing));
     put_member(end, ",\"angle_deg\"", figures.angle as i128);
     put_member(end, ",\"gz_mm\"", figures.lever);
 }
@@ -264,6 +264,17 @@ fn put_least(end: &mut BackwardText<'_>, least_gm: Option<i128>)
     }
 }
 
+/// Loads as numbers of the width in which texts take them.
+fn widened(loads: &[i64; 16]) -> [i128; 16]
+    ensures { (i : ℕ) → at result i ≡ at loads.now i }
+{
+    let mut wide = [0i128; 16];
+    for i in 0..16usize {
+        wide[i] = i128::from(loads[i]);
+    }
+    wide
+}
+
 /// Writes the loads of a condition, and the least metacentric height, before the text.
 fn put_json_loads(end: &mut BackwardText<'_>, judged: &Judged)
     requires room { length end.old + 1400 ≤ 2048 }
@@ -272,8 +283,10 @@ fn put_json_loads(end: &mut BackwardText<'_>, judged: &Judged)
 {
     put_least(end, judged.least_gm);
     let strains = &judged.figures.strains;
-    put_array(end, ",\"bending_kgmm\":", &strains.bending, judged.frames);
-    put_array(end, ",\"shear_kg\":", &strains.shear, judged.frames);
+    let bending = widened(&strains.bending);
+    let shear = widened(&strains.shear);
+    put_array(end, ",\"bending_kgmm\":", &bending, judged.frames);
+    put_array(end, ",\"shear_kg\":", &shear, judged.frames);
 }
 
 /// Writes the displacement and the figures before the text.

@@ -128,7 +128,7 @@ pub fn value_of(
 {
     let a = &exact.afloat;
     match limit {
-        Limit::Closing => alone(step, below_zero(whole(strains.closing))),
+        Limit::Closing => alone(step, below_zero(whole(i128::from(strains.closing)))),
         Limit::Gm => alone(step, gm_of(a)),
         Limit::AreaTo30 => alone(step, exact.curve.sum_30),
         Limit::AreaTo40 => alone(step, exact.curve.sum_40),

@@ -19,7 +19,7 @@ pub fn size_below(n: i128) -> i128
 
 /// How safe a load is by a limit.
 #[inline(always)]
-pub fn part_of(load: i128, limit: i64, step: u32, place: u32) -> Value
+pub fn part_of(load: i64, limit: i64, step: u32, place: u32) -> Value
     ensures { candidate_of result
         ≡ record { step = step; place = place; safety = part_of load limit } }
 {
@@ -29,7 +29,7 @@ pub fn part_of(load: i128, limit: i64, step: u32, place: u32) -> Value
             place,
             beyond: false,
             by: Frac {
-                num: size_below(load),
+                num: size_below(i128::from(load)),
                 den: i128::from(limit),
             },
         };
@@ -47,14 +47,14 @@ pub fn part_of(load: i128, limit: i64, step: u32, place: u32) -> Value
         place,
         beyond: true,
         by: Frac {
-            num: size_below(load),
+            num: size_below(i128::from(load)),
             den: 1,
         },
     }
 }
 
 /// The worst shear force of the condition of a step; of several the aftermost.
-pub fn worst_shear(frames: &[Frame], shear: &[i128; 16], step: u32) -> Option<Value>
+pub fn worst_shear(frames: &[Frame], shear: &[i64; 16], step: u32) -> Option<Value>
     requires { length frames.now ≤ 16 }
     ensures { option_map candidate_of result
         ≡ worst_of (shears (λ i. at shear.now i) step frames.now 0) }
@@ -71,7 +71,7 @@ pub fn worst_shear(frames: &[Frame], shear: &[i128; 16], step: u32) -> Option<Va
 
 /// The limit of a bending moment, by its sign.
 #[inline(always)]
-pub fn bending_limit(frame: &Frame, load: i128) -> i64
+pub fn bending_limit(frame: &Frame, load: i64) -> i64
     ensures { result ≡ bending_limit frame.now load }
 {
     if 0 <= load {
@@ -82,7 +82,7 @@ pub fn bending_limit(frame: &Frame, load: i128) -> i64
 }
 
 /// The worst bending moment of the condition of a step; of several the aftermost.
-pub fn worst_bending(frames: &[Frame], bending: &[i128; 16], step: u32) -> Option<Value>
+pub fn worst_bending(frames: &[Frame], bending: &[i64; 16], step: u32) -> Option<Value>
     requires { length frames.now ≤ 16 }
     ensures { option_map candidate_of result
         ≡ worst_of (bendings (λ i. at bending.now i) step frames.now 0) }

@@ -13,7 +13,7 @@ use ship_profile::Frame;
 
 /// Whether a load is surely no worse by a limit than a mark, and so than what is worse than that.
 #[inline(always)]
-fn is_within(load: i128, limit: i64, mark: Option<i32>) -> bool
+fn is_within(load: i64, limit: i64, mark: Option<i32>) -> bool
     ensures { result ≡ true → (o : Option Candidate) (x : Candidate) → is_marked o mark ≡ true
         → x.safety ≡ part_of load limit → joined o (Some x) ≡ o }
 {
@@ -25,7 +25,7 @@ fn is_within(load: i128, limit: i64, mark: Option<i32>) -> bool
 
 /// Joins to a row the load at a frame of the condition of a step.
 #[inline(always)]
-fn note_load(load: i128, limit: i64, row: usize, step: u32, place: u32, rows: &mut Rows)
+fn note_load(load: i64, limit: i64, row: usize, step: u32, place: u32, rows: &mut Rows)
     requires { row < 14 }
     ensures length { length rows.new ≡ length rows.old }
     ensures here { row_of rows.new row ≡ joined (row_of rows.old row)
@@ -38,7 +38,7 @@ fn note_load(load: i128, limit: i64, row: usize, step: u32, place: u32, rows: &m
 }
 
 /// Joins to a row the shear forces of the condition of a step.
-pub fn note_shears(frames: &[Frame], shear: &[i128; 16], row: usize, step: u32, rows: &mut Rows)
+pub fn note_shears(frames: &[Frame], shear: &[i64; 16], row: usize, step: u32, rows: &mut Rows)
     requires inside { row < 14 }
     requires few { length frames.now ≤ 16 }
     ensures length { length rows.new ≡ length rows.old }
@@ -52,7 +52,7 @@ pub fn note_shears(frames: &[Frame], shear: &[i128; 16], row: usize, step: u32, 
 }
 
 /// Joins to a row the bending moments of the condition of a step.
-pub fn note_bendings(frames: &[Frame], bending: &[i128; 16], row: usize, step: u32, rows: &mut Rows)
+pub fn note_bendings(frames: &[Frame], bending: &[i64; 16], row: usize, step: u32, rows: &mut Rows)
     requires inside { row < 14 }
     requires few { length frames.now ≤ 16 }
     ensures length { length rows.new ≡ length rows.old }

@@ -13,9 +13,9 @@ use strength::{FrameLoad, Hull, Walk, loads_of, strains_along};
 #[derive(Clone, Copy)]
 struct Condition {
     container: Container,
-    shear: [i128; 5],
-    bending: [i128; 5],
-    closing: i128,
+    shear: [i64; 5],
+    bending: [i64; 5],
+    closing: i64,
 }
 
 /// She floats at 4,000 mm everywhere; each interval carries what it weighs.
@@ -64,8 +64,8 @@ impl Condition {
         let mut frames = [FrameLoad::default(); 5];
         for i in 0..5usize {
             frames[i] = FrameLoad {
-                shear: self.shear[i],
-                bending: self.bending[i],
+                shear: i128::from(self.shear[i]),
+                bending: i128::from(self.bending[i]),
             };
         }
         frames
@@ -85,7 +85,7 @@ impl<R: Abort + AllocGlobal> Check<R> for Condition {
         same(rt, strains.closing, self.closing);
         let loads = loads_of(profile, &sum, &afloat).ok().ok_or("loads")?;
         same(rt, loads.frames.as_slice(), self.frames().as_slice());
-        same(rt, loads.closing, self.closing);
+        same(rt, loads.closing, i128::from(self.closing));
         Ok(())
     }
 }

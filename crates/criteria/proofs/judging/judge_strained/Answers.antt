@@ -1,5 +1,5 @@
 use Rattle.std.proofs.Common.{rules, ◌≡◌, ◌∙◌, ap, sym, Bool, true, false, FitsSigned, to_z-of_z}
-use Rattle.std.specs.Int.{w64, w128}
+use Rattle.std.specs.Int.{w64}
 use Rattle.hydrostat.specs.Floating.{water}
 use Rattle.moment_sums.specs.Kept.{values}
 use Rattle.moment_sums.specs.Sum.{Weight}
@@ -14,7 +14,7 @@ returns-then-closes c =
     let p = c.args.profile.now in
     let s = values c.args.totals.now in
     let a = c.args.a.now in
-    let e : FitsSigned w128 c.args.figures.now.strains.closing = search rules in
+    let e : FitsSigned w64 c.args.figures.now.strains.closing = search rules in
     let m : FitsSigned w64 c.closing_max.result = search rules in
     λ areas is.
     let test : true ≡ closes (closing_of s areas p.ship.stations) p.ship.closing_max =
@@ -28,7 +28,7 @@ returns-else-closes c =
     let p = c.args.profile.now in
     let s = values c.args.totals.now in
     let a = c.args.a.now in
-    let e : FitsSigned w128 c.args.figures.now.strains.closing = search rules in
+    let e : FitsSigned w64 c.args.figures.now.strains.closing = search rules in
     let m : FitsSigned w64 c.closing_max.result = search rules in
     λ areas is.
     let test : false ≡ closes (closing_of s areas p.ship.stations) p.ship.closing_max =

@@ -1,4 +1,4 @@
-use Rattle.std.proofs.Common.{rules, arith, ◌≡◌, ◌∙◌, ◌≢◌, ◌⊎◌, inl, inr, ℕ, ℤ, zero, suc, ◌+◌, ◌-◌, ◌^◌, ◌<◌, ◌≤◌, List, length, length-set, ap, sym, subst, unsigned_abs, FitsSigned, to_z, of_z, to_z-of_z, Option, Some}
+use Rattle.std.proofs.Common.{rules, arith, ◌≡◌, ◌∙◌, inl, inr, ℕ, ℤ, ◌-◌, ◌^◌, ◌<◌, ◌≤◌, List, length, length-set, ap, sym, subst, unsigned_abs, FitsSigned, to_z, of_z, to_z-of_z, Option, Some}
 use Rattle.std.specs.Int.{w64}
 use Rattle.std.specs.Prelude.{is_some}
 use Rattle.std.proofs.lemmas.Option.{slice_get-get_or}

@@ -1,4 +1,4 @@
-use Rattle.std.proofs.Common.{rules, ◌≡◌, ◌∙◌, ◌^◌, ℕ, ℤ, pos, ◌+ℤ◌, ◌*ℤ◌, FitsSigned, to_z-of_z, arith}
+use Rattle.std.proofs.Common.{rules, ◌≡◌, ◌^◌, ℕ, ℤ, pos, ◌+ℤ◌, ◌*ℤ◌, FitsSigned, to_z-of_z, arith}
 use Rattle.std.specs.Int.{w64, int_div_euclid, int_shr}
 use Rattle.std.specs.Int.Signed.{mag_shr}
 use Rattle.std.proofs.lemmas.Int.{fits_signed_from_abs}

@@ -1,5 +1,5 @@
 use Rattle.std.proofs.Common.{rules, ◌≡◌, ◌∙◌, ℕ, ℤ, Bool, true, false, Result, Ok, Err, Option, None, Some, refl, sym, subst, FitsSigned, to_z-of_z}
-use Rattle.std.specs.Int.{w64, w128}
+use Rattle.std.specs.Int.{w64}
 use Rattle.ship_profile.specs.Ship.{ShipRecord}
 use Rattle.moment_sums.specs.Kept.{values}
 use Rattle.moment_sums.specs.Sum.{Sum}
@@ -26,7 +26,7 @@ returns-then-closes c =
     let p = c.args.profile.now in
     let s = values c.args.totals.now in
     let r = c.in-Some.strains in
-    let e : FitsSigned w128 r.closing = search rules in
+    let e : FitsSigned w64 r.closing = search rules in
     let m : FitsSigned w64 c.closing_max.result = search rules in
     let closed : closes r.closing p.ship.closing_max ≡ true = sym (λ j. closes (to_z-of_z e j) ((to_z-of_z m ∙ c.closing_max.ensures.value) j)) ∙ (sym c.closes.ensures ∙ c.if-closes.true) in
     subst (λ (b : Afloat). AreStrainsOr (Ok r) s (areas_along p (water b) (load b) b.lbp) p.ship) c.new-line.ensures
@@ -37,7 +37,7 @@ returns-else-closes c =
     let p = c.args.profile.now in
     let s = values c.args.totals.now in
     let r = c.in-Some.strains in
-    let e : FitsSigned w128 r.closing = search rules in
+    let e : FitsSigned w64 r.closing = search rules in
     let m : FitsSigned w64 c.closing_max.result = search rules in
     let closed : closes r.closing p.ship.closing_max ≡ false = sym (λ j. closes (to_z-of_z e j) ((to_z-of_z m ∙ c.closing_max.ensures.value) j)) ∙ (sym c.closes.ensures ∙ c.if-closes.false) in
     subst (λ (b : Afloat). AreStrainsOr (Err Closing) s (areas_along p (water b) (load b) b.lbp) p.ship) c.new-line.ensures

@@ -1,8 +1,7 @@
-use Rattle.std.proofs.Common.{rules, arith, ◌≡◌, ◌∙◌, ◌≢◌, ◌+◌, ◌-◌, ◌^◌, ◌<◌, ◌≤◌, ◌<ℤ◌, ◌≤ℤ◌, ◌-ℤ◌, ◌+ℤ◌, ◌*ℤ◌, ℕ, ℤ, pos, List, length, length-set, get_or-set_other, Option, Some, option_map, refl, ap, sym, subst, unsigned_abs, FitsSigned, to_z, of_z, to_z-of_z}
+use Rattle.std.proofs.Common.{rules, arith, ◌≡◌, ◌∙◌, ◌≢◌, ◌+◌, ◌^◌, ◌<◌, ◌≤◌, ◌<ℤ◌, ◌≤ℤ◌, ◌-ℤ◌, ℕ, ℤ, pos, List, length, length-set, get_or-set_other, Option, Some, option_map, refl, ap, sym, subst, unsigned_abs, FitsSigned, to_z, of_z, to_z-of_z}
 use Rattle.std.specs.Int.{w64}
 use Rattle.std.proofs.lemmas.Int.{fits_signed_from_abs}
 use Rattle.std.proofs.lemmas.Option.{slice_get-get_or}
-use Rattle.units_core.specs.Interpolation.{at, interval}
 use Rattle.units_core.specs.Ratio.{Ratio, floor_of}
 use Rattle.units_core.proofs.Signed.{difference_within}
 use Rattle.ship_tables.specs.Curves.{curve_at}

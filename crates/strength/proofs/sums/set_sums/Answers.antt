@@ -1,4 +1,4 @@
-use Rattle.std.proofs.Common.{rules, arith, ◌≡◌, ◌∙◌, ℕ, ℤ, pos, ◌+◌, ◌-◌, ◌*◌, ◌^◌, ◌≤◌, ◌<◌, ◌+ℤ◌, ◌*ℤ◌, List, length, length-set, map, set, get_or, ap, sym, subst, unsigned_abs, FitsSigned, to_z, of_z, to_z-of_z, refl}
+use Rattle.std.proofs.Common.{rules, arith, ◌≡◌, ◌∙◌, ℕ, ℤ, pos, ◌+◌, ◌-◌, ◌*◌, ◌^◌, ◌≤◌, ◌<◌, ◌+ℤ◌, ◌*ℤ◌, length, length-set, map, subst, unsigned_abs, FitsSigned, to_z, to_z-of_z, refl}
 use Rattle.std.specs.Int.{w64, w128}
 use Rattle.std.specs.List.{range_with_len}
 use Rattle.std.specs.Prelude.{slice_index_or}
@@ -147,41 +147,23 @@ loop-k-preserved c =
     let msum = signed.sum_back (to_z w128 c.loop-k.moment-bits) c.moment_by-moment.result refl (to_z-of_z g) (fits_within _ _ msize (omega (arith, few, many, less))) in
     let vplaces = inv.volumes_size in
     let mplaces = inv.moments_size in
-    let vless : k < length c.loop-k.walk.volumes = omega (arith, few, many, less, vplaces) in
-    let mless : k < length c.loop-k.walk.moments = omega (arith, few, many, less, mplaces) in
-    let vold = inv.volume_size in
-    let mold = inv.moment_size in
+    let vless : k + 1 < length c.loop-k.walk.volumes = omega (arith, few, many, less, vplaces) in
+    let mless : k + 1 < length c.loop-k.walk.moments = omega (arith, few, many, less, mplaces) in
+    let vnext : to_z w64 c.loop-k.volume-bits +ℤ c.volume_by-volume.result ≡ tops volumes (k + 1) = (λ j. inv.volume j +ℤ one_volume j) ∙ more volumes k in
+    let mnext : to_z w128 c.loop-k.moment-bits +ℤ c.moment_by-moment.result ≡ tops moments (k + 1) = (λ j. inv.moment j +ℤ one_moment j) ∙ more moments k in
     record {
       areas = inv.areas;
       volumes_size = simp length-set vplaces;
       moments_size = simp length-set mplaces;
-      volume = vsum ∙ ((λ j. inv.volume j +ℤ one_volume j) ∙ more volumes k);
+      volume = vsum ∙ vnext;
       volume_size = rw vsum (omega (arith, vsize));
-      moment = msum ∙ ((λ j. inv.moment j +ℤ one_moment j) ∙ more moments k);
+      moment = msum ∙ mnext;
       moment_size = rw msum (omega (arith, msize));
-      volumes_done = set_done c.loop-k.walk.volumes (tops volumes) k _ vless inv.volumes_done inv.volume;
-      volumes_within = within_below (tops volumes) k (2 * 10 ^ 16) inv.volumes_within (subst (λ z. unsigned_abs z ≤ 2 * 10 ^ 16) inv.volume (omega (arith, vold, few, many, less)));
-      moments_done = set_done c.loop-k.walk.moments (tops moments) k _ mless inv.moments_done inv.moment;
-      moments_within = within_below (tops moments) k (9 * 10 ^ 22) inv.moments_within (subst (λ z. unsigned_abs z ≤ 9 * 10 ^ 22) inv.moment (omega (arith, mold, few, many, less)));
+      volumes_done = set_done c.loop-k.walk.volumes (tops volumes) (k + 1) _ vless inv.volumes_done (vsum ∙ vnext);
+      volumes_within = within_below (tops volumes) (k + 1) (2 * 10 ^ 16) inv.volumes_within (subst (λ z. unsigned_abs z ≤ 2 * 10 ^ 16) vnext (omega (arith, vsize, few, many, less)));
+      moments_done = set_done c.loop-k.walk.moments (tops moments) (k + 1) _ mless inv.moments_done (msum ∙ mnext);
+      moments_within = within_below (tops moments) (k + 1) (9 * 10 ^ 22) inv.moments_within (subst (λ z. unsigned_abs z ≤ 9 * 10 ^ 22) mnext (omega (arith, msize, few, many, less)));
     }
-
-pub bounds-walk-weights : goal.bounds-walk-weights
-bounds-walk-weights c =
-    let xs = c.args.profile.now.ship.stations in
-    let weights : c.weights-weights.result.now ≡ map (station_weight (at xs)) (range_with_len 0 (length xs - 1)) = c.weights-weights.ensures ∙ c.sections.ensures.value.are_weights in
-    let many : length c.weights-weights.result.now ≡ length xs - 1 = rw weights (length-map-range_with_len (station_weight (at xs)) 0 (length xs - 1)) in
-    let few = c.sections.ensures.sound.ship.stations.few in
-    let some = c.sections.ensures.sound.ship.stations.some in
-    omega (arith, many, few, some)
-
-pub bounds-walk-weights-2 : goal.bounds-walk-weights-2
-bounds-walk-weights-2 c =
-    let xs = c.args.profile.now.ship.stations in
-    let weights : c.weights-weights.result.now ≡ map (station_weight (at xs)) (range_with_len 0 (length xs - 1)) = c.weights-weights.ensures ∙ c.sections.ensures.value.are_weights in
-    let many : length c.weights-weights.result.now ≡ length xs - 1 = rw weights (length-map-range_with_len (station_weight (at xs)) 0 (length xs - 1)) in
-    let few = c.sections.ensures.sound.ship.stations.few in
-    let some = c.sections.ensures.sound.ship.stations.some in
-    omega (arith, many, few, some)
 
 pub returns-clause-sums : goal.returns-clause-sums
 returns-clause-sums c =
@@ -192,26 +174,13 @@ returns-clause-sums c =
     let few = c.sections.ensures.sound.ship.stations.few in
     let inv = c.loop-k.invariant in
     let some = c.sections.ensures.sound.ship.stations.some in
-    let found = c.args.walk.now.areas in
-    let volumes : ℕ → ℤ = λ j. at found j *ℤ (station_weight (at xs) j).volume in
-    let moments : ℕ → ℤ = λ j. at found j *ℤ (station_weight (at xs) j).moment in
     let past = c.loop-k-test.false in
     let atmost = c.loop-k.auto in
     let last : k ≡ length c.weights-weights.result.now = omega (arith, past, atmost) in
-    let vplaces = inv.volumes_size in
-    let mplaces = inv.moments_size in
-    let vless : k < length c.loop-k.walk.volumes = omega (arith, few, many, some, last, vplaces) in
-    let mless : k < length c.loop-k.walk.moments = omega (arith, few, many, some, last, mplaces) in
-    let vold = inv.volume_size in
-    let mold = inv.moment_size in
-    let vwithin = within_below (tops volumes) k (2 * 10 ^ 16) inv.volumes_within (subst (λ z. unsigned_abs z ≤ 2 * 10 ^ 16) inv.volume (omega (arith, vold, few, many, last))) in
-    let mwithin = within_below (tops moments) k (9 * 10 ^ 22) inv.moments_within (subst (λ z. unsigned_abs z ≤ 9 * 10 ^ 22) inv.moment (omega (arith, mold, few, many, last))) in
-    let vdone = set_done c.loop-k.walk.volumes (tops volumes) k _ vless inv.volumes_done inv.volume in
-    let mdone = set_done c.loop-k.walk.moments (tops moments) k _ mless inv.moments_done inv.moment in
-    rw (← last, inv.areas) (record {
+    rw (inv.areas) (record {
       areas_within = λ j low. c.requires.areas j (omega (arith, low, some));
-      are_volumes = λ j low. vdone j (omega (arith, low, last, many));
-      volumes_within = λ j low. rw (vdone j (omega (arith, low, last, many))) (vwithin j (omega (arith, low, last, many)));
-      are_moments = λ j low. mdone j (omega (arith, low, last, many));
-      moments_within = λ j low. rw (mdone j (omega (arith, low, last, many))) (mwithin j (omega (arith, low, last, many)));
+      are_volumes = λ j low. inv.volumes_done j (omega (arith, low, last, many));
+      volumes_within = λ j low. rw (inv.volumes_done j (omega (arith, low, last, many))) (inv.volumes_within j (omega (arith, low, last, many)));
+      are_moments = λ j low. inv.moments_done j (omega (arith, low, last, many));
+      moments_within = λ j low. rw (inv.moments_done j (omega (arith, low, last, many))) (inv.moments_within j (omega (arith, low, last, many)));
     })

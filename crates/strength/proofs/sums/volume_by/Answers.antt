@@ -1,4 +1,4 @@
-use Rattle.std.proofs.Common.{◌*◌, ◌^◌, ◌≤◌, ◌*ℤ◌, FitsSigned, to_z-of_z, arith}
+use Rattle.std.proofs.Common.{◌*ℤ◌, FitsSigned, to_z-of_z, arith}
 use Rattle.std.specs.Int.{w64}
 use Rattle.std.proofs.lemmas.Int.{fits_signed_from_abs}
 use Rattle.units_core.proofs.Signed.{product_within}

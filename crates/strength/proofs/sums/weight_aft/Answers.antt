@@ -1,4 +1,4 @@
-use Rattle.std.proofs.Common.{rules, arith, ◌≡◌, ◌∙◌, ℤ, pos, ◌*◌, ◌^◌, ◌+◌, ◌-◌, ◌≤◌, ◌<◌, ◌+ℤ◌, ◌-ℤ◌, ◌*ℤ◌, unsigned_abs, length, get_or, FitsSigned, to_z-of_z}
+use Rattle.std.proofs.Common.{rules, arith, ◌≡◌, ◌∙◌, ℤ, pos, ◌*◌, ◌^◌, ◌-◌, ◌≤◌, ◌+ℤ◌, ◌-ℤ◌, ◌*ℤ◌, unsigned_abs, get_or, FitsSigned, to_z-of_z}
 use Rattle.std.specs.Int.{w64}
 use Rattle.std.proofs.lemmas.Int.{fits_signed_from_abs}
 use Rattle.units_core.specs.Interpolation.{at}
@@ -34,8 +34,8 @@ overflow_mul-result-2 c =
     let s = sizes c.mm-x.result c.mm-before.result c.mm-x.ensures.within c.mm-before.ensures.within in
     simp (to_z-of_z x, to_z-of_z p, to_z-of_z s.back, to_z-of_z s.twice, to_z-of_z s.sum) s.all
 
-pub returns-clause-moment : goal.returns-clause-moment
-returns-clause-moment c =
+pub returns-clause-value : goal.returns-clause-value
+returns-clause-value c =
     let xs = c.args.stations.now in
     let n = c.args.n in
     let inside = c.requires in
@@ -45,7 +45,7 @@ returns-clause-moment c =
     let here : c.mm-x.result ≡ at xs n = c.mm-x.ensures.value ∙ (c.index-stations-n.is ∙ inside_same xs n _ (pos 0) inside) in
     let back : c.saturating_sub.result ≡ n - 1 = c.saturating_sub.ensures in
     let before : c.mm-before.result ≡ at xs (n - 1) = c.mm-before.ensures.value ∙ (c.index-stations-saturating_sub.is ∙ ((λ j. get_or xs (back j) c.index-stations-saturating_sub.result) ∙ inside_same xs (n - 1) _ (pos 0) (omega (arith, inside)))) in
-    simp (to_z-of_z x, to_z-of_z p, to_z-of_z s.back, to_z-of_z s.twice, to_z-of_z s.sum, to_z-of_z s.all) (λ j. (here j -ℤ before j) *ℤ ((pos 2 *ℤ here j) +ℤ before j))
+    simp (to_z-of_z x, to_z-of_z p, to_z-of_z s.back, to_z-of_z s.twice, to_z-of_z s.sum, to_z-of_z s.all) (λ j. record { volume = here j -ℤ before j; moment = (here j -ℤ before j) *ℤ ((pos 2 *ℤ here j) +ℤ before j) })
 
 pub returns-clause-moment_size : goal.returns-clause-moment_size
 returns-clause-moment_size c =

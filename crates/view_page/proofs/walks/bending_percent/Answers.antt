@@ -13,10 +13,12 @@ loop-i-preserved c =
     let frames = c.args.frames.now in
     let load = get_or c.args.bending.now c.loop-i.i (pos 0) in
     let r : FitsSigned w128 c.percent_with-most.result = search rules in
-    let f : FitsSigned w128 load = search rules in
+    let h : FitsSigned w64 load = search rules in
+    let w : FitsSigned w128 c.from.result = search rules in
+    let f = to_z-of_z w ∙ (c.from.ensures ∙ to_z-of_z h) in
     let g : FitsSigned w64 c.bending_limit.result = search rules in
-    let limit = simp (to_z-of_z f) at c.bending_limit.ensures in
-    let step = c.percent_with-most.ensures ∙ (λ i. int_max (to_z w128 c.loop-i.most-bits) (percent_of (to_z-of_z f i) (to_z-of_z g i))) ∙ (λ i. int_max (to_z w128 c.loop-i.most-bits) (percent_of load (limit i))) in
+    let limit = simp (to_z-of_z h) at c.bending_limit.ensures in
+    let step = c.percent_with-most.ensures ∙ (λ i. int_max (to_z w128 c.loop-i.most-bits) (percent_of (f i) (to_z-of_z g i))) ∙ (λ i. int_max (to_z w128 c.loop-i.most-bits) (percent_of load (limit i))) in
     simp (to_z-of_z r)
     (frame_more (λ (i : ℕ) (fr : Frame). percent_of (bending i) (bending_limit fr (bending i))) (bending_percents bending) (λ i fr more. refl) frames c.loop-i.i c.index-frames-i.result
     _ c.percent_with-most.result (bending_percent bending frames) c.loop-i-test.true c.index-frames-i.is c.loop-i.invariant step)

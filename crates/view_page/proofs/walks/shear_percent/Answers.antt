@@ -13,10 +13,12 @@ loop-i-preserved c =
     let frame = c.index-frames-i.result in
     let load = get_or c.args.shear.now c.loop-i.i (pos 0) in
     let r : FitsSigned w128 c.percent_with-most.result = search rules in
-    let f : FitsSigned w128 load = search rules in
+    let h : FitsSigned w64 load = search rules in
+    let w : FitsSigned w128 c.from.result = search rules in
+    let f = to_z-of_z w ∙ (c.from.ensures ∙ to_z-of_z h) in
     let own : FitsSigned w64 frame.shear_max = search rules in
     let g = subst (λ (fr : Frame). FitsSigned w64 fr.shear_max) c.index-frames-i.is own in
-    let step = c.percent_with-most.ensures ∙ (λ i. int_max (to_z w128 c.loop-i.most-bits) (percent_of (to_z-of_z f i) (to_z-of_z g i))) ∙ (λ i. int_max (to_z w128 c.loop-i.most-bits) (percent_of load (sym c.index-frames-i.is i).shear_max)) in
+    let step = c.percent_with-most.ensures ∙ (λ i. int_max (to_z w128 c.loop-i.most-bits) (percent_of (f i) (to_z-of_z g i))) ∙ (λ i. int_max (to_z w128 c.loop-i.most-bits) (percent_of load (sym c.index-frames-i.is i).shear_max)) in
     simp (to_z-of_z r)
     (frame_more (λ (i : ℕ) (fr : Frame). percent_of (shear i) fr.shear_max) (shear_percents shear) (λ i fr more. refl) frames c.loop-i.i frame
     _ c.percent_with-most.result (shear_percent shear frames) c.loop-i-test.true c.index-frames-i.is c.loop-i.invariant step)

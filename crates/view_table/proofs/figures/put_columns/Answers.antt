@@ -1,5 +1,5 @@
 use Rattle.std.proofs.Common.{rules, ◌∙◌, List, [], ◌∷◌, ◌++◌, ℤ, pos, FitsSigned, to_z-of_z}
-use Rattle.std.specs.Int.{w128}
+use Rattle.std.specs.Int.{w64, w128}
 use Rattle.decimal_text.specs.Numbers.{behind_each}
 use Rattle.view_table.proofs.TextLemmas.{around_one}
 use Rattle.view_table.proofs.figures.put_columns.Goals as goal
@@ -21,12 +21,14 @@ returns-clause-text c =
     let area_30_40-fits : FitsSigned w128 f.area_30_40 = search rules in
     let lever-fits : FitsSigned w128 f.lever = search rules in
     let angle-fits : FitsSigned w128 angle = search rules in
-    let closing-fits : FitsSigned w128 closing = search rules in
+    let closing-fits : FitsSigned w64 closing = search rules in
+    let from-fits : FitsSigned w128 c.from.result = search rules in
+    let closing-is = to_z-of_z from-fits ∙ (c.from.ensures ∙ to_z-of_z closing-fits) in
     let front : List ℤ = f.gm ∷ f.mean ∷ f.aft ∷ f.fwd ∷ f.trim ∷ [] in
     let back : List ℤ = f.area_30 ∷ f.area_40 ∷ f.area_30_40 ∷ f.lever ∷ angle ∷ closing ∷ [] in
     let put-back = c.put_each.ensures.text
     ∙ (λ j. behind_each 44 (to_z-of_z area_30-fits j ∷ to_z-of_z area_40-fits j ∷ to_z-of_z area_30_40-fits j ∷ to_z-of_z lever-fits j
-    ∷ to_z-of_z angle-fits j ∷ to_z-of_z closing-fits j ∷ []) ++ end) in
+    ∷ to_z-of_z angle-fits j ∷ closing-is j ∷ []) ++ end) in
     let put-front = c.put_each-2.ensures.text
     ∙ (λ j. behind_each 44 (to_z-of_z gm-fits j ∷ to_z-of_z mean-fits j ∷ to_z-of_z aft-fits j ∷ to_z-of_z fwd-fits j
     ∷ to_z-of_z trim-fits j ∷ []) ++ c.put_field.new.end) in

@@ -1,5 +1,5 @@
-use Rattle.std.proofs.Common.{◌≡◌, ◌∙◌, ℕ, pos, List, Option, option_map, ap, sym, FitsSigned, to_z-of_z, rules}
-use Rattle.std.specs.Int.{w128}
+use Rattle.std.proofs.Common.{◌≡◌, ◌∙◌, ℕ, pos, List, Option, option_map, ap, sym, FitsSigned, to_z, of_z, to_z-of_z, rules}
+use Rattle.std.specs.Int.{w64, w128}
 use Rattle.units_core.specs.Ratio.{Ratio, whole}
 use Rattle.units_core.specs.declared.frames.Frame.{Frame}
 use Rattle.units_core.specs.Interpolation.{at}
@@ -16,8 +16,10 @@ pub returns-in-Closing : goal.returns-in-Closing
 returns-in-Closing c =
     let a = c.args.exact.now.afloat in
     let k = c.args.strains.now.closing in
-    let f : FitsSigned w128 k = search rules in
-    let is = simp (to_z-of_z f) at c.whole.ensures in
+    let g : FitsSigned w64 k = search rules in
+    let f : FitsSigned w128 c.from.result = search rules in
+    let wide : to_z w128 (of_z w128 c.from.result) ≡ k = to_z-of_z f ∙ (c.from.ensures ∙ to_z-of_z g) in
+    let is = simp wide at c.whole.ensures in
     λ y are.
     c.alone.ensures (size_below (whole k)) (c.below_zero.ensures (whole k) is)
     ∙ ap (λ (l : Limit). worst_of (candidates_of c.args.profile.now.ship (condition_by c.args.exact.now y c.args.strains.now) l c.args.step)) (sym c.in-Closing.is)

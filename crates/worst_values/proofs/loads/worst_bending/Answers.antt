@@ -1,5 +1,5 @@
 use Rattle.std.proofs.Common.{rules, ◌≡◌, ◌∙◌, ℕ, ◌+◌, ◌<◌, ℤ, pos, List, [], ◌∷◌, drop, length, get_or, Option, Some, option_map, refl, sym, ap, arith, FitsSigned, to_z-of_z}
-use Rattle.std.specs.Int.{w64, w128}
+use Rattle.std.specs.Int.{w64}
 use Rattle.std.proofs.lemmas.List.{drop_all}
 use Rattle.units_core.specs.Interpolation.{at}
 use Rattle.units_core.specs.declared.frames.Frame.{Frame}
@@ -14,7 +14,7 @@ loop-i-preserved c =
     let i = c.loop-i.i in
     let frame = c.index-frames-i.result in
     let load = get_or c.args.bending.now i (pos 0) in
-    let f : FitsSigned w128 load = search rules in
+    let f : FitsSigned w64 load = search rules in
     let g : FitsSigned w64 c.bending_limit.result = search rules in
     let part = simp (to_z-of_z f, to_z-of_z g) at c.part_of.ensures in
     let limit = simp (to_z-of_z f) at c.bending_limit.ensures in

@@ -1,5 +1,5 @@
 use Rattle.std.proofs.Common.{rules, ◌≡◌, ◌∙◌, true, false, ℤ, Option, FitsSigned, to_z-of_z, sym, ap}
-use Rattle.std.specs.Int.{w32, w64, w128}
+use Rattle.std.specs.Int.{w32, w64}
 use Rattle.worst_values.specs.Limits.{part_of}
 use Rattle.worst_values.specs.Rows.{is_marked, mark_of}
 use Rattle.worst_values.specs.Worst.{Candidate, Safety, is_worse}
@@ -9,7 +9,7 @@ use Rattle.worst_values.proofs.noting.is_within.Goals as goal
 pub returns-in-Some : goal.returns-in-Some
 returns-in-Some c =
     let m = c.in-Some.mark in
-    let f : FitsSigned w128 c.args.load = search rules in
+    let f : FitsSigned w64 c.args.load = search rules in
     let g : FitsSigned w64 c.args.limit = search rules in
     let h : FitsSigned w32 m = search rules in
     let part = simp (to_z-of_z f, to_z-of_z g) at c.part_of.ensures in

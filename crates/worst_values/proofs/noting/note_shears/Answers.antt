@@ -1,5 +1,5 @@
 use Rattle.std.proofs.Common.{rules, ◌∙◌, ℕ, ℤ, pos, List, get_or, Some, refl, sym, subst, ap, FitsSigned, to_z-of_z}
-use Rattle.std.specs.Int.{w64, w128}
+use Rattle.std.specs.Int.{w64}
 use Rattle.std.proofs.lemmas.List.{drop_all}
 use Rattle.units_core.specs.Interpolation.{at}
 use Rattle.units_core.specs.declared.frames.Frame.{Frame}
@@ -18,7 +18,7 @@ loop-i-preserved c =
     let before = row_of c.loop-i.rows row in
     let frame = c.index-frames-i.result in
     let load = get_or c.args.shear.now i (pos 0) in
-    let f : FitsSigned w128 load = search rules in
+    let f : FitsSigned w64 load = search rules in
     let own : FitsSigned w64 frame.shear_max = search rules in
     let g = subst (λ (fr : Frame). FitsSigned w64 fr.shear_max) c.index-frames-i.is own in
     let step = simp (to_z-of_z f, to_z-of_z g) at c.note_load.ensures.here in
