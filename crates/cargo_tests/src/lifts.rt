@@ -2,6 +2,7 @@ mod arrivals;
 mod equality;
 mod exchanging;
 mod faults;
+mod fillings;
 mod laws;
 mod operations;
 mod orders;

@@ -3,6 +3,7 @@ pub mod Changes
 pub mod CountLemmas
 pub mod EqualityLemmas
 pub mod ExchangeLemmas
+pub mod FillingLemmas
 pub mod FirstFaults
 pub mod FollowLemmas
 pub mod IndependentLemmas

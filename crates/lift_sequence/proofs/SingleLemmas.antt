@@ -151,7 +151,7 @@ module _ (ship : ProfileRecord) where
       )
 
   -- a tank with what it holds
-  abbrev filled : ℕ → Aboard → Option ℕ → Aboard
+  abbrev pub filled : ℕ → Aboard → Option ℕ → Aboard
   filled tank at v = record { cells = at.cells; tanks = update nat_eq at.tanks tank v }
 
   filled_again : (tank : ℕ) (at : Aboard) (v w : Option ℕ) → filled tank (filled tank at v) w ≡ filled tank at w
@@ -170,7 +170,7 @@ module _ (ship : ProfileRecord) where
   held_there tank at v = ap (λ b. cond b v (at.tanks tank)) (number_itself tank)
 
   -- what steps do behind another filling of a tank
-  abbrev AreHanded : List ℕ → ℕ → Aboard → Option ℕ → Option ℕ → List operation.Op → Type 0
+  abbrev pub AreHanded : List ℕ → ℕ → Aboard → Option ℕ → Option ℕ → List operation.Op → Type 0
   AreHanded name tank at v w ms =
       (CanBeDone ship (filled tank at v) ms → CanBeDone ship (filled tank at w) ms)
       × (steps_of ship (filled tank at w) ms ≡ handed name (filling_in ship tank w) ms (steps_of ship (filled tank at v) ms))
@@ -218,7 +218,7 @@ module _ (ship : ProfileRecord) where
           λ i. record { cells = at.cells; tanks = tank_first at.tanks tank t v (Some kg) two i },
         )
 
-    handed_on : (at : Aboard) (v w : Option ℕ) (ms : List operation.Op) → AreHanded name tank at v w ms
+    pub handed_on : (at : Aboard) (v w : Option ℕ) (ms : List operation.Op) → AreHanded name tank at v w ms
     handed_on at v w [] = (λ done. done, refl)
     handed_on at v w (Lift (Load item) ∷ ms) =
         let rest = handed_on (with_item at item) v w ms in

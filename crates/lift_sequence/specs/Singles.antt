@@ -1,6 +1,6 @@
 -- One step more or less in a sequence: what the other steps do then.
-use Rattle.std.specs.Prelude.{◌≡◌, ◌⊎◌, ℕ, ◌<◌, List, [], ◌∷◌, Option, None, Some, Bool, true}
-use Rattle.std.specs.Prelude.{false, ◌&&◌, ◌+◌, length, take, drop, nat_lt, slice_get}
+use Rattle.std.specs.Prelude.{◌≡◌, ◌⊎◌, ℕ, zero, suc, ◌<◌, List, [], ◌∷◌, Option, None, Some, Bool}
+use Rattle.std.specs.Prelude.{true, false, ◌&&◌, ◌+◌, length, take, drop, nat_lt, slice_get}
 use Rattle.std.specs.Prelude.{if◌then◌else◌}
 use Rattle.std.specs.Option.{is_none}
 use Rattle.std.specs.List.{list_all}
@@ -59,6 +59,26 @@ abbrev pub handed_by : operation.Op → Option Mass → List operation.Op → Li
 handed_by (Fill name kg) out ops steps = handed name.items out ops steps
 handed_by (Lift lift) out ops steps = steps
 handed_by (Restow from to id) out ops steps = steps
+
+-- what steps do where the step at a place puts something else into the tank of a name, which the
+-- next of them that fills it takes out
+abbrev pub refilled : List ℕ → Option Mass → ℕ → List operation.Op → List Step → List Step
+refilled name put i [] steps = steps
+refilled name put i (op ∷ ops) [] = []
+refilled name put zero (op ∷ ops) (step ∷ steps) =
+    record { out = step.out; put = put } ∷ handed name put ops steps
+refilled name put (suc i) (op ∷ ops) (step ∷ steps) = step ∷ refilled name put i ops steps
+
+-- the steps at two places of a list fill the same tank
+abbrev pub fills_as : Option operation.Op → Option operation.Op → Bool
+fills_as None other = false
+fills_as (Some (Lift lift)) other = false
+fills_as (Some (Fill name kg)) None = false
+fills_as (Some (Fill name kg)) (Some other) = fills other name.items
+fills_as (Some (Restow from to id)) other = false
+
+abbrev pub fill_one_tank : List operation.Op → ℕ → ℕ → Bool
+fill_one_tank ops i j = fills_as (slice_get ops i) (slice_get ops j)
 
 -- two conditions hold the same in a cell and in those that overlap it
 pub record AreAlikeAt (cell : Cell) (a b : Aboard) : Type 0 where

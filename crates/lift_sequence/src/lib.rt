@@ -10,7 +10,8 @@
 //! does the search for a cell that overlaps. [`Sequence::reweigh`] changes the weight of one load
 //! afterwards, and with it what the steps do that move its container; [`Sequence::swap`] swaps two
 //! steps that are independent of each other and of all steps between, and [`Sequence::shift`] takes
-//! a step past others that are independent of it.
+//! a step past others that are independent of it; [`Sequence::swap_fillings`] exchanges two
+//! fillings of one tank.
 #![tactic(auto)]
 
 mod arrivals;
@@ -18,6 +19,7 @@ mod carrying;
 mod containers;
 mod equality;
 mod faults;
+mod fillings;
 mod hashing;
 mod independence;
 mod laws;

@@ -1,6 +1,6 @@
 //! One step more or less in a sequence, in place.
 ghost use Rattle.std.specs.Prelude.{◌≡◌, ◌+◌, ◌-◌, ◌<◌, ◌≤◌, ◌++◌, length, take, drop};
-ghost use Rattle.std.specs.Prelude.{IfOk, OnOk, OnErr, None, ◌∷◌};
+ghost use Rattle.std.specs.Prelude.{IfOk, OnOk, OnErr, None, ◌∷◌, ◌≢◌, ℕ, slice_get};
 ghost use Rattle.std.specs.Bool.{OnTrue, OnFalse};
 ghost use Rattle.std.specs.List.{insert, remove};
 ghost use Rattle.ship_profile.specs.Record.{ProfileRecord};
@@ -51,20 +51,29 @@ fn can_go(ops: &[Op], place: usize) -> bool
     is_apart(&ops[place], &ops[place + 1..])
 }
 
-/// Lets the first step, from a place on, that fills the tank of a name take this out of it.
-fn hand_on(ops: &[Op], steps: &mut [Step], from: usize, name: &[u8], out: Option<Body>)
+/// Lets the first step, from a place on, that fills the tank of a name take this out of it. It
+/// returns the place of that step; the number of steps where none does.
+pub(crate) fn hand_on(
+    ops: &[Op],
+    steps: &mut [Step],
+    from: usize,
+    name: &[u8],
+    out: Option<Body>,
+) -> usize
     requires within { from ≤ length ops.now }
     requires as_many { length steps.old ≡ length ops.now }
     ensures steps { steps.new ≡ take from steps.old
         ++ handed name.now out (drop from ops.now) (drop from steps.old) }
+    ensures others { (k : ℕ) → k ≢ result → slice_get steps.new k ≡ slice_get steps.old k }
     ensures as_many { length steps.new ≡ length ops.now }
 {
     for place in from..ops.len() {
         if ops[place].fills(name) {
             steps[place].out = out;
-            return;
+            return place;
         }
     }
+    ops.len()
 }
 
 /// Where a step is a filling, lets the next one of its tank, from a place on, take this out.

@@ -1,0 +1,119 @@
+//! Two fillings of a tank that are exchanged, and steps that aren't two fillings.
+ghost use Rattle.lift_sequence.specs.Sequence.{IsOf};
+
+use super::exchanging::{check_same, sequence};
+use super::orders::Order;
+use super::ships::{AFT, FORE};
+use crate::checks::same;
+use box_ship::{Check, on_box_ship};
+use lift_sequence::{Arrival, SeqFault, Sequence};
+use ship_profile::Profile;
+use std::process::Abort;
+use std::test::Fail;
+
+/// Exchanges the fillings of two numbers; nothing where one of them isn't there.
+fn swap_fillings(sequence: &mut Sequence, a: usize, b: usize) -> Option<(usize, usize)> {
+    if a == 0 || b == 0 {
+        return None;
+    }
+    if sequence.len() < a {
+        return None;
+    }
+    if sequence.len() < b {
+        return None;
+    }
+    sequence.swap_fillings(a, b)
+}
+
+/// The first filling and the fourth step, which is the third, are exchanged and exchanged back; so
+/// are the second and the last one, which no filling follows, and two that follow each other. What
+/// the next filling takes out is compared, too. A load is exchanged with nothing.
+fn check_exchanged(
+    rt: &(impl Abort + AllocGlobal),
+    profile: &Profile,
+    arrival: &Arrival,
+) -> Result<(), SeqFault>
+    requires { IsOf profile.now arrival.now }
+{
+    let before = sequence(rt.alloc(), profile, arrival, &FILLINGS)?;
+    let far = sequence(rt.alloc(), profile, arrival, &FAR)?;
+    let last = sequence(rt.alloc(), profile, arrival, &LAST)?;
+    let near = sequence(rt.alloc(), profile, arrival, &NEAR)?;
+    let mut changed = sequence(rt.alloc(), profile, arrival, &FILLINGS)?;
+    same(rt, swap_fillings(&mut changed, 1, 4), Some((2, 5)));
+    check_same(rt, &changed, &far);
+    same(rt, swap_fillings(&mut changed, 4, 1), Some((5, 2)));
+    check_same(rt, &changed, &before);
+    same(rt, swap_fillings(&mut changed, 3, 6), Some((3, 7)));
+    check_same(rt, &changed, &last);
+    same(rt, swap_fillings(&mut changed, 6, 3), Some((7, 3)));
+    same(rt, swap_fillings(&mut changed, 3, 4), Some((3, 5)));
+    check_same(rt, &changed, &near);
+    same(rt, swap_fillings(&mut changed, 3, 4), Some((3, 5)));
+    same(rt, swap_fillings(&mut changed, 1, 2), None);
+    same(rt, swap_fillings(&mut changed, 2, 1), None);
+    check_same(rt, &changed, &before);
+    Ok(())
+}
+
+static FILLINGS: [Order; 7] = [
+    Order::Fill("DB1", 500_000),
+    Order::Weighing(FORE, 11_000),
+    Order::Fill("DB1", 300_000),
+    Order::Fill("DB1", 200_000),
+    Order::Weighing(AFT, 7_300),
+    Order::Fill("DB1", 100_000),
+    Order::Discharge(FORE, ""),
+];
+
+static FAR: [Order; 7] = [
+    Order::Fill("DB1", 200_000),
+    Order::Weighing(FORE, 11_000),
+    Order::Fill("DB1", 300_000),
+    Order::Fill("DB1", 500_000),
+    Order::Weighing(AFT, 7_300),
+    Order::Fill("DB1", 100_000),
+    Order::Discharge(FORE, ""),
+];
+
+static LAST: [Order; 7] = [
+    Order::Fill("DB1", 500_000),
+    Order::Weighing(FORE, 11_000),
+    Order::Fill("DB1", 100_000),
+    Order::Fill("DB1", 200_000),
+    Order::Weighing(AFT, 7_300),
+    Order::Fill("DB1", 300_000),
+    Order::Discharge(FORE, ""),
+];
+
+static NEAR: [Order; 7] = [
+    Order::Fill("DB1", 500_000),
+    Order::Weighing(FORE, 11_000),
+    Order::Fill("DB1", 200_000),
+    Order::Fill("DB1", 300_000),
+    Order::Weighing(AFT, 7_300),
+    Order::Fill("DB1", 100_000),
+    Order::Discharge(FORE, ""),
+];
+
+/// Fillings of one tank, each of another mass.
+#[derive(Clone, Copy)]
+struct Fillings;
+
+impl<R: Abort + AllocGlobal> Check<R> for Fillings {
+    fn check(&self, rt: &R, profile: &Profile) -> Result<(), Fail> {
+        // `?` is longer to prove
+        match Arrival::new(rt.alloc(), profile, Vec::new(rt.alloc()), &[]) {
+            Ok(arrival) => {
+                same(rt, check_exchanged(rt, profile, &arrival), Ok(()));
+                Ok(())
+            }
+            Err(fault) => Err(fault)?,
+        }
+    }
+}
+
+#[test]
+fn fillings_are_exchanged(rt: HostRuntime) -> Result<(), Fail> {
+    on_box_ship(&rt, &Fillings)
+}
