@@ -1,10 +1,10 @@
 -- Runs of fours that are set together.
-use Rattle.std.proofs.Common.{◌≡◌, ◌∙◌, ℕ, zero, suc, ◌+◌, ◌-◌, ◌*◌, ◌/◌, ◌^◌, ◌<◌, ◌≤◌, List, ◌++◌, Option, ◌∷◌, length, take, drop, set, get_or, sum_by, Bool, true, false, refl, sym, ap, subst, arith, lt_of_not-le, mul-le-mul_right, get_or-set_same, get_or-set_other}
+use Rattle.std.proofs.Common.{◌≡◌, ◌∙◌, ℕ, zero, suc, ◌+◌, ◌-◌, ◌*◌, ◌/◌, ◌^◌, ◌<◌, ◌≤◌, List, ◌++◌, Option, ◌∷◌, length, take, drop, set, get_or, sum_by, true, refl, sym, ap, subst, arith, lt_of_not-le, mul-le-mul_right, get_or-set_same, get_or-set_other}
 use Rattle.std.specs.Prelude.{if◌then◌else◌}
 use Rattle.std.proofs.lemmas.Bool.{true≢false}
 use Rattle.std.proofs.lemmas.List.{drop_more, get_or-drop, get_or_past, length-set}
 use mathlib.Core.Logic.{dite}
-use native.Mathlib.Decide.{dec_le, ℕ_discrete}
+use native.Mathlib.Decide.{dec_le}
 use Rattle.lift_sequence.specs.declared.operations.Op.{Op}
 use Rattle.units_core.specs.declared.cells.Cell.{Cell}
 use Rattle.lift_sequence.specs.Follow.{loaded_at, moves, moves_in, next_cell}
@@ -12,7 +12,7 @@ use Rattle.prefix_scan.specs.Rows.{IsWritten}
 use Rattle.prefix_scan.proofs.StretchLemmas.{length-with, with_before, with_behind, with_inside, written}
 use Rattle.moment_sums.specs.Kept.{Kept, both_kept, none_kept, size_of}
 use Rattle.running_sums.specs.Fours.{AreMixed, AreMixedBut, AreOfFour, AreSmall, AreStill, LacksRun, WereNear, fours}
-use Rattle.running_sums.proofs.FourLemmas.{length-fours, not_written, of_four, of_four_append, of_four_at, of_four_drop, of_four_from, of_four_sum, of_four_take, quarter}
+use Rattle.running_sums.proofs.FourLemmas.{not_written, of_four, of_four_append, of_four_at, of_four_drop, of_four_from, of_four_sum, of_four_take, quarter}
 use Rattle.running_sums.proofs.RenewLemmas.{begins, goes_on, skips}
 
 -- sums in a room, and the list into which they were written

@@ -2,7 +2,7 @@
 -- before and after the steps that move one container were given bodies of another weight; and the
 -- sums of each four of them.
 use Rattle.std.specs.Prelude.{◌≡◌, ℕ, ⊤, ◌+◌, ◌-◌, ◌*◌, ◌^◌, ◌<◌, ◌≤◌, List, [], ◌∷◌, ◌++◌, length}
-use Rattle.std.specs.Prelude.{take, drop, Option, Some, slice_get, false}
+use Rattle.std.specs.Prelude.{take, drop, Option, Some, slice_get, slice_index_or, false, ◌≢◌, ◌/◌}
 use Rattle.std.specs.List.{swap}
 use Rattle.units_core.specs.declared.cells.Cell.{Cell}
 use Rattle.units_core.specs.declared.frames.Frame.{Frame}
@@ -90,6 +90,31 @@ pub record WereExchanged (one other : ℕ) (changes sums : List Kept) : Type 0 w
   pub small : AreSmall olds
   pub are : sums ≡ fours olds
   pub exchanged : changes ≡ swap olds one other
+
+-- a place is none of these
+abbrev pub IsOther : ℕ → List ℕ → Type 0
+IsOther k [] = ⊤
+IsOther k (place ∷ places) = (k ≢ place) × IsOther k places
+
+-- the sums of fours of changes before those at some places became others
+pub record WereBut (places : List ℕ) (changes sums : List Kept) : Type 0 where
+  pub olds : List Kept
+  pub long : length olds ≡ length changes
+  pub small : AreSmall olds
+  pub are : sums ≡ fours olds
+  pub same : (k : ℕ) → IsOther k places
+      → slice_index_or olds k none_kept ≡ slice_index_or changes k none_kept
+
+-- none of some places is in a four
+abbrev pub AreElsewhere : ℕ → List ℕ → Type 0
+AreElsewhere four [] = ⊤
+AreElsewhere four (place ∷ places) = (place / 4 ≢ four) × AreElsewhere four places
+
+-- sums of fours that are as they are wanted, but where one of some places is in the four
+pub record LackPlaces (places : List ℕ) (all sums : List Kept) : Type 0 where
+  pub long : length sums ≡ length all
+  pub same : (four : ℕ) → AreElsewhere four places
+      → slice_index_or sums four none_kept ≡ slice_index_or all four none_kept
 
 -- A count of joins grows by at most so many times those of one change or query, which are at most
 -- l + 1 where there are at most 2^l steps.

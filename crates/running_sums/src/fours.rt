@@ -350,6 +350,7 @@ impl Fours {
         ensures values { IsWritten none_kept four (end - four)
             (drop four (fours (map (change_of frames.now) sequence.now.steps))) self.old.values
             self.new.values }
+        ensures small { AreOfFour self.new.values }
         ensures joins { self.new.joins ≡ self.old.joins }
     {
         let mut from = four;

@@ -1,11 +1,11 @@
 ghost use Rattle.std.specs.Prelude.{◌≡◌, ℕ, ◌+◌, ◌*◌, ◌/◌, ◌^◌, ◌<◌, ◌≤◌, length, map, drop};
 ghost use Rattle.std.specs.Prelude.{◌-◌, List, slice_get, slice_set, slice_index_or, true, None};
-ghost use Rattle.std.specs.Prelude.{Some};
+ghost use Rattle.std.specs.Prelude.{Some, ◌∷◌};
 ghost use Rattle.lift_sequence.specs.declared.operations.Op.{Op as Operation};
 ghost use Rattle.lift_sequence.specs.Follow.{loaded_at, moves, moves_in};
 ghost use Rattle.moment_sums.specs.Kept.{Kept, none_kept};
-ghost use Rattle.running_sums.specs.Fours.{AreOfFour, AreStill, CostsUpTo, LacksRun};
-ghost use Rattle.running_sums.specs.Fours.{WereExchanged, WereNear, change_of, fours};
+ghost use Rattle.running_sums.specs.Fours.{AreOfFour, AreStill, CostsUpTo, LackPlaces, LacksRun};
+ghost use Rattle.running_sums.specs.Fours.{WereBut, WereExchanged, WereNear, change_of, fours};
 
 use crate::fours::Fours;
 use lift_sequence::{Op, Sequence};
@@ -130,4 +130,39 @@ pub fn renew_both(sums: &mut Fours, sequence: &Sequence, frames: &Frames, one: u
     sequence.facts();
     sums.set(sequence, frames, one);
     sums.set(sequence, frames, other);
+}
+
+/// Sets what the four steps change together one of which is at a place, if they are four. No join
+/// is counted.
+fn renew_place(sums: &mut Fours, sequence: &Sequence, frames: &Frames, place: usize)
+    requires long { length sums.old.values ≡ length sequence.now.ops / 4 }
+    requires small { AreOfFour sums.old.values }
+    ensures long { length sums.new.values ≡ length sums.old.values }
+    ensures small { AreOfFour sums.new.values }
+    ensures set { (places : List ℕ) →
+        LackPlaces (place ∷ places) (fours (map (change_of frames.now) sequence.now.steps))
+        sums.old.values →
+        LackPlaces places (fours (map (change_of frames.now) sequence.now.steps))
+        sums.new.values }
+    ensures joins { sums.new.joins ≡ sums.old.joins }
+{
+    sequence.facts();
+    let four = place / 4;
+    let end = (four + 1).min(sequence.len() / 4);
+    let mut room = [Totals::unit(); 1];
+    sums.renew(sequence, frames, four, end, &mut room);
+}
+
+/// Sets what the steps at some places change. The sums are of what the steps changed before those
+/// there became others. As where all of the sums are made, no join is counted.
+pub fn renew_places(sums: &mut Fours, sequence: &Sequence, frames: &Frames, places: &[usize])
+    requires { WereBut places.now (map (change_of frames.now) sequence.now.steps)
+        sums.old.values }
+    ensures values { sums.new.values ≡ fours (map (change_of frames.now) sequence.now.steps) }
+    ensures joins { sums.new.joins ≡ sums.old.joins }
+{
+    sequence.facts();
+    for n in 0..places.len() {
+        renew_place(sums, sequence, frames, places[n]);
+    }
 }

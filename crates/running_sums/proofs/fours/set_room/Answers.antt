@@ -1,4 +1,4 @@
-use Rattle.std.proofs.Common.{◌≡◌, ◌∙◌, ◌+◌, ◌*◌, ◌^◌, ◌<◌, map, set, get_or, below_more, length-set, get_or-set_same, get_or-set_other, arith}
+use Rattle.std.proofs.Common.{◌≡◌, ◌∙◌, ◌+◌, map, set, get_or, below_more, length-set, get_or-set_same, get_or-set_other, arith}
 use Rattle.moment_sums.specs.Kept.{none_kept}
 use Rattle.running_sums.specs.Fours.{change_of, fours}
 use Rattle.running_sums.proofs.fours.set_room.Goals as goal

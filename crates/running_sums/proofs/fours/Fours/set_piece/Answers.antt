@@ -1,4 +1,4 @@
-use Rattle.std.proofs.Common.{◌≡◌, ◌∙◌, ◌+◌, ◌*◌, ◌/◌, ◌<◌, ◌≤◌, ◌++◌, ℕ, List, length, map, take, drop, get_or, sym, ap, arith, subst}
+use Rattle.std.proofs.Common.{◌≡◌, ◌∙◌, ◌+◌, ◌≤◌, ℕ, List, length, map, drop, sym, ap, arith, subst}
 use Rattle.prefix_scan.specs.Counted.{Counted}
 use Rattle.prefix_scan.specs.Rows.{IsWritten}
 use Rattle.moment_sums.specs.Kept.{Kept, none_kept}
