@@ -36,10 +36,14 @@ struct Tried<'a> {
     kept: &'a Kept,
 }
 
-/// Whether an edit that makes the second list of the first asks for no memory: it takes a step out
-/// and leaves fewer than four, of which no sum is kept.
-fn asks_for_none(from: &[Op], to: &[Op]) -> bool {
-    to.len() < from.len() && to.len() < 4
+/// Whether an edit that makes the second list of the first asks for no memory: it exchanges two
+/// fillings of one tank; or it takes a step out and leaves fewer than four, of which no sum is
+/// kept.
+fn asks_for_none(kind: Kind, from: &[Op], to: &[Op]) -> bool {
+    match kind {
+        Kind::SwapFillings => true,
+        _ => to.len() < from.len() && to.len() < 4,
+    }
 }
 
 /// Says how many growths of an edit were refused, or, where it may ask for none, that it doesn't.
@@ -67,7 +71,7 @@ fn try_apply<'a, R: AllocGlobal + Threads + Wait + Sync, W: Write>(
         kept: tried.kept,
     };
     let tally = watch(rt, &mut Trial::Apply(editing));
-    let free = asks_for_none(tried.before, tried.after);
+    let free = asks_for_none(tried.kind, tried.before, tried.after);
     note_edit(out, name, tried.kind, free, tally)
 }
 
@@ -87,7 +91,7 @@ fn try_undo<'a, R: AllocGlobal + Threads + Wait + Sync, W: Write>(
         kept: tried.kept,
     };
     let tally = watch(rt, &mut Trial::Undo(editing));
-    let free = asks_for_none(tried.after, tried.before);
+    let free = asks_for_none(tried.kind, tried.after, tried.before);
     note_edit(out, name, tried.kind, free, tally)
 }
 

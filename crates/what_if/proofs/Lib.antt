@@ -1,4 +1,5 @@
 mod ChangeLemmas
+mod FillingLemmas
 mod MoveLemmas
 mod PassingLemmas
 mod PastLemmas

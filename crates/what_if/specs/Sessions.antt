@@ -1,6 +1,6 @@
 -- A session: a list of steps that is edited, and the lists that it was before, so that the last
 -- edits can be taken back.
-use Rattle.std.specs.Prelude.{◌≡◌, ⊤, ℕ, ◌+◌, ◌*◌, ◌^◌, ◌≤◌, List, [], ◌∷◌, length, map, drop}
+use Rattle.std.specs.Prelude.{◌≡◌, ⊤, ℕ, ◌+◌, List, [], ◌∷◌, length, map, drop}
 use Rattle.std.specs.Prelude.{Option, None, option_map, Ok}
 use Rattle.std.specs.Option.{option_or}
 use Rattle.circular_buffer.specs.Buffer.{Buffer}

@@ -18,7 +18,7 @@ use crate::singles::piece;
 use crate::summed_lists::SummedList;
 use lift_sequence::{SeqCode, SeqFault, Sequence};
 use moment_sums::Totals;
-use running_sums::{Fours, renew, renew_both};
+use running_sums::{Fours, renew, renew_both, renew_places};
 use std::alloc::AllocError;
 use step_edits::{Edit, EditFault, edit_list, fault_of};
 use units_core::Kg;
@@ -57,12 +57,13 @@ fn weigh(sequence: &mut Sequence, k: usize, kg: Kg)
 
 impl SummedList {
     /// Makes an edit. Where it is refused, or out of memory, everything is as it was. Another
-    /// weight of a load checks no step and takes no memory; nor does an exchange of two steps that
-    /// are independent of each other and of all steps between. A move of a step past others that it
-    /// is independent of makes the sums of these steps anew; a step that comes in or goes away, and
-    /// is a filling or independent of all steps behind it, those of the steps behind it. Any other
-    /// edit makes the sequence and all of its sums anew. Where a list gets longer or shorter, the
-    /// edit sees to the room for what searches keep, or leaves it.
+    /// weight of a load checks no step and takes no memory; nor does an exchange of two fillings of
+    /// one tank, or of two steps that are independent of each other and of all steps between. A
+    /// move of a step past others that it is independent of makes the sums of these steps anew; a
+    /// step that comes in or goes away, and is a filling or independent of all steps behind it,
+    /// those of the steps behind it. Any other edit makes the sequence and all of its sums anew.
+    /// Where a list gets longer or shorter, the edit sees to the room for what searches keep, or
+    /// leaves it.
     pub fn edit(&mut self, edit: &Edit, room: Room) -> Result<(), EditFault>
         ensures made { OnOk result ((refusal self.old.base self.old.ops edit.now ≡ None)
             × (self.new.ops ≡ edited self.old.ops edit.now)) }
@@ -108,8 +109,8 @@ impl SummedList {
         }
     }
 
-    /// Exchanges two steps, where they are independent of each other and of all steps between. It
-    /// returns whether it did; if not, everything is as it was.
+    /// Exchanges two steps, where they are independent of each other and of all steps between, or
+    /// fill one tank. It returns whether it did; if not, everything is as it was.
     fn exchange(&mut self, a: usize, b: usize) -> bool
         requires first { (1 ≤ a) × (1 ≤ b) }
         requires last { (a ≤ length self.old.ops) × (b ≤ length self.old.ops) }
@@ -120,7 +121,7 @@ impl SummedList {
         ensures cost { CostsUpTo 2 (length self.old.ops) self.old.joins self.new.joins }
     {
         if !self.sequence.swap(a, b) {
-            return false;
+            return self.exchange_fillings(a, b);
         }
         renew_both(
             &mut self.sums,
@@ -128,6 +129,30 @@ impl SummedList {
             self.base.profile().frames(),
             a - 1,
             b - 1,
+        );
+        true
+    }
+
+    /// Exchanges two fillings of one tank, and sets the sums in which they and those are that take
+    /// out something else then. It returns whether it did; if not, everything is as it was. As
+    /// where all sums are made, no join is counted.
+    fn exchange_fillings(&mut self, a: usize, b: usize) -> bool
+        requires first { (1 ≤ a) × (1 ≤ b) }
+        requires last { (a ≤ length self.old.ops) × (b ≤ length self.old.ops) }
+        ensures base { self.new.base ≡ self.old.base }
+        ensures ops { OnTrue result (self.new.ops ≡ swap self.old.ops (a - 1) (b - 1)) }
+        ensures legal { OnTrue result (list_fault self.old.base self.new.ops ≡ None) }
+        ensures same { OnFalse result (self.new ≡ self.old) }
+        ensures joins { self.new.joins ≡ self.old.joins }
+    {
+        let Some((one, other)) = self.sequence.swap_fillings(a, b) else {
+            return false;
+        };
+        renew_places(
+            &mut self.sums,
+            &self.sequence,
+            self.base.profile().frames(),
+            &[a - 1, b - 1, one, other],
         );
         true
     }

@@ -77,3 +77,30 @@ fn edited_in_place(rt: HostRuntime) -> Result<(), Fail> {
     let mut long = session_on(rt.alloc(), &read, list)?;
     edit_list(&rt, &mut long)
 }
+
+/// Two of four fillings of a tank are exchanged, between which another one and many loads come,
+/// and are exchanged back; so are the first and the last step, and two that follow each other.
+fn exchange_fillings(
+    rt: &(impl Abort + AllocGlobal + Threads + Wait + Sync),
+    session: &mut Session,
+) -> Result<(), Fail> {
+    check_edited(rt, session, Edit::Swap { a: 1, b: 1_402 })?;
+    check_undone(rt, session)?;
+    check_edited(rt, session, Edit::Swap { a: 2_103, b: 1 })?;
+    check_edited(rt, session, Edit::Swap { a: 702, b: 703 })?;
+    check_undone(rt, session)?;
+    check_undone(rt, session)
+}
+
+#[test]
+fn fillings_exchanged_in_place(rt: HostRuntime) -> Result<(), Fail> {
+    let read = session(rt.alloc(), NO_MOVES)?;
+    let mut list = turns(rt.alloc(), 1_049)?;
+    list.insert(0, filling(3_000))?;
+    list.insert(701, filling(5_000))?;
+    list.insert(702, filling(11_000))?;
+    list.insert(1_401, filling(7_000))?;
+    list.push(filling(2_000))?;
+    let mut long = session_on(rt.alloc(), &read, list)?;
+    exchange_fillings(&rt, &mut long)
+}
