@@ -1,9 +1,11 @@
 //! Steps that come into a long list and go away again where the others can stay as they are. Each
 //! report is compared with that of a session which was just made of the same list.
-use super::searches::{filling, turns};
+use super::searches::{add_turns, filling, turns};
 use super::{report_of, session, session_on};
 use crate::checks::same;
 use box_ship::NO_MOVES;
+use lift_sequence::Op;
+use std::alloc::{AllocError, Global};
 use std::process::Abort;
 use std::sync::Wait;
 use std::test::Fail;
@@ -78,8 +80,8 @@ fn edited_in_place(rt: HostRuntime) -> Result<(), Fail> {
     edit_list(&rt, &mut long)
 }
 
-/// Two of four fillings of a tank are exchanged, between which another one and many loads come,
-/// and are exchanged back; so are the first and the last step, and two that follow each other.
+/// Two fillings of a tank are exchanged, between which two others and many loads come, and are
+/// exchanged back; so are the first and the last step, and two that follow each other.
 fn exchange_fillings(
     rt: &(impl Abort + AllocGlobal + Threads + Wait + Sync),
     session: &mut Session,
@@ -92,15 +94,24 @@ fn exchange_fillings(
     check_undone(rt, session)
 }
 
+/// A list of 2,103 steps, of which the steps 1, 702, 703, 1,402 and 2,103 fill one tank.
+fn far_fillings(alloc: Global) -> Result<Vec<Op>, AllocError> {
+    let mut list = Vec::new(alloc);
+    list.push(filling(3_000))?;
+    add_turns(&mut list, 350)?;
+    list.push(filling(5_000))?;
+    list.push(filling(11_000))?;
+    add_turns(&mut list, 349)?;
+    list.push(filling(7_000))?;
+    add_turns(&mut list, 350)?;
+    list.push(filling(2_000))?;
+    Ok(list)
+}
+
 #[test]
 fn fillings_exchanged_in_place(rt: HostRuntime) -> Result<(), Fail> {
     let read = session(rt.alloc(), NO_MOVES)?;
-    let mut list = turns(rt.alloc(), 1_049)?;
-    list.insert(0, filling(3_000))?;
-    list.insert(701, filling(5_000))?;
-    list.insert(702, filling(11_000))?;
-    list.insert(1_401, filling(7_000))?;
-    list.push(filling(2_000))?;
+    let list = far_fillings(rt.alloc())?;
     let mut long = session_on(rt.alloc(), &read, list)?;
     exchange_fillings(&rt, &mut long)
 }

@@ -60,13 +60,19 @@ pub fn filling(kg: u32) -> Op {
     Op::Fill { name, kg }
 }
 
-/// So many containers of 1 t come aboard and go ashore in turn.
-pub fn turns(alloc: Global, count: u32) -> Result<Vec<Op>, AllocError> {
-    let mut list = Vec::new(alloc);
+/// So many containers of 1 t come aboard and go ashore in turn, behind the steps of a list.
+pub fn add_turns(list: &mut Vec<Op>, count: u32) -> Result<(), AllocError> {
     for _ in 0..count {
         list.push(load(1_000))?;
         list.push(discharge())?;
     }
+    Ok(())
+}
+
+/// A list of such steps alone.
+pub fn turns(alloc: Global, count: u32) -> Result<Vec<Op>, AllocError> {
+    let mut list = Vec::new(alloc);
+    add_turns(&mut list, count)?;
     Ok(list)
 }
 
