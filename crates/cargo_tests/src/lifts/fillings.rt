@@ -25,9 +25,9 @@ fn swap_fillings(sequence: &mut Sequence, a: usize, b: usize) -> Option<(usize, 
     sequence.swap_fillings(a, b)
 }
 
-/// The first filling and the fourth step, which is the third, are exchanged and exchanged back; so
-/// are the second and the last one, which no filling follows, and two that follow each other. What
-/// the next filling takes out is compared, too. A load is exchanged with nothing.
+/// The fillings that are steps 1 and 4 are exchanged, and exchanged back; so are 3 and 6, behind
+/// which no filling comes, and 3 and 4, which follow each other. What the next filling takes out is
+/// compared, too. A load is exchanged with nothing.
 fn check_exchanged(
     rt: &(impl Abort + AllocGlobal),
     profile: &Profile,
