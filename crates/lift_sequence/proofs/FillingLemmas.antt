@@ -87,7 +87,7 @@ module _ {X : Type 0} where
 
 module _ (ship : ProfileRecord) (name : List ℕ) where
   -- a filling puts in the same whatever is aboard, and can be done or not whatever is aboard
-  same_put : (at other : Aboard) (op : operation.Op) → fills op name ≡ true → (step_of ship at op).put ≡ (step_of ship other op).put
+  pub same_put : (at other : Aboard) (op : operation.Op) → fills op name ≡ true → (step_of ship at op).put ≡ (step_of ship other op).put
   same_put at other (Lift lift) is = absurd (cc)
   same_put at other (Restow from to id) is = absurd (cc)
   same_put at other (Fill n kg) is = by_tank (tank_of ship n.items) where
@@ -100,13 +100,13 @@ module _ (ship : ProfileRecord) (name : List ℕ) where
   same_fault at other (Restow from to id) is legal = absurd (cc)
   same_fault at other (Fill n kg) is legal = legal
 
-  put_there : (at : Aboard) (ops : List operation.Op) (i : ℕ) (d : operation.Op) (e : Step) → i < length ops → fills (get_or ops i d) name ≡ true
+  pub put_there : (at : Aboard) (ops : List operation.Op) (i : ℕ) (d : operation.Op) (e : Step) → i < length ops → fills (get_or ops i d) name ≡ true
       → (get_or (steps_of ship at ops) i e).put ≡ (step_of ship nothing (get_or ops i d)).put
   put_there at [] i d e within is = absurd (omega arith)
   put_there at (op ∷ ops) zero d e within is = same_put at nothing op is
   put_there at (op ∷ ops) (suc i) d e within is = put_there (after_step ship at op) ops i d e (omega arith) is
 
-  legal_there : (at other : Aboard) (ops : List operation.Op) (i : ℕ) (d : operation.Op) → i < length ops → fills (get_or ops i d) name ≡ true
+  pub legal_there : (at other : Aboard) (ops : List operation.Op) (i : ℕ) (d : operation.Op) → i < length ops → fills (get_or ops i d) name ≡ true
       → CanBeDone ship at ops → fault_of ship other (get_or ops i d) ≡ None
   legal_there at other [] i d within is done = absurd (omega arith)
   legal_there at other (op ∷ ops) zero d within is done = same_fault at other op is done.0

@@ -6,12 +6,14 @@ pub mod ExchangeLemmas
 pub mod FillingLemmas
 pub mod FirstFaults
 pub mod FollowLemmas
+pub mod HeldLemmas
 pub mod IndependentLemmas
 pub mod LightLemmas
 pub mod Listings
 pub mod MemoryLemmas
 pub mod NearLemmas
 pub mod Overlaps
+pub mod PastLemmas
 pub mod PlaceLemmas
 pub mod RivalLemmas
 pub mod ShiftLemmas

@@ -41,7 +41,7 @@ module _ {X : Type 0} (d : X) where
   out_again [] (suc i) x within = absurd (omega arith)
   out_again (y ∷ xs) (suc i) x within = let rest = out_again xs i x (omega arith) in λ j. y ∷ rest j
 
-  moved_is : (xs : List X) (i j : ℕ) → i < length xs → moved xs i j ≡ insert (remove xs i) j (get_or xs i d)
+  pub moved_is : (xs : List X) (i j : ℕ) → i < length xs → moved xs i j ≡ insert (remove xs i) j (get_or xs i d)
   moved_is xs i j within = ap (put_in (remove xs i) j) (slice_get-get_or xs i d within)
 
   forth_one : (xs : List X) (i k : ℕ) → i < length xs → suc k < length xs → swap (moved xs i k) k (suc k) ≡ moved xs i (suc k)

@@ -32,11 +32,11 @@ use Rattle.lift_sequence.proofs.IndependentLemmas.{both_true, independent_means,
 use Rattle.lift_sequence.proofs.States.{same}
 
 -- one of two by a test
-chosen : {X : Type 0} (b : Bool) (x y : X) → b ≡ true → x ≡ (if b then x else y)
+pub chosen : {X : Type 0} (b : Bool) (x y : X) → b ≡ true → x ≡ (if b then x else y)
 chosen true x y h = refl
 chosen false x y h = absurd (cc)
 
-not_chosen : {X : Type 0} (b : Bool) (x y : X) → b ≡ false → y ≡ (if b then x else y)
+pub not_chosen : {X : Type 0} (b : Bool) (x y : X) → b ≡ false → y ≡ (if b then x else y)
 not_chosen true x y h = absurd (cc)
 not_chosen false x y h = refl
 
@@ -93,12 +93,12 @@ module _ {X : Type 0} where
       let next : n ≡ suc (i + 1) = omega (arith, is) in
       ap (λ k. drop k (x ∷ insert xs i y)) next ∙ behind_put xs i (i + 1) y (omega arith) refl
 
-  before_out : (xs : List X) (i : ℕ) → take i (remove xs i) ≡ take i xs
+  pub before_out : (xs : List X) (i : ℕ) → take i (remove xs i) ≡ take i xs
   before_out xs zero = refl
   before_out [] (suc i) = refl
   before_out (x ∷ xs) (suc i) = let rest = before_out xs i in λ j. x ∷ rest j
 
-  behind_out : (xs : List X) (i : ℕ) → drop i (remove xs i) ≡ drop (suc i) xs
+  pub behind_out : (xs : List X) (i : ℕ) → drop i (remove xs i) ≡ drop (suc i) xs
   behind_out [] zero = refl
   behind_out (x ∷ xs) zero = refl
   behind_out [] (suc i) = refl
@@ -166,7 +166,7 @@ module _ (ship : ProfileRecord) where
     by_test q true e = ap at.tanks (eqb-true tank q e)
     by_test q false e = refl
 
-  held_there : (tank : ℕ) (at : Aboard) (v : Option ℕ) → (filled tank at v).tanks tank ≡ v
+  pub held_there : (tank : ℕ) (at : Aboard) (v : Option ℕ) → (filled tank at v).tanks tank ≡ v
   held_there tank at v = ap (λ b. cond b v (at.tanks tank)) (number_itself tank)
 
   -- what steps do behind another filling of a tank
@@ -198,7 +198,7 @@ module _ (ship : ProfileRecord) where
           some_one h = ap or_zero h
 
     -- of another tank
-    other_tank : (t : ℕ) (other : List ℕ) → tank_of ship other ≡ Some t → bytes_eq other name ≡ false → nat_eq tank t ≡ false
+    pub other_tank : (t : ℕ) (other : List ℕ) → tank_of ship other ≡ Some t → bytes_eq other name ≡ false → nat_eq tank t ≡ false
     other_tank t other k apart = by_test (nat_eq tank t) refl where
       clash : false ≡ true → ⊥
       clash z = cc

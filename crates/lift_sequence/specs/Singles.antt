@@ -1,9 +1,9 @@
 -- One step more or less in a sequence: what the other steps do then.
 use Rattle.std.specs.Prelude.{◌≡◌, ◌⊎◌, ℕ, zero, suc, ◌<◌, List, [], ◌∷◌, Option, None, Some, Bool}
-use Rattle.std.specs.Prelude.{true, false, ◌&&◌, ◌+◌, length, take, drop, nat_lt, slice_get}
-use Rattle.std.specs.Prelude.{if◌then◌else◌}
+use Rattle.std.specs.Prelude.{true, false, ◌&&◌, ◌+◌, ◌-◌, ◌++◌, length, take, drop, nat_lt}
+use Rattle.std.specs.Prelude.{slice_get, slice_index_or, if◌then◌else◌}
 use Rattle.std.specs.Option.{is_none}
-use Rattle.std.specs.List.{list_all}
+use Rattle.std.specs.List.{list_all, remove}
 use Rattle.std.specs.Str.{bytes_eq}
 use Rattle.units_core.specs.declared.cells.Cell.{Cell}
 use Rattle.units_core.specs.declared.steps.Step.{Step}
@@ -68,6 +68,79 @@ refilled name put i (op ∷ ops) [] = []
 refilled name put zero (op ∷ ops) (step ∷ steps) =
     record { out = step.out; put = put } ∷ handed name put ops steps
 refilled name put (suc i) (op ∷ ops) (step ∷ steps) = step ∷ refilled name put i ops steps
+
+-- how many steps come before the first one that fills the tank of a name; all where none does
+abbrev pub next_filling : List ℕ → List operation.Op → ℕ
+next_filling name [] = 0
+next_filling name (op ∷ ops) = if fills op name then 0 else suc (next_filling name ops)
+
+-- What the tank of a name holds behind some steps, where it holds this before them: what the last
+-- of them that fills it puts in.
+abbrev pub held_behind : List ℕ → Option Mass → List operation.Op → List Step → Option Mass
+held_behind name held [] steps = held
+held_behind name held (op ∷ ops) [] = held
+held_behind name held (op ∷ ops) (step ∷ steps) =
+    if fills op name then held_behind name step.put ops steps else held_behind name held ops steps
+
+-- What it holds before some steps, where it holds this behind them: what the first of them that
+-- fills it takes out; where none does, the same.
+abbrev pub held_before : List ℕ → Option Mass → List operation.Op → List Step → Option Mass
+held_before name held [] steps = held
+held_before name held (op ∷ ops) [] = held
+held_before name held (op ∷ ops) (step ∷ steps) =
+    if fills op name then step.out else held_before name held ops steps
+
+-- what it holds where its filling at one place, before which it holds this, is moved to another
+abbrev pub held_at : List ℕ → Option Mass → (from to : ℕ) → List operation.Op → List Step
+    → Option Mass
+held_at name held from to ops steps =
+    if nat_lt from to
+    then held_behind name held (take (to - from) (drop (from + 1) ops))
+    (take (to - from) (drop (from + 1) steps))
+    else held_before name held (take (from - to) (drop to ops)) (take (from - to) (drop to steps))
+
+-- what steps do where the filling of a tank at a place takes this out of it, and the next one what
+-- that puts in; d is read of no list that has the place
+abbrev pub filled_at : List ℕ → Option Mass → ℕ → List operation.Op → (d : Step) → List Step
+    → List Step
+filled_at name held i ops d steps =
+    take i steps ++ (record { out = held; put = (slice_index_or steps i d).put }
+    ∷ handed name (slice_index_or steps i d).put (drop (i + 1) ops) (drop (i + 1) steps))
+
+-- what the other steps do where the filling of a tank at a place goes away
+abbrev pub left_by : List ℕ → ℕ → List operation.Op → (d : Step) → List Step → List Step
+left_by name i ops d steps =
+    take i (remove steps i) ++ handed name (slice_index_or steps i d).out (drop i (remove ops i))
+    (drop i (remove steps i))
+
+-- what steps do where the filling of a tank at one place is moved to another
+abbrev pub filled_past : List ℕ → (from to : ℕ) → List operation.Op → (d : Step) → List Step
+    → List Step
+filled_past name i j ops d steps =
+    take j (left_by name i ops d steps)
+    ++ (record {
+      out = held_at name (slice_index_or steps i d).out i j ops steps;
+      put = (slice_index_or steps i d).put;
+    } ∷ handed name (slice_index_or steps i d).put
+    (drop j (remove ops i)) (drop j (left_by name i ops d steps)))
+
+-- the place of the next filling of the tank that the step at a place fills; the number of steps
+-- where there is none
+abbrev pub behind_of : Option operation.Op → List operation.Op → ℕ → ℕ
+behind_of None ops i = length ops
+behind_of (Some (Lift lift)) ops i = length ops
+behind_of (Some (Fill name kg)) ops i = i + 1 + next_filling name.items (drop (i + 1) ops)
+behind_of (Some (Restow from to id)) ops i = length ops
+
+abbrev pub next_behind : List operation.Op → ℕ → ℕ
+next_behind ops i = behind_of (slice_get ops i) ops i
+
+-- the step at a place fills a tank
+abbrev pub is_filling : Option operation.Op → Bool
+is_filling None = false
+is_filling (Some (Lift lift)) = false
+is_filling (Some (Fill name kg)) = true
+is_filling (Some (Restow from to id)) = false
 
 -- the steps at two places of a list fill the same tank
 abbrev pub fills_as : Option operation.Op → Option operation.Op → Bool

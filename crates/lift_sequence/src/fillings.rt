@@ -1,6 +1,6 @@
 //! Two fillings of one tank exchanged, in place.
-ghost use Rattle.std.specs.Prelude.{◌≡◌, ◌≢◌, ℕ, ◌-◌, ◌<◌, ◌≤◌, length, slice_get, slice_index_or};
-ghost use Rattle.std.specs.Prelude.{IfNone, IfSome};
+ghost use Rattle.std.specs.Prelude.{◌≡◌, ◌≢◌, ℕ, ◌+◌, ◌-◌, ◌<◌, ◌≤◌, length, drop, slice_get};
+ghost use Rattle.std.specs.Prelude.{slice_index_or, IfNone, IfSome};
 ghost use Rattle.std.specs.List.{swap};
 ghost use Rattle.std.specs.Option.{is_some};
 ghost use Rattle.ship_profile.specs.Record.{ProfileRecord};
@@ -8,7 +8,7 @@ ghost use Rattle.units_core.specs.declared.steps.Step.{Step as Change};
 ghost use Rattle.lift_sequence.specs.Aboard.{Aboard};
 ghost use Rattle.lift_sequence.specs.Bodies.{steps_of};
 ghost use Rattle.lift_sequence.specs.Sequence.{sequence_fault};
-ghost use Rattle.lift_sequence.specs.Singles.{fill_one_tank, refilled};
+ghost use Rattle.lift_sequence.specs.Singles.{fill_one_tank, next_behind, next_filling, refilled};
 
 use crate::operations::Op;
 use crate::sequences::Sequence;
@@ -29,6 +29,7 @@ fn refill(ops: &[Op], steps: &mut [Step], place: usize, name: &[u8], put: &Optio
     requires within { place < length ops.now }
     requires as_many { length steps.old ≡ length ops.now }
     ensures steps { steps.new ≡ refilled name.now put.now place ops.now steps.old }
+    ensures next { result ≡ place + 1 + next_filling name.now (drop (place + 1) ops.now) }
     ensures others { (k : ℕ) → k ≢ place → k ≢ result
         → slice_get steps.new k ≡ slice_get steps.old k }
     ensures as_many { length steps.new ≡ length ops.now }
@@ -52,6 +53,9 @@ fn exchange_puts(
     ensures steps { (d : Change) → steps.new
         ≡ refilled name.now (slice_index_or steps.old one d).put other ops.now
         (refilled name.now (slice_index_or steps.old other d).put one ops.now steps.old) }
+    ensures behind_one { result.0 ≡ one + 1 + next_filling name.now (drop (one + 1) ops.now) }
+    ensures behind_other { result.1
+        ≡ other + 1 + next_filling name.now (drop (other + 1) ops.now) }
     ensures others { (k : ℕ) → k ≢ one → k ≢ other → k ≢ result.0 → k ≢ result.1
         → slice_get steps.new k ≡ slice_get steps.old k }
     ensures as_many { length steps.new ≡ length ops.now }
@@ -73,6 +77,8 @@ impl Sequence {
         requires last { (a ≤ length self.old.ops) × (b ≤ length self.old.ops) }
         ensures answers { is_some result ≡ fill_one_tank self.old.ops (a - 1) (b - 1) }
         ensures ops { IfSome result (λ next. self.new.ops ≡ swap self.old.ops (a - 1) (b - 1)) }
+        ensures next { IfSome result (λ next. (next.0 ≡ next_behind self.old.ops (a - 1))
+            × (next.1 ≡ next_behind self.old.ops (b - 1))) }
         ensures others { IfSome result (λ next. (k : ℕ) → k ≢ a - 1 → k ≢ b - 1 → k ≢ next.0
             → k ≢ next.1 → slice_get self.new.steps k ≡ slice_get self.old.steps k) }
         ensures same { IfNone result (self.new ≡ self.old) }

@@ -11,7 +11,7 @@
 //! afterwards, and with it what the steps do that move its container; [`Sequence::swap`] swaps two
 //! steps that are independent of each other and of all steps between, and [`Sequence::shift`] takes
 //! a step past others that are independent of it; [`Sequence::swap_fillings`] exchanges two
-//! fillings of one tank.
+//! fillings of one tank, and [`Sequence::shift_filling`] takes one past others.
 #![tactic(auto)]
 
 mod arrivals;
@@ -25,6 +25,7 @@ mod independence;
 mod laws;
 mod near;
 mod operations;
+mod passing;
 mod sequences;
 mod singles;
 mod stowage;

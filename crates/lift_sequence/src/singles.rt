@@ -10,7 +10,7 @@ ghost use Rattle.lift_sequence.specs.Bodies.{steps_of};
 ghost use Rattle.lift_sequence.specs.Limits.{most_steps};
 ghost use Rattle.lift_sequence.specs.Sequence.{sequence_fault};
 ghost use Rattle.lift_sequence.specs.Singles.{can_come, can_go, handed, handed_by, is_apart};
-ghost use Rattle.lift_sequence.specs.Singles.{is_free};
+ghost use Rattle.lift_sequence.specs.Singles.{is_free, next_filling};
 
 use crate::arrivals::Arrival;
 use crate::faults::SeqCode;
@@ -64,6 +64,7 @@ pub(crate) fn hand_on(
     requires as_many { length steps.old ≡ length ops.now }
     ensures steps { steps.new ≡ take from steps.old
         ++ handed name.now out (drop from ops.now) (drop from steps.old) }
+    ensures place { result ≡ from + next_filling name.now (drop from ops.now) }
     ensures others { (k : ℕ) → k ≢ result → slice_get steps.new k ≡ slice_get steps.old k }
     ensures as_many { length steps.new ≡ length ops.now }
 {

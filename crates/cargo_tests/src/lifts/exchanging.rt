@@ -1,4 +1,6 @@
 //! Two steps that are exchanged, and two that aren't.
+ghost use Rattle.std.specs.Prelude.{◌≤◌, length};
+ghost use Rattle.std.specs.Bool.{OnTrue};
 ghost use Rattle.lift_sequence.specs.Sequence.{IsOf};
 
 use super::orders::{ABCU, NO_MEMORY, Order, items, op, ops};
@@ -42,15 +44,23 @@ pub fn sequence(
     Sequence::new(alloc, profile, arrival, ops)
 }
 
-/// Exchanges the steps of two numbers; nothing where one of them isn't there.
-fn swap(sequence: &mut Sequence, a: usize, b: usize) -> bool {
+/// Whether the sequence has steps of both numbers.
+pub fn has_both(sequence: &Sequence, a: usize, b: usize) -> bool
+    ensures first { OnTrue result ((1 ≤ a) × (1 ≤ b)) }
+    ensures last { OnTrue result ((a ≤ length sequence.now.ops) × (b ≤ length sequence.now.ops)) }
+{
     if a == 0 || b == 0 {
         return false;
     }
     if sequence.len() < a {
         return false;
     }
-    if sequence.len() < b {
+    b <= sequence.len()
+}
+
+/// Exchanges the steps of two numbers; nothing where one of them isn't there.
+fn swap(sequence: &mut Sequence, a: usize, b: usize) -> bool {
+    if !has_both(sequence, a, b) {
         return false;
     }
     sequence.swap(a, b)

@@ -1,4 +1,4 @@
-use Rattle.std.proofs.Common.{◌≡◌, ◌∙◌, ◌-◌, ◌<◌, ap, arith, drop, get_or, length, refl, rules, swap, sym, true}
+use Rattle.std.proofs.Common.{◌≡◌, ◌∙◌, ◌+◌, ◌-◌, ◌<◌, ap, arith, drop, get_or, length, refl, rules, swap, sym, true}
 use Rattle.std.proofs.lemmas.List.{get_or_default}
 use Rattle.std.proofs.lemmas.Slice.Eq.{bytes_eq-Decides}
 use Rattle.units_core.specs.declared.steps.Step.{Step}
@@ -6,8 +6,9 @@ use Rattle.lift_sequence.specs.declared.operations.Op.TheVariants.{Fill}
 use Rattle.lift_sequence.specs.Bodies.{step_of, steps_of}
 use Rattle.lift_sequence.specs.Independent.{fills}
 use Rattle.lift_sequence.specs.Sequence.{SequenceRecord, sequence_fault}
-use Rattle.lift_sequence.specs.Singles.{refilled}
+use Rattle.lift_sequence.specs.Singles.{next_filling, refilled}
 use Rattle.lift_sequence.proofs.FillingLemmas.{fillings_legal, fillings_steps}
+use Rattle.lift_sequence.proofs.PastLemmas.{next_is}
 use Rattle.lift_sequence.proofs.WalkLemmas.{all_written}
 use Rattle.lift_sequence.proofs.sequences.Sequence.swap_fillings.Goals as goal
 
@@ -62,3 +63,21 @@ returns-clause-done c =
     written ∙ c.exchange_puts-next.ensures.steps some
     ∙ (λ k. refilled (called k) (get_or (steps_in k) i some).put j (orders_in k) (refilled (called k) (get_or (steps_in k) j some).put i (orders_in k) (steps_in k)))
     ∙ fillings_steps ship name at old.ops i j d low high both.0 both.1 old.steps some legal done ∙ ap (steps_of ship at) (sym ops)
+
+pub returns-clause-next : goal.returns-clause-next
+returns-clause-next c =
+    let i = c.args.a - 1 in
+    let j = c.args.b - 1 in
+    let ops = c.args.self.now.ops in
+    let name = c.in-Fill.name.items in
+    let d = c.index.result.now in
+    let low : i < length ops = omega (arith, c.requires.first.0, c.requires.last.0) in
+    let high : j < length ops = omega (arith, c.requires.first.1, c.requires.last.1) in
+    let both = both_fill c in
+    let called : c.as_slice-2.result.now ≡ name = search rules in
+    let orders_in = c.deref.ensures.value ∙ ap (λ (s : SequenceRecord). s.ops) c.self.view_is in (
+      c.exchange_puts-next.ensures.behind_one ∙ (λ k. i + 1 + next_filling (called k) (drop (i + 1) (orders_in k)))
+          ∙ next_is name ops i (get_or ops i d) low (get_or_default ops i d (get_or ops i d) low) both.0,
+      c.exchange_puts-next.ensures.behind_other ∙ (λ k. j + 1 + next_filling (called k) (drop (j + 1) (orders_in k)))
+          ∙ next_is name ops j (get_or ops j d) high (get_or_default ops j d (get_or ops j d) high) both.1,
+    )
