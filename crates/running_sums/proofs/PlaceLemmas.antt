@@ -1,23 +1,31 @@
 -- The sums of the fours of some places are set.
 use Rattle.std.proofs.Common.{◌≡◌, ◌⊎◌, ◌∙◌, ℕ, suc, ◌+◌, ◌-◌, ◌/◌, ◌<◌, ◌≤◌, List, [], ◌∷◌, length, drop, get_or, min, inl, inr, sym, ap, arith, lt_of_not-le}
 use Rattle.std.proofs.lemmas.List.{ext_get_or, get_or-drop, get_or_past}
+use Rattle.std.specs.Prelude.{⊤, ◌≢◌}
 use mathlib.Core.Logic.{dite}
 use native.Mathlib.Decide.{dec_le, ℕ_discrete}
 use Rattle.prefix_scan.specs.Rows.{IsWritten}
 use Rattle.moment_sums.specs.Kept.{Kept, none_kept}
-use Rattle.running_sums.specs.Fours.{AreElsewhere, IsOther, LackPlaces, WereBut, fours}
+use Rattle.running_sums.specs.Fours.{AreElsewhere, LackPlaces, fours}
 use Rattle.running_sums.proofs.FourLemmas.{fours_same, length-fours}
 
+-- a place is none of these
+abbrev pub IsOther : ℕ → List ℕ → Type 0
+IsOther k [] = ⊤
+IsOther k (place ∷ places) = (k ≢ place) × IsOther k places
+
 -- a step of a four in which none of the places is
-others : (places : List ℕ) (four k : ℕ) → k / 4 ≡ four → AreElsewhere four places → IsOther k places
+pub others : (places : List ℕ) (four k : ℕ) → k / 4 ≡ four → AreElsewhere four places → IsOther k places
 others [] four k at away = tt
 others (place ∷ places) four k at away = (λ e. away.0 (ap (λ n. n / 4) (sym e) ∙ at), others places four k at away.1)
 
-pub lack_places : (places : List ℕ) (ys sums : List Kept) → WereBut places ys sums → LackPlaces places (fours ys) sums
-lack_places places ys sums were = record {
-  long = ap length were.are ∙ length-fours were.olds ∙ ap (λ n. n / 4) were.long ∙ sym (length-fours ys);
-  same = λ four away. ap (λ l. get_or l four none_kept) were.are
-      ∙ fours_same were.olds ys four were.long (λ k at. were.same k (others places four k at away));
+-- the sums of fours of changes before those at some places became others
+pub lack_places : (places : List ℕ) (olds ys sums : List Kept) → length olds ≡ length ys → sums ≡ fours olds
+    → ((k : ℕ) → IsOther k places → get_or olds k none_kept ≡ get_or ys k none_kept) → LackPlaces places (fours ys) sums
+lack_places places olds ys sums long are same = record {
+  long = ap length are ∙ length-fours olds ∙ ap (λ n. n / 4) long ∙ sym (length-fours ys);
+  same = λ four away. ap (λ l. get_or l four none_kept) are
+      ∙ fours_same olds ys four long (λ k at. same k (others places four k at away));
 }
 
 -- a four, or none where it isn't whole

@@ -91,20 +91,6 @@ pub record WereExchanged (one other : ℕ) (changes sums : List Kept) : Type 0 w
   pub are : sums ≡ fours olds
   pub exchanged : changes ≡ swap olds one other
 
--- a place is none of these
-abbrev pub IsOther : ℕ → List ℕ → Type 0
-IsOther k [] = ⊤
-IsOther k (place ∷ places) = (k ≢ place) × IsOther k places
-
--- the sums of fours of changes before those at some places became others
-pub record WereBut (places : List ℕ) (changes sums : List Kept) : Type 0 where
-  pub olds : List Kept
-  pub long : length olds ≡ length changes
-  pub small : AreSmall olds
-  pub are : sums ≡ fours olds
-  pub same : (k : ℕ) → IsOther k places
-      → slice_index_or olds k none_kept ≡ slice_index_or changes k none_kept
-
 -- none of some places is in a four
 abbrev pub AreElsewhere : ℕ → List ℕ → Type 0
 AreElsewhere four [] = ⊤

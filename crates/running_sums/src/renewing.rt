@@ -5,7 +5,7 @@ ghost use Rattle.lift_sequence.specs.declared.operations.Op.{Op as Operation};
 ghost use Rattle.lift_sequence.specs.Follow.{loaded_at, moves, moves_in};
 ghost use Rattle.moment_sums.specs.Kept.{Kept, none_kept};
 ghost use Rattle.running_sums.specs.Fours.{AreOfFour, AreStill, CostsUpTo, LackPlaces, LacksRun};
-ghost use Rattle.running_sums.specs.Fours.{WereBut, WereExchanged, WereNear, change_of, fours};
+ghost use Rattle.running_sums.specs.Fours.{WereExchanged, WereNear, change_of, fours};
 
 use crate::fours::Fours;
 use lift_sequence::{Op, Sequence};
@@ -153,11 +153,12 @@ fn renew_place(sums: &mut Fours, sequence: &Sequence, frames: &Frames, place: us
     sums.renew(sequence, frames, four, end, &mut room);
 }
 
-/// Sets what the steps at some places change. The sums are of what the steps changed before those
-/// there became others. As where all of the sums are made, no join is counted.
+/// Sets what the steps at some places change. All other sums are as they have to be. As where all
+/// of the sums are made, no join is counted.
 pub fn renew_places(sums: &mut Fours, sequence: &Sequence, frames: &Frames, places: &[usize])
-    requires { WereBut places.now (map (change_of frames.now) sequence.now.steps)
-        sums.old.values }
+    requires small { AreOfFour sums.old.values }
+    requires lack { LackPlaces places.now
+        (fours (map (change_of frames.now) sequence.now.steps)) sums.old.values }
     ensures values { sums.new.values ≡ fours (map (change_of frames.now) sequence.now.steps) }
     ensures joins { sums.new.joins ≡ sums.old.joins }
 {

@@ -2,7 +2,7 @@
 use Rattle.std.proofs.Common.{◌≡◌, ◌⊎◌, ℕ, zero, suc, ◌+◌, ◌-◌, ◌*◌, ◌/◌, ◌<◌, ◌≤◌, List, [], ◌∷◌, length, map, take, drop, get_or, Option, None, Some, refl, sym, ap, ◌∙◌, arith, lt_of_not-le, ⊎_elim}
 use Rattle.std.specs.Prelude.{slice_get}
 use Rattle.std.specs.List.{insert, remove}
-use Rattle.std.proofs.lemmas.List.{drop-map, ext_get_or, get_or-drop, get_or-take, get_or_past, take-map}
+use Rattle.std.proofs.lemmas.List.{drop-map, get_or-drop, get_or-take, get_or_past, take-map}
 use mathlib.Core.Logic.{dite}
 use native.Mathlib.Decide.{dec_le}
 use Rattle.std.proofs.lemmas.List.Edits.{length-insert, length-remove}
@@ -16,8 +16,9 @@ use Rattle.step_edits.specs.Edits.{edit_fault, edited, moved_to}
 use Rattle.step_edits.specs.declared.edits.Edit.TheVariants.{Move}
 use Rattle.units_core.specs.declared.frames.Frame.{Frame}
 use Rattle.units_core.specs.declared.steps.Step.{Step}
-use Rattle.running_sums.specs.Fours.{change_of, fours}
+use Rattle.running_sums.specs.Fours.{LackPlaces, change_of, fours}
 use Rattle.running_sums.proofs.FourLemmas.{fours_same, length-fours}
+use Rattle.running_sums.proofs.PlaceLemmas.{IsOther, others, places_set}
 
 module _ {X : Type 0} where
   take_insert : (xs : List X) (j n : ℕ) (x : X) → n ≤ j → j ≤ length xs → take n (insert xs j x) ≡ take n xs
@@ -87,24 +88,33 @@ module _ (frames : List Frame) (old new : List Step) (i j m : ℕ) (shifts : new
       ap (λ n. get_or (map (change_of frames) old) n none_kept) (sym is) ∙ sym (get_or-drop m (map (change_of frames) old) (k - m) none_kept)
       ∙ ap (λ (l : List Kept). get_or l (k - m) none_kept) same ∙ get_or-drop m (map (change_of frames) new) (k - m) none_kept ∙ ap (λ n. get_or (map (change_of frames) new) n none_kept) is
 
--- the sums of some fours are renewed, outside of which no change is another
+-- the sums of some fours are renewed, outside of which no change is another but at some places
+pub lack_beside : (xs ys after : List Kept) (four len first end : ℕ) (places : List ℕ) → length xs ≡ length ys → IsWritten none_kept four len (drop four (fours ys)) (fours xs) after
+    → ((k : ℕ) → k < first → IsOther k places → get_or xs k none_kept ≡ get_or ys k none_kept)
+    → ((k : ℕ) → end ≤ k → IsOther k places → get_or xs k none_kept ≡ get_or ys k none_kept)
+    → four * 4 ≤ first → (end ≤ (four + len) * 4) ⊎ (length xs / 4 ≤ four + len) → LackPlaces places (fours ys) after
+lack_beside xs ys after four len first end places long wrote before behind from to = record {
+  long = wrote.long ∙ length-fours xs ∙ ap (λ n. n / 4) long ∙ sym (length-fours ys);
+  same = λ k away. dite (dec_le (suc k) four)
+      (λ low. wrote.before k (omega (arith, low)) ∙ fours_same xs ys k long (λ n at. before n (omega (arith, at, low, from)) (others places k n at away)))
+      (λ not. let high = lt_of_not-le not in
+      dite (dec_le (four + len) k)
+      (λ past. wrote.behind k past
+      ∙ ⊎_elim
+      (λ (all : end ≤ (four + len) * 4). fours_same xs ys k long (λ n at. behind n (omega (arith, at, past, all)) (others places k n at away)))
+      (λ (none : length xs / 4 ≤ four + len). get_or_past (fours xs) k none_kept (omega (arith, length-fours xs, none, past)) ∙ sym (get_or_past (fours ys) k none_kept (omega (arith, length-fours ys, long, none, past))))
+      to)
+      (λ not_past. let inside = lt_of_not-le not_past in
+      let is : k ≡ four + (k - four) = omega (arith, high) in
+      ap (λ n. get_or after n none_kept) is ∙ wrote.inside (k - four) (omega (arith, high, inside)) ∙ get_or-drop four (fours ys) (k - four) none_kept ∙ ap (λ n. get_or (fours ys) n none_kept) (sym is)));
+}
+
+-- the same where there is no such place
 pub fours_renewed : (xs ys after : List Kept) (four len first end : ℕ) → length xs ≡ length ys → IsWritten none_kept four len (drop four (fours ys)) (fours xs) after
     → ((k : ℕ) → k < first → get_or xs k none_kept ≡ get_or ys k none_kept) → ((k : ℕ) → end ≤ k → get_or xs k none_kept ≡ get_or ys k none_kept)
     → four * 4 ≤ first → (end ≤ (four + len) * 4) ⊎ (length xs / 4 ≤ four + len) → after ≡ fours ys
 fours_renewed xs ys after four len first end long wrote before behind from to =
-    ext_get_or none_kept after (fours ys) (wrote.long ∙ length-fours xs ∙ ap (λ n. n / 4) long ∙ sym (length-fours ys))
-    (λ k h. dite (dec_le (suc k) four)
-    (λ low. wrote.before k (omega (arith, low)) ∙ fours_same xs ys k long (λ n at. before n (omega (arith, at, low, from))))
-    (λ not. let high = lt_of_not-le not in
-    dite (dec_le (four + len) k)
-    (λ past. wrote.behind k past
-    ∙ ⊎_elim
-    (λ (all : end ≤ (four + len) * 4). fours_same xs ys k long (λ n at. behind n (omega (arith, at, past, all))))
-    (λ (none : length xs / 4 ≤ four + len). get_or_past (fours xs) k none_kept (omega (arith, length-fours xs, none, past)) ∙ sym (get_or_past (fours ys) k none_kept (omega (arith, length-fours ys, long, none, past))))
-    to)
-    (λ not_past. let inside = lt_of_not-le not_past in
-    let is : k ≡ four + (k - four) = omega (arith, high) in
-    ap (λ n. get_or after n none_kept) is ∙ wrote.inside (k - four) (omega (arith, high, inside)) ∙ get_or-drop four (fours ys) (k - four) none_kept ∙ ap (λ n. get_or (fours ys) n none_kept) (sym is))))
+    places_set ys after (lack_beside xs ys after four len first end [] long wrote (λ k low other. before k low) (λ k past other. behind k past) from to)
 
 -- a step that is taken out and put in again, and the edit that orders it
 by_step : (ops : List Op) (i j : ℕ) (d : Op) (o : Option Op) → slice_get ops i ≡ o → i < length ops → put_in (remove ops i) j o ≡ moved_to ops o i j

@@ -1,12 +1,11 @@
-ghost use Rattle.std.specs.Prelude.{◌≡◌, ◌≢◌, ℕ, ◌+◌, ◌*◌, ◌-◌, ◌^◌, ◌≤◌, length, OnOk, OnErr};
-ghost use Rattle.std.specs.Prelude.{IfOk, IfErr, Some, None, ◌/◌, ◌<◌, ◌⊎◌};
+ghost use Rattle.std.specs.Prelude.{◌≡◌, ◌≢◌, ◌+◌, ◌-◌, ◌≤◌, length, OnOk, OnErr};
+ghost use Rattle.std.specs.Prelude.{IfOk, IfErr, Some, None};
 ghost use Rattle.std.specs.List.{swap};
 ghost use Rattle.std.specs.Bool.{OnTrue, OnFalse};
 ghost use Rattle.ship_profile.specs.Record.{ProfileRecord};
 ghost use Rattle.lift_sequence.specs.Aboard.{Aboard};
 ghost use Rattle.lift_sequence.specs.Bodies.{steps_of};
 ghost use Rattle.lift_sequence.specs.Follow.{AreReweighed, IsLoad, weighed_at};
-ghost use Rattle.lift_sequence.specs.Independent.{moved};
 ghost use Rattle.lift_sequence.specs.Sequence.{sequence_fault};
 ghost use Rattle.step_edits.specs.Edits.{TellsMemory, edited, edit_fault};
 ghost use Rattle.port_call.specs.Grounds.{list_fault};
@@ -14,10 +13,8 @@ ghost use Rattle.running_sums.specs.Fours.{CostsUpTo};
 ghost use Rattle.what_if.specs.Sessions.{CostsLittle, IsSummed, refusal, restows_behind};
 
 use crate::passing::{Room, move_into, other_room};
-use crate::singles::piece;
 use crate::summed_lists::SummedList;
 use lift_sequence::{SeqCode, SeqFault, Sequence};
-use moment_sums::Totals;
 use running_sums::{Fours, renew, renew_both, renew_places};
 use std::alloc::AllocError;
 use step_edits::{Edit, EditFault, edit_list, fault_of};
@@ -59,9 +56,10 @@ impl SummedList {
     /// Makes an edit. Where it is refused, or out of memory, everything is as it was. Another
     /// weight of a load checks no step and takes no memory; nor does an exchange of two fillings of
     /// one tank, or of two steps that are independent of each other and of all steps between. A
-    /// move of a step past others that it is independent of makes the sums of these steps anew; a
-    /// step that comes in or goes away, and is a filling or independent of all steps behind it,
-    /// those of the steps behind it. Any other edit makes the sequence and all of its sums anew.
+    /// move of a filling, or of a step past others that it is independent of, makes the sums of the
+    /// steps anew that are passed; a step that comes in or goes away, and is a filling or
+    /// independent of all steps behind it, those of the steps behind it. Any other edit makes the
+    /// sequence and all of its sums anew.
     /// Where a list gets longer or shorter, the edit sees to the room for what searches keep, or
     /// leaves it.
     pub fn edit(&mut self, edit: &Edit, room: Room) -> Result<(), EditFault>
@@ -154,63 +152,6 @@ impl SummedList {
             self.base.profile().frames(),
             &[a - 1, b - 1, one, other],
         );
-        true
-    }
-
-    /// Moves a step past others, where it is independent of them. It returns whether it did; if
-    /// not, or out of memory, everything is as it was. The part of the sums over these steps is
-    /// made anew, each join once; as where all of them are made, none is counted.
-    fn carry(&mut self, from: usize, to: usize) -> Result<bool, AllocError>
-        requires first { (1 ≤ from) × (1 ≤ to) }
-        requires last { (from ≤ length self.old.ops) × (to ≤ length self.old.ops) }
-        ensures base { self.new.base ≡ self.old.base }
-        ensures ops { IfOk result
-            (λ did. OnTrue did (self.new.ops ≡ moved self.old.ops (from - 1) (to - 1))) }
-        ensures legal { IfOk result
-            (λ did. OnTrue did (list_fault self.old.base self.new.ops ≡ None)) }
-        ensures same { IfOk result (λ did. OnFalse did (self.new ≡ self.old)) }
-        ensures before { OnErr result (self.new ≡ self.old) }
-        ensures joins { self.new.joins ≡ self.old.joins }
-    {
-        if !self.sequence.can_shift(from, to) {
-            return Ok(false);
-        }
-        let steps = self.sequence.len();
-        let end = ((from.max(to) + 3) / 4).min(steps / 4);
-        let four = ((from.min(to) - 1) / 4).min(end);
-        let mut room = piece(self.alloc, end - four)?;
-        Ok(self.carry_in(from, to, four, end, &mut room))
-    }
-
-    /// Moves a step past others, where it is independent of them, and sets the sums of the fours of
-    /// steps from this number on up to another, a room full at a time. It returns whether it did;
-    /// if not, everything is as it was.
-    fn carry_in(
-        &mut self,
-        from: usize,
-        to: usize,
-        four: usize,
-        end: usize,
-        room: &mut [Totals],
-    ) -> bool
-        requires first { (1 ≤ from) × (1 ≤ to) }
-        requires last { (from ≤ length self.old.ops) × (to ≤ length self.old.ops) }
-        requires begins { (four * 4 < from) × (four * 4 < to) }
-        requires order { four ≤ end }
-        requires within { end ≤ length self.old.ops / 4 }
-        requires ends { ((from ≤ end * 4) × (to ≤ end * 4)) ⊎ (length self.old.ops / 4 ≤ end) }
-        requires some { four < end → 0 < length room.old }
-        ensures base { self.new.base ≡ self.old.base }
-        ensures ops { OnTrue result (self.new.ops ≡ moved self.old.ops (from - 1) (to - 1)) }
-        ensures legal { OnTrue result (list_fault self.old.base self.new.ops ≡ None) }
-        ensures same { OnFalse result (self.new ≡ self.old) }
-        ensures joins { self.new.joins ≡ self.old.joins }
-    {
-        if !self.sequence.shift(from, to) {
-            return false;
-        }
-        let frames = self.base.profile().frames();
-        self.sums.renew(&self.sequence, frames, four, end, room);
         true
     }
 

@@ -10,6 +10,7 @@
 
 mod desks;
 mod editing;
+mod moves;
 mod passing;
 mod sessions;
 mod singles;

@@ -94,6 +94,20 @@ fn exchange_fillings(
     check_undone(rt, session)
 }
 
+/// A filling of the tank is moved past two others and many loads, and back; so is the last step to
+/// the head of the list, and one past the other that follows it.
+fn move_fillings(
+    rt: &(impl Abort + AllocGlobal + Threads + Wait + Sync),
+    session: &mut Session,
+) -> Result<(), Fail> {
+    check_edited(rt, session, Edit::Move { from: 1, to: 1_200 })?;
+    check_undone(rt, session)?;
+    check_edited(rt, session, Edit::Move { from: 2_103, to: 1 })?;
+    check_edited(rt, session, Edit::Move { from: 703, to: 704 })?;
+    check_undone(rt, session)?;
+    check_undone(rt, session)
+}
+
 /// A list of 2,103 steps, of which the steps 1, 702, 703, 1,402 and 2,103 fill one tank.
 fn far_fillings(alloc: Global) -> Result<Vec<Op>, AllocError> {
     let mut list = Vec::new(alloc);
@@ -114,4 +128,12 @@ fn fillings_exchanged_in_place(rt: HostRuntime) -> Result<(), Fail> {
     let list = far_fillings(rt.alloc())?;
     let mut long = session_on(rt.alloc(), &read, list)?;
     exchange_fillings(&rt, &mut long)
+}
+
+#[test]
+fn fillings_moved_in_place(rt: HostRuntime) -> Result<(), Fail> {
+    let read = session(rt.alloc(), NO_MOVES)?;
+    let list = far_fillings(rt.alloc())?;
+    let mut long = session_on(rt.alloc(), &read, list)?;
+    move_fillings(&rt, &mut long)
 }

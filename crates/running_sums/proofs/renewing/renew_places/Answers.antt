@@ -1,20 +1,19 @@
 use Rattle.std.proofs.Common.{◌≡◌, ◌∙◌, ◌+◌, ◌∷◌, ◌/◌, List, [], length, map, drop, get_or, ap, subst, sym, refl, arith}
 use Rattle.std.proofs.lemmas.List.{drop_all, drop_more, length-map}
 use Rattle.moment_sums.specs.Kept.{Kept}
-use Rattle.running_sums.specs.Fours.{AreOfFour, LackPlaces, change_of, fours}
-use Rattle.running_sums.proofs.FourLemmas.{length-fours, of_four}
-use Rattle.running_sums.proofs.PlaceLemmas.{lack_places, places_set}
+use Rattle.running_sums.specs.Fours.{LackPlaces, change_of, fours}
+use Rattle.running_sums.proofs.FourLemmas.{length-fours}
+use Rattle.running_sums.proofs.PlaceLemmas.{places_set}
 use Rattle.running_sums.proofs.renewing.renew_places.Goals as goal
 
 pub loop-n-init : goal.loop-n-init
 loop-n-init c =
-    let were = c.requires in
     let ys : List Kept = map (change_of c.args.frames.now) c.args.sequence.now.steps in
     let same : length ys ≡ length c.args.sequence.now.ops = length-map c.args.sequence.now.steps (change_of c.args.frames.now) ∙ c.facts.ensures.long in
     record {
-      long = ap length were.are ∙ length-fours were.olds ∙ ap (λ n. n / 4) (were.long ∙ same);
-      small = subst AreOfFour (sym were.are) (of_four were.olds were.small);
-      lack = lack_places c.args.places.now ys c.args.sums.now.values were;
+      long = c.requires.lack.long ∙ length-fours ys ∙ ap (λ n. n / 4) same;
+      small = c.requires.small;
+      lack = c.requires.lack;
       joins = refl;
     }
 

@@ -5,13 +5,16 @@ use Rattle.ship_profile.specs.Record.{ProfileRecord}
 use Rattle.lift_sequence.specs.declared.operations.Op.{Op}
 use Rattle.lift_sequence.proofs.States.{as_many}
 use Rattle.port_call.specs.Grounds.{GroundRecord, aboard_first}
-use Rattle.running_sums.specs.Fours.{WereBut, change_of}
-use Rattle.what_if.proofs.ChangeLemmas.{are_kept, as_many_steps}
-use Rattle.what_if.proofs.FillingLemmas.{were_but}
+use Rattle.running_sums.specs.Fours.{LackPlaces, change_of, fours}
+use Rattle.what_if.proofs.ChangeLemmas.{are_kept, are_of_four, as_many_steps}
+use Rattle.what_if.proofs.FillingLemmas.{lack_but}
 use Rattle.what_if.proofs.summed_lists.SummedList.exchange_fillings.Goals as goal
 
-pub renew_places-requires : goal.renew_places-requires
-renew_places-requires c =
+pub renew_places-requires-clause-small : goal.renew_places-requires-clause-small
+renew_places-requires-clause-small c = are_of_four (arc_value c.self.inside.base) c.self.inside.sequence c.self.inside.sums c.self.invariant
+
+pub renew_places-requires-clause-lack : goal.renew_places-requires-clause-lack
+renew_places-requires-clause-lack c =
     let base = arc_value c.self.inside.base in
     let frames = base.ship.ship.frames in
     let sequence = c.self.inside.sequence in
@@ -24,6 +27,6 @@ renew_places-requires c =
     let done = c.swap_fillings.ensures.done base.ship (aboard_first base) c.self.invariant.legal c.self.invariant.steps in
     let orders : length after.ops ≡ length sequence.ops = ap (λ (l : List Op). length l) c.in-Some.ensures.ops ∙ length-swap sequence.ops i j in
     let long : length after.steps ≡ length sequence.steps = ap (λ l. length l) done ∙ as_many base.ship (aboard_first base) after.ops ∙ orders ∙ sym (as_many_steps base sequence sums c.self.invariant) in
-    subst (λ f. WereBut places (map (change_of f) after.steps) sums.values) (sym same)
-    (were_but frames sequence.steps after.steps sums.values places long (are_kept base sequence sums c.self.invariant)
+    subst (λ f. LackPlaces places (fours (map (change_of f) after.steps)) sums.values) (sym same)
+    (lack_but frames sequence.steps after.steps sums.values places long (are_kept base sequence sums c.self.invariant)
     (λ k other. c.in-Some.ensures.others k other.0 other.1.0 other.1.1.0 other.1.1.1.0))
