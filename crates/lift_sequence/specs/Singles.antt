@@ -1,4 +1,5 @@
--- One step more or less in a sequence: what the other steps do then.
+-- One step more or less in a sequence, or fillings of one tank in another order: what the other
+-- steps do then.
 use Rattle.std.specs.Prelude.{◌≡◌, ◌⊎◌, ℕ, zero, suc, ◌<◌, List, [], ◌∷◌, Option, None, Some, Bool}
 use Rattle.std.specs.Prelude.{true, false, ◌&&◌, ◌+◌, ◌-◌, ◌++◌, length, take, drop, nat_lt}
 use Rattle.std.specs.Prelude.{slice_get, slice_index_or, if◌then◌else◌}

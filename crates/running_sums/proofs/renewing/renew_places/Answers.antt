@@ -1,4 +1,4 @@
-use Rattle.std.proofs.Common.{◌≡◌, ◌∙◌, ◌+◌, ◌∷◌, ◌/◌, List, [], length, map, drop, get_or, ap, subst, sym, refl, arith}
+use Rattle.std.proofs.Common.{◌≡◌, ◌∙◌, ◌+◌, ◌∷◌, ◌/◌, List, [], length, map, drop, get_or, ap, subst, refl, arith}
 use Rattle.std.proofs.lemmas.List.{drop_all, drop_more, length-map}
 use Rattle.moment_sums.specs.Kept.{Kept}
 use Rattle.running_sums.specs.Fours.{LackPlaces, change_of, fours}
