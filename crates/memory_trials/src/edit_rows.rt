@@ -1,7 +1,7 @@
 //! Edits of sessions that are tried, row by row.
 use crate::edits::{Editing, Kept, Kind, edit_of, name_of};
 use crate::notes::{is_free, note, note_free};
-use crate::sessions::{LONG, list_of, session_on, with_fillings, with_long_list};
+use crate::sessions::{LONG, list_of, session_on, with_fillings, with_long_list, with_restows};
 use crate::trials::Trial;
 use crate::watch::{Tally, watch};
 use lift_sequence::Op;
@@ -141,7 +141,8 @@ fn edits<R: AllocGlobal + Threads + Wait + Sync, W: Write>(
     Ok(right)
 }
 
-/// Edits of a list of two loads, and of the same with two fillings of one tank.
+/// Edits of a list of two loads, of the same with two fillings of one tank, and with two restows of
+/// one container.
 pub fn short_lists<R: AllocGlobal + Threads + Wait + Sync, W: Write>(
     rt: &R,
     out: &mut W,
@@ -154,7 +155,9 @@ pub fn short_lists<R: AllocGlobal + Threads + Wait + Sync, W: Write>(
     let longer = with_fillings(rt.alloc(), session)?;
     right &= edits(rt, out, &longer, Kind::Move)?;
     right &= edits(rt, out, &longer, Kind::MoveFilling)?;
-    Ok(right & edits(rt, out, &longer, Kind::SwapFillings)?)
+    right &= edits(rt, out, &longer, Kind::SwapFillings)?;
+    let restowed = with_restows(rt.alloc(), session)?;
+    Ok(right & edits(rt, out, &restowed, Kind::MoveRestow)?)
 }
 
 /// Searches and edits of a long list, and an edit that makes a list so long that room is asked for
@@ -198,4 +201,15 @@ pub fn swaps<R: AllocGlobal + Threads + Wait + Sync, W: Write>(
         "",
         inserted && back && free,
     )
+}
+
+/// Moves of fillings, in a list that has no whole four of steps.
+pub fn moves_of_fillings<R: AllocGlobal + Threads + Wait + Sync, W: Write>(
+    rt: &R,
+    out: &mut W,
+    session: &Session,
+) -> Result<bool, RunFault> {
+    let mut short = with_long_list(rt.alloc(), session, 3)?;
+    let free = is_free(watch(rt, &mut Trial::MovesOfFillings(&mut short)));
+    Ok(note_free(out, "moves of fillings", "", free))
 }

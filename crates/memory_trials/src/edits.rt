@@ -10,7 +10,8 @@ use stow_messages::{Item, Lift};
 use units_core::{Cell, Kg};
 use what_if::Session;
 
-/// Which edit is made: of a list of two loads, or of the same with two fillings of one tank.
+/// Which edit is made: of a list of two loads, or of the same with two fillings of one tank, or
+/// with two restows of one container.
 #[derive(Clone, Copy)]
 pub enum Kind {
     Remove,
@@ -25,6 +26,8 @@ pub enum Kind {
     InsertRestow,
     /// A filling is moved past that of the same tank.
     MoveFilling,
+    /// A restow is moved past another one of the same container.
+    MoveRestow,
     /// The two fillings of one tank change places.
     SwapFillings,
     /// A filling is put into a list that is one step too short for searches to keep anything.
@@ -41,6 +44,7 @@ pub fn name_of(kind: Kind) -> &'static str {
         Kind::InsertDischarge => ", a discharge",
         Kind::InsertRestow => ", a restow",
         Kind::MoveFilling => ", a move past a filling of the tank",
+        Kind::MoveRestow => ", a move past a step that isn't independent",
         Kind::SwapFillings => ", a swap of fillings of the tank",
         Kind::Lengthen => ", a filling that makes the list long",
     }
@@ -48,7 +52,7 @@ pub fn name_of(kind: Kind) -> &'static str {
 
 /// The cell into which the first container is loaded, to starboard, and one forward of it, into
 /// which none is.
-const STARBOARD: Cell = Cell {
+pub const STARBOARD: Cell = Cell {
     bay: 3,
     row: 7,
     tier: 82,
@@ -103,7 +107,7 @@ pub fn edit_of(kind: Kind) -> Edit {
                 id: ArrayVec::new(),
             },
         },
-        Kind::MoveFilling => Edit::Move { from: 3, to: 4 },
+        Kind::MoveFilling | Kind::MoveRestow => Edit::Move { from: 3, to: 4 },
         Kind::SwapFillings => Edit::Swap { a: 3, b: 4 },
     }
 }

@@ -3,7 +3,7 @@ ghost use Rattle.std.specs.Prelude.{◌≡◌, IfOk};
 ghost use Rattle.what_if.specs.Desks.{IsOf};
 
 use crate::desks::Publishing;
-use crate::edit_rows::{long_lists, short_lists, swaps, undos};
+use crate::edit_rows::{long_lists, moves_of_fillings, short_lists, swaps, undos};
 use crate::edits::{Kind, edit_of};
 use crate::free_calls::{Readers, are_free};
 use crate::free_figures::figures_are_free;
@@ -165,6 +165,7 @@ fn sessions<R: AllocGlobal + Threads + Wait + Sync, W: Write>(
     right &= short_lists(rt, out, session)?;
     right &= long_lists(rt, out, session)?;
     right &= long_sessions(rt, out, session)?;
+    right &= moves_of_fillings(rt, out, session)?;
     right &= undos(rt, out, session);
     Ok(right & swaps(rt, out, session))
 }

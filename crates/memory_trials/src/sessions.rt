@@ -1,4 +1,5 @@
 //! Sessions that are read, made and searched while growths are refused, and their lists.
+use crate::edits::STARBOARD;
 use crate::texts::TWO_LOADS;
 use crate::trials::Told;
 use arrayvec::ArrayVec;
@@ -8,6 +9,7 @@ use seq_report::{Inputs, RunFault};
 use std::alloc::{AllocError, Global};
 use std::sync::Arc;
 use step_edits::{Edit, copies};
+use stow_messages::Lift;
 use units_core::Kg;
 use what_if::Session;
 
@@ -60,6 +62,34 @@ pub fn with_fillings(alloc: Global, session: &Session) -> Result<Session, RunFau
     let mut list = list_of(alloc, session)?;
     for kg in [500_000, 400_000] {
         if list.push(filling(kg)).is_err() {
+            return Err(RunFault::NoMemory);
+        }
+    }
+    session_on(alloc, session, list)
+}
+
+/// A step that takes a container out of the first load's cell and puts it there again. It is named
+/// by this, or by nothing.
+fn restow_there(name: &[u8]) -> Op {
+    let mut id = ArrayVec::new();
+    let _ = id.try_extend_from_slice(name);
+    Op::Restow {
+        from: STARBOARD,
+        to: STARBOARD,
+        id,
+    }
+}
+
+/// A session on the list of another with two steps behind it that leave the container of its first
+/// load where it is: such steps can be done in either order, though they aren't independent.
+pub fn with_restows(alloc: Global, session: &Session) -> Result<Session, RunFault> {
+    let mut list = list_of(alloc, session)?;
+    let named = match list.first() {
+        Some(Op::Lift(Lift::Load(item))) => restow_there(item.id.as_slice()),
+        _ => return Err(RunFault::NoMemory),
+    };
+    for step in [named, restow_there(b"".as_slice())] {
+        if list.push(step).is_err() {
             return Err(RunFault::NoMemory);
         }
     }
@@ -149,6 +179,19 @@ pub fn swaps(session: &mut Session) -> Told {
         right &= session.apply(Edit::Move { from: a, to: b }).is_ok();
         right &= session.undo() == Ok(true);
     }
+    if right { Told::Right } else { Told::Wrong }
+}
+
+/// The first of three steps, which fills the tank of the second, is moved past that and past both,
+/// and changes places with it, and each of that is taken back: none of it asks for memory.
+pub fn moves_of_fillings(session: &mut Session) -> Told {
+    let mut right = session.lifts().len() == 3;
+    for (from, to) in [(1, 2), (2, 1), (1, 3)] {
+        right &= session.apply(Edit::Move { from, to }).is_ok();
+        right &= session.undo() == Ok(true);
+    }
+    right &= session.apply(Edit::Swap { a: 1, b: 2 }).is_ok();
+    right &= session.undo() == Ok(true);
     if right { Told::Right } else { Told::Wrong }
 }
 

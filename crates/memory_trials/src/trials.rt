@@ -4,7 +4,9 @@ use crate::desks::Publishing;
 use crate::edits::Editing;
 use crate::free_calls::Readers;
 use crate::reports::{Report, SessionReport, stop_early};
-use crate::sessions::{Reading, make_long, read, searches, sixty_four_undos, swaps};
+use crate::sessions::{
+    Reading, make_long, moves_of_fillings, read, searches, sixty_four_undos, swaps,
+};
 use crate::wrong_bodies::{LeavesHalf, retry, swallow};
 use std::alloc::Global;
 use std::sync::Wait;
@@ -35,6 +37,7 @@ pub enum Trial<'a> {
     Undo(Editing<'a>),
     SixtyFourUndos(&'a mut Session),
     Swaps(&'a mut Session),
+    MovesOfFillings(&'a mut Session),
     Searches(&'a mut Session),
     Publish(Publishing<'a>),
     Open(Publishing<'a>),
@@ -58,6 +61,7 @@ impl<'a> Trial<'a> {
             Trial::Undo(of) => of.undo(),
             Trial::SixtyFourUndos(session) => sixty_four_undos(session),
             Trial::Swaps(session) => swaps(session),
+            Trial::MovesOfFillings(session) => moves_of_fillings(session),
             Trial::Searches(session) => searches(session),
             Trial::Publish(of) => of.publish(rt),
             Trial::Open(of) => of.open(),
