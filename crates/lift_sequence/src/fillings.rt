@@ -60,6 +60,7 @@ fn exchange_puts(
         → slice_get steps.new k ≡ slice_get steps.old k }
     ensures as_many { length steps.new ≡ length ops.now }
 {
+    // Lent below: a `Copy` value that is passed on by value twice isn't covered.
     let (first, second) = (steps[one].put, steps[other].put);
     let behind_one = refill(ops, steps, one, name, &second);
     let behind_other = refill(ops, steps, other, name, &first);
