@@ -8,7 +8,7 @@ use Rattle.port_call.specs.Grounds.{IsArrivalTotal}
 use Rattle.port_call.specs.Views.{case_in_view}
 use Rattle.running_sums.proofs.SumLemmas.{room_behind}
 use Rattle.seq_report.proofs.SumLemmas.{sum_here}
-use Rattle.report_tests.proofs.reports.sums.sums_of_chunks.Goals as goal
+use Rattle.running_tests.proofs.reports.sums.sums_of_chunks.Goals as goal
 
 pub walk_on-requires-clause-sum : goal.walk_on-requires-clause-sum
 walk_on-requires-clause-sum g c =

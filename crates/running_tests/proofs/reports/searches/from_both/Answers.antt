@@ -6,7 +6,7 @@ use Rattle.port_call.specs.Grounds.{IsArrivalTotal}
 use Rattle.seq_report.specs.Cases.{ArePassed, outcome_in, passed_before}
 use Rattle.seq_report.specs.Firsts.{first_within}
 use Rattle.seq_report.proofs.PassedLemmas.{all_passed}
-use Rattle.report_tests.proofs.reports.searches.from_both.Goals as goal
+use Rattle.running_tests.proofs.reports.searches.from_both.Goals as goal
 
 pub first_fail_behind-requires-clause-total : goal.first_fail_behind-requires-clause-total
 first_fail_behind-requires-clause-total c =

@@ -1,8 +1,0 @@
-//! Tests of `what_if`, which go by its public calls alone. They stand apart since the tests of a
-//! crate are proved together with all of it once more.
-#![tactic(auto)]
-
-#[cfg(test)]
-mod checks;
-#[cfg(test)]
-mod sessions;
