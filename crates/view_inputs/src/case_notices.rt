@@ -7,7 +7,6 @@ use crate::messages::{MessageText, messages_of};
 use crate::notices::{Notice, Notices, add_notices_on};
 use crate::occurs::Occurs;
 use crate::places::lifts_in_call;
-use crate::records::{field, record_at};
 use indexmap::IndexMap;
 use lift_sequence::Op;
 use plain_text::{front, in_thousandths, many, shown_word};
@@ -15,6 +14,10 @@ use port_call::{Case, Inputs};
 use std::alloc::{AllocError, Global};
 use stow_messages::{Item, Lift, copy_text};
 use units_core::Cell;
+use view_quotes::{field, record_at};
+
+/// What notices on the steps are of.
+const STEPS: &str = "steps";
 
 /// How far the mass that a discharge names may lie from that which is aboard, in kg.
 const MASS_APART: u32 = 1_000;
@@ -43,6 +46,34 @@ fn names_differ(alloc: Global, one: &str, other: &str) -> Result<bool, AllocErro
     Ok(one.as_str() != other.as_str())
 }
 
+/// Adds that the messages call something of the ship otherwise, each cut to so many columns: N12.
+fn add_differing(
+    alloc: Global,
+    notices: &mut Notices,
+    what: &str,
+    one: &str,
+    other: &str,
+    columns: usize,
+) -> Result<(), AllocError> {
+    let one = front(alloc, one, columns)?;
+    let other = front(alloc, other, columns)?;
+    let text = format!(in alloc; "{what} differ: {one} and {other}")?;
+    notices.add("N12", "both", text)
+}
+
+/// Adds that the profile names the ship otherwise than the bay plan: N12.
+fn add_other_name(
+    alloc: Global,
+    notices: &mut Notices,
+    name: &str,
+    plan: &str,
+) -> Result<(), AllocError> {
+    let own = front(alloc, name, 20)?;
+    let said = front(alloc, plan, 20)?;
+    let text = format!(in alloc; "its name is {own}, the bay plan's ship {said}")?;
+    notices.add("N12", "profile", text)
+}
+
 /// Adds what the messages and the profile say otherwise of the ship: N12.
 fn add_ships(
     alloc: Global,
@@ -53,28 +84,14 @@ fn add_ships(
 ) -> Result<(), AllocError> {
     let (one, other) = (plan.call_sign.as_str(), moves.call_sign.as_str());
     if !one.is_empty() && !other.is_empty() && one != other {
-        let one = front(alloc, one, 12)?;
-        let other = front(alloc, other, 12)?;
-        notices.add(
-            "N12",
-            "both",
-            format!(in alloc; "call signs differ: {one} and {other}")?,
-        )?;
+        add_differing(alloc, notices, "call signs", one, other, 12)?;
     }
-    if names_differ(alloc, plan.ship.as_str(), moves.ship.as_str())? {
-        let one = front(alloc, plan.ship.as_str(), 20)?;
-        let other = front(alloc, moves.ship.as_str(), 20)?;
-        notices.add(
-            "N12",
-            "both",
-            format!(in alloc; "ships differ: {one} and {other}")?,
-        )?;
+    let (one, other) = (plan.ship.as_str(), moves.ship.as_str());
+    if names_differ(alloc, one, other)? {
+        add_differing(alloc, notices, "ships", one, other, 20)?;
     }
-    if names_differ(alloc, name, plan.ship.as_str())? {
-        let own = front(alloc, name, 20)?;
-        let said = front(alloc, plan.ship.as_str(), 20)?;
-        let text = format!(in alloc; "its name is {own}, the bay plan's ship {said}")?;
-        notices.add("N12", "profile", text)?;
+    if names_differ(alloc, name, one)? {
+        add_other_name(alloc, notices, name, one)?;
     }
     Ok(())
 }
@@ -342,6 +359,80 @@ fn add_twice(
     Ok(())
 }
 
+/// Adds loads of an identification that is aboard: N14.
+fn add_loaded_twice(
+    alloc: Global,
+    notices: &mut Notices,
+    ops: &[Op],
+    odd: &Occurs<OddLift>,
+) -> Result<(), AllocError> {
+    let Some(OddLift { step, .. }) = odd.first else {
+        return Ok(());
+    };
+    let count = many(alloc, odd.count, "load")?;
+    let id = match ops.get((step as usize).wrapping_sub(1)) {
+        Some(Op::Lift(Lift::Load(item))) => shown_word(alloc, item.id.as_slice())?,
+        _ => String::new(alloc),
+    };
+    let text = format!(in alloc; "{count} of an identification aboard: {id}, step {step}")?;
+    notices.add("N14", STEPS, text)
+}
+
+/// Adds discharges of another mass than is aboard: N15.
+fn add_other_mass(
+    alloc: Global,
+    notices: &mut Notices,
+    odd: &Occurs<OtherMass>,
+) -> Result<(), AllocError> {
+    let Some(
+        OtherMass {
+            step,
+            named,
+            aboard,
+        },
+    ) = odd.first
+    else {
+        return Ok(());
+    };
+    let count = many(alloc, odd.count, "discharge")?;
+    let named = in_thousandths(alloc, i128::from(named))?;
+    let aboard = in_thousandths(alloc, i128::from(aboard))?;
+    let text = format!(in alloc;
+        "{count} with another mass: step {step}, {named} t, aboard {aboard}"
+    )?;
+    notices.add("N15", STEPS, text)
+}
+
+/// Adds lifts out of cells over which another container stands: N16.
+fn add_under(alloc: Global, notices: &mut Notices, odd: &Occurs<Under>) -> Result<(), AllocError> {
+    let Some(Under { lift, above }) = odd.first else {
+        return Ok(());
+    };
+    let count = many(alloc, odd.count, "lift")?;
+    let step = lift.step;
+    let cell = cell_text(alloc, lift.cell)?;
+    let above = cell_text(alloc, above)?;
+    let text = format!(in alloc;
+        "{count} from under another container: step {step}, {cell} under {above}"
+    )?;
+    notices.add("N16", STEPS, text)
+}
+
+/// Adds lifts into cells below which nobody stands: N17.
+fn add_hanging(
+    alloc: Global,
+    notices: &mut Notices,
+    odd: &Occurs<OddLift>,
+) -> Result<(), AllocError> {
+    let Some(OddLift { step, cell }) = odd.first else {
+        return Ok(());
+    };
+    let count = many(alloc, odd.count, "lift")?;
+    let cell = cell_text(alloc, cell)?;
+    let text = format!(in alloc; "{count} onto an empty cell below: step {step}, {cell}")?;
+    notices.add("N17", STEPS, text)
+}
+
 /// Adds what is odd of the steps: N14 to N17.
 fn add_steps(
     alloc: Global,
@@ -349,43 +440,10 @@ fn add_steps(
     ops: &[Op],
     odd: &OddSteps,
 ) -> Result<(), AllocError> {
-    let word = "steps";
-    if let Some(OddLift { step, .. }) = odd.loaded_twice.first {
-        let count = many(alloc, odd.loaded_twice.count, "load")?;
-        let id = match ops.get((step as usize).wrapping_sub(1)) {
-            Some(Op::Lift(Lift::Load(item))) => shown_word(alloc, item.id.as_slice())?,
-            _ => String::new(alloc),
-        };
-        let text = format!(in alloc; "{count} of an identification aboard: {id}, step {step}")?;
-        notices.add("N14", word, text)?;
-    }
-    if let Some(first) = odd.other_mass.first {
-        let count = many(alloc, odd.other_mass.count, "discharge")?;
-        let step = first.step;
-        let named = in_thousandths(alloc, i128::from(first.named))?;
-        let aboard = in_thousandths(alloc, i128::from(first.aboard))?;
-        let text = format!(in alloc;
-            "{count} with another mass: step {step}, {named} t, aboard {aboard}"
-        )?;
-        notices.add("N15", word, text)?;
-    }
-    if let Some(Under { lift, above }) = odd.under.first {
-        let count = many(alloc, odd.under.count, "lift")?;
-        let step = lift.step;
-        let cell = cell_text(alloc, lift.cell)?;
-        let above = cell_text(alloc, above)?;
-        let text = format!(in alloc;
-            "{count} from under another container: step {step}, {cell} under {above}"
-        )?;
-        notices.add("N16", word, text)?;
-    }
-    if let Some(OddLift { step, cell }) = odd.hanging.first {
-        let count = many(alloc, odd.hanging.count, "lift")?;
-        let cell = cell_text(alloc, cell)?;
-        let text = format!(in alloc; "{count} onto an empty cell below: step {step}, {cell}")?;
-        notices.add("N17", word, text)?;
-    }
-    Ok(())
+    add_loaded_twice(alloc, notices, ops, &odd.loaded_twice)?;
+    add_other_mass(alloc, notices, &odd.other_mass)?;
+    add_under(alloc, notices, &odd.under)?;
+    add_hanging(alloc, notices, &odd.hanging)
 }
 
 /// The containers of the bay plan for the port that are aboard at the end.
@@ -448,7 +506,7 @@ fn add_left(
     let verb = if count == 1 { "stays" } else { "stay" };
     let count = many(alloc, count, "container")?;
     let text = format!(in alloc; "{count} for {port} {verb} aboard: {id} in {cell}")?;
-    notices.add("N18", "steps", text)
+    notices.add("N18", STEPS, text)
 }
 
 /// Adds that the first record of a steps file is taken for its heading, where it is a step: N19.

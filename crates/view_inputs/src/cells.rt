@@ -1,9 +1,9 @@
 //! The cells of a ship, as the records of her cells.csv have them.
-use crate::records::{PlainLines, field, number_at, split_field};
 use csv::ByteRecord;
 use csv_text::{next_record, number, open_records};
 use std::alloc::{AllocError, Global};
 use units_core::Cell;
+use view_quotes::{PlainLines, field, number_at, split_field};
 
 /// The first tier on deck: those below stand in a hold.
 pub const DECK: u8 = 70;

@@ -1,9 +1,9 @@
 //! What ship.toml holds, and the lines on which it stands.
-use crate::records::NumberedLine;
 use indexmap::IndexSet;
 use std::alloc::{AllocError, Global};
 use std::str::from_utf8;
 use toml::{Table, Value};
+use view_quotes::NumberedLine;
 
 /// The keys of the document that are read, and the ship's name, which the view prints.
 const KEYS: [&str; 11] = [

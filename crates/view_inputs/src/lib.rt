@@ -2,9 +2,8 @@
 //! otherwise than its writer may have meant, or not at all ([`notices_on`]). None of that is a
 //! refusal, and none of it changes what is judged.
 //!
-//! [`identity_in`] is what a message says of itself, [`place_of`] where the inputs order a step,
-//! [`line_of_record`] the line on which a record stands, and [`stands`] who is in a cell after some
-//! steps. [`cells_in`] and [`tanks_in`] are the records of a ship's cells and tanks, [`document`]
+//! [`identity_in`] is what a message says of itself, and [`place_of`] where the inputs order a
+//! step. [`cells_in`] and [`tanks_in`] are the records of a ship's cells and tanks, [`document`]
 //! her ship.toml.
 #![tactic(auto)]
 
@@ -15,14 +14,11 @@ mod entries;
 mod groups;
 mod identity;
 mod keys;
-mod laws;
 mod messages;
 mod notices;
 mod occurs;
 mod places;
 mod readings;
-mod records;
-mod standing;
 mod tags;
 mod tanks;
 
@@ -36,12 +32,9 @@ pub use keys::{
     ARRAYS, ArrayKeys, KeyLimits, SHIP, document, elements, line_beginning, number_in, table_at,
     text_in, unread_keys,
 };
-pub use laws::segments_are_numbered;
 pub use messages::{MessageText, Names, line_at, messages_of, raw_shown};
 pub use notices::{Notice, Notices, add_notices, message_notices};
 pub use occurs::Occurs;
 pub use places::{StepPlace, lifts_of, place_of};
 pub use readings::{items_read, lifts_read, rows_read};
-pub use records::{NumberedLine, field, line_of_record, number_at, record_at};
-pub use standing::{Standing, stands};
 pub use tanks::{Filling, TankRows, tanks_in};

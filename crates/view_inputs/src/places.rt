@@ -1,12 +1,12 @@
 //! Where the inputs order a step.
 use crate::entries::entries_of;
 use crate::readings::rows_read;
-use crate::records::{PlainLines, split_field};
 use csv_text::number;
 use edifact_text::Kind;
 use plain_text::count_of;
 use std::alloc::{AllocError, Global};
 use stow_messages::StepRow;
+use view_quotes::{PlainLines, split_field};
 
 /// Where a step is ordered.
 #[derive(Clone, Copy, Debug)]

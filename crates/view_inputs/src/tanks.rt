@@ -1,9 +1,9 @@
 //! The tanks of a ship, as the records of her tanks.csv have them.
-use crate::records::{field, number_at};
 use csv::ByteRecord;
 use csv_text::{next_record, open_records};
 use plain_text::shown_line;
 use std::alloc::{AllocError, Global};
+use view_quotes::{field, number_at};
 
 /// A record of a tank: the mass of its filling in kg, where its centre is and half of its length in
 /// mm, and its free surface moment in kg mm.

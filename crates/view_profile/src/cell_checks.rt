@@ -1,9 +1,10 @@
 //! Checks of cells.csv.
-use crate::figures::{metres, size, times};
+use crate::figures::{size, times};
 use crate::warnings::Found;
 use plain_text::many;
 use std::alloc::{AllocError, Global};
 use view_inputs::{CellRow, DECK, Notices, cell_text};
+use view_quotes::metres;
 
 /// The file.
 const FILE: &str = "cells.csv";
@@ -31,38 +32,52 @@ fn is_of_other_length(row: &CellRow) -> bool {
     }
 }
 
-/// Adds cells on the other side, and of other lengths: V20 and V21.
-fn add_places(alloc: Global, warnings: &mut Notices, rows: &[CellRow]) -> Result<(), AllocError> {
+/// On which side a cell stands.
+fn side_words(alloc: Global, row: &CellRow) -> Result<String, AllocError> {
+    let cell = cell_text(alloc, row.cell)?;
+    let number = row.cell.row;
+    let off = metres(alloc, size(i128::from(row.y)))?;
+    let side = if row.y < 0 { "port" } else { "starboard" };
+    Ok(format!(in alloc; "{cell}, row {number:02}, stands {off} m to {side}")?)
+}
+
+/// Adds cells on the other side: V20.
+fn add_sides(alloc: Global, warnings: &mut Notices, rows: &[CellRow]) -> Result<(), AllocError> {
     let mut sides = Found::nothing(alloc);
-    let mut lengths = Found::nothing(alloc);
     for row in rows {
-        if is_on_other_side(row) {
-            if sides.is_first() {
-                let cell = cell_text(alloc, row.cell)?;
-                let number = row.cell.row;
-                let off = metres(alloc, size(i128::from(row.y)))?;
-                let side = if row.y < 0 { "port" } else { "starboard" };
-                let words = format!(in alloc; "{cell}, row {number:02}, stands {off} m to {side}")?;
-                sides.note(row.record, words);
-            } else {
-                sides.note_more();
-            }
+        if !is_on_other_side(row) {
+            continue;
         }
-        if is_of_other_length(row) {
-            if lengths.is_first() {
-                let cell = cell_text(alloc, row.cell)?;
-                let feet = if row.cell.bay % 2 == 1 { "20" } else { "40" };
-                let half = metres(alloc, i128::from(row.half))?;
-                let words = format!(in alloc;
-                    "{cell}, a bay of {feet} feet, has a half length of {half} m"
-                )?;
-                lengths.note(row.record, words);
-            } else {
-                lengths.note_more();
-            }
+        if sides.is_first() {
+            sides.note(row.record, side_words(alloc, row)?);
+        } else {
+            sides.note_more();
         }
     }
-    sides.add_to(alloc, warnings, "V20", FILE)?;
+    sides.add_to(alloc, warnings, "V20", FILE)
+}
+
+/// How long a container in a cell may be.
+fn length_words(alloc: Global, row: &CellRow) -> Result<String, AllocError> {
+    let cell = cell_text(alloc, row.cell)?;
+    let feet = if row.cell.bay % 2 == 1 { "20" } else { "40" };
+    let half = metres(alloc, i128::from(row.half))?;
+    Ok(format!(in alloc; "{cell}, a bay of {feet} feet, has a half length of {half} m")?)
+}
+
+/// Adds cells of other lengths than their bays: V21.
+fn add_lengths(alloc: Global, warnings: &mut Notices, rows: &[CellRow]) -> Result<(), AllocError> {
+    let mut lengths = Found::nothing(alloc);
+    for row in rows {
+        if !is_of_other_length(row) {
+            continue;
+        }
+        if lengths.is_first() {
+            lengths.note(row.record, length_words(alloc, row)?);
+        } else {
+            lengths.note_more();
+        }
+    }
     lengths.add_to(alloc, warnings, "V21", FILE)
 }
 
@@ -216,7 +231,8 @@ pub fn add_cells(
     warnings: &mut Notices,
     rows: &[CellRow],
 ) -> Result<(), AllocError> {
-    add_places(alloc, warnings, rows)?;
+    add_sides(alloc, warnings, rows)?;
+    add_lengths(alloc, warnings, rows)?;
     let bays = bays_of(alloc, rows)?;
     add_order(alloc, warnings, bays.as_slice())?;
     add_middles(alloc, warnings, bays.as_slice())?;

@@ -1,6 +1,7 @@
 //! By how much the areas and the displacement differ on an even keel.
-use crate::figures::{around, at, on_line, size, times};
+use crate::figures::{around, on_line, size, times};
 use ship_profile::Profile;
+use view_quotes::column_number;
 
 /// A closing error on an even keel, and the displacement at which it is, in kg.
 #[derive(Clone, Copy, Debug)]
@@ -64,11 +65,16 @@ pub fn worst_closing(profile: &Profile) -> Option<Closing> {
     let masses = hydro.kg();
     let mut worst: Option<Closing> = None;
     for place in 0..masses.len() {
-        let kg = at(masses, place);
-        take(profile, &mut worst, kg, at(hydro.draught(), place));
+        let kg = column_number(masses, place);
+        take(
+            profile,
+            &mut worst,
+            kg,
+            column_number(hydro.draught(), place),
+        );
         let next = place.saturating_add(1);
         if next < masses.len() {
-            let half = kg.saturating_add(at(masses, next)).div_euclid(2);
+            let half = kg.saturating_add(column_number(masses, next)).div_euclid(2);
             let line = on_line(masses, hydro.draught(), (place, next), half);
             if line.den > 0 {
                 take(profile, &mut worst, half, line.num.div_euclid(line.den));

@@ -1,12 +1,11 @@
 //! Checks of kn.csv, bonjean.csv and gm.csv.
-use crate::figures::{
-    around, at, ends, metres, on_line, record_of, size, tenths_of_tonnes, times, whole_tonnes,
-};
+use crate::figures::{around, on_line, record_of, size, times};
 use crate::hydro_checks::is_off_line;
 use crate::warnings::{Found, Parts};
 use ship_profile::{Curves, Profile};
 use std::alloc::{AllocError, Global};
 use view_inputs::Notices;
+use view_quotes::{column_ends, column_number, metres, tenths_of_tonnes, whole_tonnes};
 
 /// The sine of 5 degrees, times a million.
 const SINE: i128 = 87_156;
@@ -24,7 +23,7 @@ fn add_upright(alloc: Global, warnings: &mut Notices, levers: &Curves) -> Result
     let upright = column(levers, 0);
     let mut found = Found::nothing(alloc);
     for place in 0..upright.len() {
-        let lever = at(upright, place);
+        let lever = column_number(upright, place);
         if lever != 0 {
             let lever = metres(alloc, lever)?;
             let words = format!(in alloc; "KN at 0 degrees is {lever} m")?;
@@ -45,14 +44,14 @@ fn add_first_levers(
     let first = column(levers, 1);
     let mut found = Found::nothing(alloc);
     for place in 0..first.len() {
-        let kg = at(levers.arguments(), place);
+        let kg = column_number(levers.arguments(), place);
         let Some(places) = around(hydro.kg(), kg) else {
             continue;
         };
         let line = on_line(hydro.kg(), hydro.kmt(), places, kg);
         let top = times(line.num, SINE);
         let bottom = times(line.den, 1_000_000);
-        let lever = at(first, place);
+        let lever = column_number(first, place);
         let off = size(times(lever, bottom).saturating_sub(top));
         if bottom > 0 && times(10, off) > top {
             let lever = metres(alloc, lever)?;
@@ -81,7 +80,7 @@ fn add_bent(alloc: Global, warnings: &mut Notices, levers: &Curves) -> Result<()
     for place in 1..levers.arguments().len().saturating_sub(1) {
         if let Some(angle) = off_line_at(levers, place) {
             let degrees = angle.saturating_mul(5);
-            let lever = metres(alloc, at(column(levers, angle), place))?;
+            let lever = metres(alloc, column_number(column(levers, angle), place))?;
             let words = format!(in alloc;
                 "KN at {degrees} degrees, {lever} m, is off the line of the records around it"
             )?;
@@ -102,19 +101,14 @@ pub fn add_levers(
     add_bent(alloc, warnings, profile.levers())
 }
 
-/// Adds what looks wrong of bonjean.csv: V13 and V14.
-pub fn add_bonjean(
-    alloc: Global,
-    warnings: &mut Notices,
-    parts: &Parts<'_>,
-) -> Result<(), AllocError> {
-    let profile = parts.profile;
+/// Adds areas that fall with the draught: V13.
+fn add_falling(alloc: Global, warnings: &mut Notices, profile: &Profile) -> Result<(), AllocError> {
     let bonjean = profile.bonjean();
     let mut found = Found::nothing(alloc);
     for place in 1..bonjean.arguments().len() {
         for (station, x) in profile.stations().iter().enumerate() {
             let areas = column(bonjean, station);
-            if at(areas, place) < at(areas, place - 1) {
+            if column_number(areas, place) < column_number(areas, place - 1) {
                 if found.is_first() {
                     let x = metres(alloc, i128::from(x.get()))?;
                     let words = format!(in alloc; "the area at x {x} m falls")?;
@@ -125,11 +119,15 @@ pub fn add_bonjean(
             }
         }
     }
-    found.add_to(alloc, warnings, "V13", "bonjean.csv")?;
+    found.add_to(alloc, warnings, "V13", "bonjean.csv")
+}
+
+/// Adds that the areas don't close with the displacements: V14.
+fn add_closing(alloc: Global, warnings: &mut Notices, parts: &Parts<'_>) -> Result<(), AllocError> {
     let Some(worst) = parts.closing else {
         return Ok(());
     };
-    if size(worst.error) <= i128::from(profile.closing_max()) {
+    if size(worst.error) <= i128::from(parts.profile.closing_max()) {
         return Ok(());
     }
     let kg = tenths_of_tonnes(alloc, worst.kg)?;
@@ -140,6 +138,16 @@ pub fn add_bonjean(
     warnings.add("V14", "bonjean.csv", text)
 }
 
+/// Adds what looks wrong of bonjean.csv: V13 and V14.
+pub fn add_bonjean(
+    alloc: Global,
+    warnings: &mut Notices,
+    parts: &Parts<'_>,
+) -> Result<(), AllocError> {
+    add_falling(alloc, warnings, parts.profile)?;
+    add_closing(alloc, warnings, parts)
+}
+
 /// Adds that a table over the displacement doesn't reach as far as hydro.csv: V15.
 fn add_reach(
     alloc: Global,
@@ -148,8 +156,8 @@ fn add_reach(
     arguments: &[i128],
     masses: &[i128],
 ) -> Result<(), AllocError> {
-    let (first, last) = ends(arguments);
-    let (least, most) = ends(masses);
+    let (first, last) = column_ends(arguments);
+    let (least, most) = column_ends(masses);
     if first <= least && most <= last {
         return Ok(());
     }
@@ -180,7 +188,7 @@ pub fn add_reaches(
     if let Some(curves) = profile.least_gm() {
         add_reach(alloc, warnings, "gm.csv", curves.arguments(), masses)?;
     }
-    let (first, last) = ends(profile.bonjean().arguments());
+    let (first, last) = column_ends(profile.bonjean().arguments());
     if last < i128::from(profile.draught_max().get()) || 0 < first {
         let first = metres(alloc, first)?;
         let last = metres(alloc, last)?;

@@ -1,55 +1,5 @@
-//! Figures of a profile in print.
-ghost use Rattle.std.specs.Prelude.{◌≡◌, ◌-◌, IfOk, length, string_bytes};
-ghost use Rattle.plain_text.specs.Figures.{thousandths};
-ghost use Rattle.view_profile.specs.Printed.{number_at, tonnes_to_tenths, tonne_metres_per_cm};
-ghost use Rattle.view_profile.specs.Printed.{tonne_metres as in_tonne_metres};
-ghost use Rattle.view_profile.specs.Printed.{whole_tonnes as in_whole};
-
-use plain_text::{in_tenths, in_thousandths};
-use std::alloc::{AllocError, Global};
-
-/// Kilograms in tonnes, with three decimals: each is told.
-pub fn tonnes(alloc: Global, kg: i128) -> Result<String, AllocError>
-    ensures { IfOk result (λ text. string_bytes text ≡ thousandths kg) }
-{
-    in_thousandths(alloc, kg)
-}
-
-/// Kilograms in tonnes with one decimal, rounded down.
-pub fn tenths_of_tonnes(alloc: Global, kg: i128) -> Result<String, AllocError>
-    ensures { IfOk result (λ text. string_bytes text ≡ tonnes_to_tenths kg) }
-{
-    in_tenths(alloc, kg.div_euclid(100))
-}
-
-/// Kilograms in whole tonnes, rounded down.
-pub fn whole_tonnes(alloc: Global, kg: i128) -> Result<String, AllocError>
-    ensures { IfOk result (λ text. string_bytes text ≡ in_whole kg) }
-{
-    let tonnes = kg.div_euclid(1_000);
-    Ok(format!(in alloc; "{tonnes}")?)
-}
-
-/// Millimetres in metres: each is told.
-pub fn metres(alloc: Global, mm: i128) -> Result<String, AllocError>
-    ensures { IfOk result (λ text. string_bytes text ≡ thousandths mm) }
-{
-    in_thousandths(alloc, mm)
-}
-
-/// Moments in kg mm in tonne metres with one decimal, rounded down.
-pub fn tonne_metres(alloc: Global, moment: i128) -> Result<String, AllocError>
-    ensures { IfOk result (λ text. string_bytes text ≡ in_tonne_metres moment) }
-{
-    in_tenths(alloc, moment.div_euclid(100_000))
-}
-
-/// A moment in kg mm per mm of trim in tonne metres per centimetre, with one decimal, rounded down.
-pub fn trimming_moment(alloc: Global, moment: i128) -> Result<String, AllocError>
-    ensures { IfOk result (λ text. string_bytes text ≡ tonne_metres_per_cm moment) }
-{
-    in_tenths(alloc, moment.div_euclid(10_000))
-}
+//! Readings of a profile's tables between their records.
+use view_quotes::{column_ends, column_number};
 
 /// A number without its sign.
 pub fn size(number: i128) -> i128 {
@@ -64,24 +14,6 @@ pub fn times(one: i128, other: i128) -> i128 {
 /// The number of a record behind the heading, by its place among these, the first being 0.
 pub fn record_of(place: usize) -> u32 {
     u32::try_from(place.saturating_add(2)).unwrap_or(u32::MAX)
-}
-
-/// A number of a table at a place; 0 where there is none.
-pub fn at(numbers: &[i128], place: usize) -> i128
-    ensures { result ≡ number_at numbers.now place }
-{
-    match numbers.get(place) {
-        Some(number) => *number,
-        None => 0,
-    }
-}
-
-/// The first and the last number of a table.
-pub fn ends(numbers: &[i128]) -> (i128, i128)
-    ensures first { result.0 ≡ number_at numbers.now 0 }
-    ensures last { result.1 ≡ number_at numbers.now (length numbers.now - 1) }
-{
-    (at(numbers, 0), at(numbers, numbers.len().saturating_sub(1)))
 }
 
 /// A reading of a table on the straight line between two of its records: numerator and denominator.
@@ -99,10 +31,13 @@ pub fn on_line(
     argument: i128,
 ) -> OnLine {
     let (below, above) = places;
-    let (low, high) = (at(arguments, below), at(arguments, above));
+    let (low, high) = (
+        column_number(arguments, below),
+        column_number(arguments, above),
+    );
     let den = high.saturating_sub(low);
-    let front = times(at(numbers, below), high.saturating_sub(argument));
-    let behind = times(at(numbers, above), argument.saturating_sub(low));
+    let front = times(column_number(numbers, below), high.saturating_sub(argument));
+    let behind = times(column_number(numbers, above), argument.saturating_sub(low));
     OnLine {
         num: front.saturating_add(behind),
         den,
@@ -112,7 +47,7 @@ pub fn on_line(
 /// The two places of a table between which an argument lies; of one on which it lies, that and the
 /// next, where there is one.
 pub fn around(arguments: &[i128], argument: i128) -> Option<(usize, usize)> {
-    let (first, last) = ends(arguments);
+    let (first, last) = column_ends(arguments);
     if argument < first || last < argument {
         return None;
     }

@@ -1,10 +1,11 @@
 //! Checks of hydro.csv.
-use crate::figures::{at, metres, on_line, record_of, size, times, trimming_moment};
+use crate::figures::{on_line, record_of, size, times};
 use crate::warnings::Found;
 use plain_text::in_tenths;
 use ship_profile::Profile;
 use std::alloc::{AllocError, Global};
 use view_inputs::Notices;
+use view_quotes::{column_number, metres, trimming_moment};
 
 /// The file.
 const FILE: &str = "hydro.csv";
@@ -14,8 +15,8 @@ fn add_falling(alloc: Global, warnings: &mut Notices, profile: &Profile) -> Resu
     let draughts = profile.hydro().draught();
     let mut found = Found::nothing(alloc);
     for place in 1..draughts.len() {
-        let draught = at(draughts, place);
-        if draught <= at(draughts, place - 1) {
+        let draught = column_number(draughts, place);
+        if draught <= column_number(draughts, place - 1) {
             let draught = metres(alloc, draught)?;
             let words = format!(in alloc; "the draught doesn't rise, {draught} m")?;
             found.note(record_of(place), words);
@@ -30,8 +31,14 @@ fn add_widths(alloc: Global, warnings: &mut Notices, profile: &Profile) -> Resul
     let lbp = i128::from(profile.lbp().get());
     let mut found = Found::nothing(alloc);
     for place in 1..hydro.kg().len() {
-        let rise = at(hydro.draught(), place).saturating_sub(at(hydro.draught(), place - 1));
-        let mass = at(hydro.kg(), place).saturating_sub(at(hydro.kg(), place - 1));
+        let rise = column_number(hydro.draught(), place).saturating_sub(column_number(
+            hydro.draught(),
+            place - 1,
+        ));
+        let mass = column_number(hydro.kg(), place).saturating_sub(column_number(
+            hydro.kg(),
+            place - 1,
+        ));
         // kg over mm of draught, of 1,025 kg in a cubic metre of water, by mm of length
         let top = times(mass, 1_000_000_000);
         let bottom = times(times(rise, 1_025), lbp);
@@ -51,14 +58,14 @@ fn add_widths(alloc: Global, warnings: &mut Notices, profile: &Profile) -> Resul
 /// Whether a number of a table is off the line of those around it: by more than a twentieth of
 /// what that reads, and than a least distance.
 pub fn is_off_line(arguments: &[i128], numbers: &[i128], place: usize, least: i128) -> bool {
-    let argument = at(arguments, place);
+    let argument = column_number(arguments, place);
     let line = on_line(
         arguments,
         numbers,
         (place.saturating_sub(1), place.saturating_add(1)),
         argument,
     );
-    let off = size(times(at(numbers, place), line.den).saturating_sub(line.num));
+    let off = size(times(column_number(numbers, place), line.den).saturating_sub(line.num));
     let least = times(times(20, least), line.den);
     times(20, off) > least.max(size(line.num))
 }
@@ -75,7 +82,7 @@ fn add_off_line(
     let mut found = Found::nothing(alloc);
     for place in 1..numbers.len().saturating_sub(1) {
         if is_off_line(arguments, numbers, place, least) {
-            let number = at(numbers, place);
+            let number = column_number(numbers, place);
             let words = format!(in alloc;
                 "{name} {number} is off the line of the records around it"
             )?;
@@ -114,8 +121,8 @@ fn add_metacentres(
     let hydro = profile.hydro();
     let mut found = Found::nothing(alloc);
     for place in 0..hydro.kmt().len() {
-        let height = at(hydro.kmt(), place);
-        let half = at(hydro.draught(), place).div_euclid(2);
+        let height = column_number(hydro.kmt(), place);
+        let half = column_number(hydro.draught(), place).div_euclid(2);
         if height < 2_000 || 60_000 < height || height < half {
             let height = metres(alloc, height)?;
             found.note(record_of(place), format!(in alloc; "KMT of {height} m")?);
@@ -135,9 +142,9 @@ fn add_centres(
     let lbp = i128::from(profile.lbp().get());
     let mut found = Found::nothing(alloc);
     for place in 0..numbers.len() {
-        let tenfold = times(10, at(numbers, place));
+        let tenfold = times(10, column_number(numbers, place));
         if tenfold < times(3, lbp) || times(7, lbp) < tenfold {
-            let x = metres(alloc, at(numbers, place))?;
+            let x = metres(alloc, column_number(numbers, place))?;
             let words = format!(in alloc; "{name} of {x} m: measured from midships?")?;
             found.note(record_of(place), words);
         }
@@ -150,8 +157,8 @@ fn add_moments(alloc: Global, warnings: &mut Notices, profile: &Profile) -> Resu
     let hydro = profile.hydro();
     let mut found = Found::nothing(alloc);
     for place in 0..hydro.mct().len() {
-        let moment = at(hydro.mct(), place);
-        let mass = at(hydro.kg(), place);
+        let moment = column_number(hydro.mct(), place);
+        let mass = column_number(hydro.kg(), place);
         let tenfold = times(10, moment);
         if tenfold < mass || times(200, mass) < tenfold {
             let moment = trimming_moment(alloc, moment)?;

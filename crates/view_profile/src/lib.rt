@@ -8,7 +8,6 @@ mod curve_checks;
 mod figures;
 mod hydro_checks;
 mod limit_checks;
-mod printed;
 mod profile_texts;
 mod sections;
 mod tank_checks;

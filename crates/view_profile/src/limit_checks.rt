@@ -2,7 +2,7 @@
 ghost use Rattle.std.specs.Prelude.{◌≤◌};
 ghost use Rattle.moment_sums.specs.Kept.{size_of};
 
-use crate::figures::{ends, metres, size, times, tonnes};
+use crate::figures::{size, times};
 use crate::warnings::Parts;
 use criteria::{Verdict, judge};
 use moment_sums::Totals;
@@ -13,6 +13,7 @@ use std::alloc::{AllocError, Global};
 use units_core::Frac;
 use view_figures::list_reading;
 use view_inputs::Notices;
+use view_quotes::{column_ends, metres, tonnes};
 
 /// The light ship: everything that a ship is alone, added up.
 pub fn light_ship(profile: &Profile) -> Totals
@@ -88,7 +89,7 @@ pub fn add_limits(
         let text = format!(in alloc; "list_max is {degrees} degrees")?;
         warnings.add("V4", "ship.toml", text)?;
     }
-    let (least, _) = ends(profile.hydro().kg());
+    let (least, _) = column_ends(profile.hydro().kg());
     if times(i128::from(profile.closing_max()), 50) > least {
         let text = String::from_str(
             alloc,
@@ -97,7 +98,7 @@ pub fn add_limits(
         warnings.add("V4", "ship.toml", text)?;
     }
     let draught = i128::from(profile.draught_max().get());
-    let (_, deepest) = ends(profile.hydro().draught());
+    let (_, deepest) = column_ends(profile.hydro().draught());
     if draught > deepest {
         let draught = metres(alloc, draught)?;
         let deepest = metres(alloc, deepest)?;
@@ -141,7 +142,7 @@ pub fn add_frames(
     warnings: &mut Notices,
     profile: &Profile,
 ) -> Result<(), AllocError> {
-    let (_, most) = ends(profile.hydro().kg());
+    let (_, most) = column_ends(profile.hydro().kg());
     let lbp = i128::from(profile.lbp().get());
     let (mut zero, mut first_zero) = (0u32, 0u32);
     let (mut loose, mut first_loose) = (0u32, 0u32);
@@ -197,7 +198,7 @@ pub fn add_alone(
 ) -> Result<(), AllocError> {
     let light = light_ship(profile);
     let kg = light.kg();
-    let (least, _) = ends(profile.hydro().kg());
+    let (least, _) = column_ends(profile.hydro().kg());
     if kg < least {
         let alone = tonnes(alloc, kg)?;
         let first = tonnes(alloc, least)?;

@@ -1,10 +1,6 @@
 //! The sections of a profile's text: limits, frames, tables and what is filled.
-use crate::figures::{ends, metres, size, tenths_of_tonnes, tonnes};
+use crate::figures::size;
 use crate::limit_checks::{light_ship, list_limit};
-use crate::printed::{
-    FrameColumn, HydroColumn, Reach, ShipLimit, frame_in_print, hydro_in_print, limit_in_print,
-    reach_in_metres, reach_in_tonnes, surface,
-};
 use crate::warnings::Parts;
 use plain_text::{add_wrapped, count_of, many};
 use ship_profile::{Profile, TankFill};
@@ -12,6 +8,10 @@ use std::alloc::{AllocError, Global};
 use units_core::Frac;
 use view_figures::used_of;
 use view_inputs::DECK;
+use view_quotes::{
+    FrameColumn, HydroColumn, Reach, ShipLimit, column_ends, frame_in_print, hydro_in_print,
+    limit_in_print, metres, reach_in_metres, reach_in_tonnes, surface, tenths_of_tonnes, tonnes,
+};
 
 /// How many columns of a line there are for a key.
 const KEY: usize = 34;
@@ -269,7 +269,7 @@ fn add_heights(alloc: Global, text: &mut String, profile: &Profile) -> Result<()
         Some(heights) => heights,
         None => &[],
     };
-    let (mut least, mut most) = ends(heights);
+    let (mut least, mut most) = column_ends(heights);
     for height in heights {
         least = least.min(*height);
         most = most.max(*height);

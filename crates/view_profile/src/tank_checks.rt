@@ -1,9 +1,9 @@
 //! Checks of tanks.csv, and of the fills of ship.toml.
-use crate::figures::tonnes;
 use crate::warnings::{Found, Parts};
 use plain_text::many;
 use std::alloc::{AllocError, Global};
 use view_inputs::{Filling, Notices, TankRows};
+use view_quotes::tonnes;
 
 /// The file.
 const FILE: &str = "tanks.csv";

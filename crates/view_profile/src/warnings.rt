@@ -6,10 +6,12 @@ use crate::hydro_checks::add_hydro;
 use crate::limit_checks::{add_alone, add_frames, add_keys, add_limits, add_sizes};
 use crate::tank_checks::{add_fills, add_tanks};
 use csv_text::number;
+use indexmap::IndexSet;
 use plain_text::shown_word;
 use ship_profile::{Profile, ProfileBytes};
 use std::alloc::{AllocError, Global};
-use view_inputs::{CellRow, Notice, Notices, TankRows, document, record_at, tanks_in, unread_keys};
+use view_inputs::{CellRow, Notice, Notices, TankRows, document, tanks_in, unread_keys};
+use view_quotes::record_at;
 
 /// A profile with the records of its cells and tanks, and what is worked out of it once.
 #[derive(Drop)]
@@ -104,6 +106,24 @@ impl Found {
     }
 }
 
+/// The keys of ship.toml that aren't read, the first three by name.
+fn unread_words(alloc: Global, names: &IndexSet<Vec<u8>>) -> Result<String, AllocError> {
+    let mut text = String::from_str(alloc, "not read: ")?;
+    let mut is_first = true;
+    for name in names.iter().take(3) {
+        if !is_first {
+            text.push_str(", ")?;
+        }
+        is_first = false;
+        text.push_str(shown_word(alloc, name.as_slice())?.as_str())?;
+    }
+    if names.len() > 3 {
+        let more = names.len().saturating_sub(3);
+        write!(text, " and {more} more")?;
+    }
+    Ok(text)
+}
+
 /// Adds the keys of ship.toml that aren't read: V1.
 fn add_unread(
     alloc: Global,
@@ -114,24 +134,10 @@ fn add_unread(
         return Ok(());
     };
     let names = unread_keys(alloc, files.ship, &table)?;
-    let count = names.len();
-    if count == 0 {
-        return Ok(());
+    if names.len() > 0 {
+        warnings.add("V1", "ship.toml", unread_words(alloc, &names)?)?;
     }
-    let mut text = String::from_str(alloc, "not read: ")?;
-    let mut is_first = true;
-    for name in names.iter().take(3) {
-        if !is_first {
-            text.push_str(", ")?;
-        }
-        is_first = false;
-        text.push_str(shown_word(alloc, name.as_slice())?.as_str())?;
-    }
-    if count > 3 {
-        let more = count.saturating_sub(3);
-        write!(text, " and {more} more")?;
-    }
-    warnings.add("V1", "ship.toml", text)
+    Ok(())
 }
 
 /// Whether the first record of a table holds numbers, from a field on.
@@ -178,23 +184,28 @@ fn add_headings(
     Ok(())
 }
 
+/// Adds what looks wrong of a profile, in the order of the codes.
+fn add_all(alloc: Global, warnings: &mut Notices, parts: &Parts<'_>) -> Result<(), AllocError> {
+    add_unread(alloc, warnings, &parts.files)?;
+    add_headings(alloc, warnings, &parts.files)?;
+    add_sizes(alloc, warnings, parts)?;
+    add_limits(alloc, warnings, parts.profile)?;
+    add_keys(alloc, warnings, parts.profile)?;
+    add_hydro(alloc, warnings, parts.profile)?;
+    add_levers(alloc, warnings, parts.profile)?;
+    add_bonjean(alloc, warnings, parts)?;
+    add_reaches(alloc, warnings, parts.profile)?;
+    add_tanks(alloc, warnings, parts.tanks.as_slice())?;
+    add_fills(alloc, warnings, parts)?;
+    add_cells(alloc, warnings, parts.cells)?;
+    add_frames(alloc, warnings, parts.profile)?;
+    add_alone(alloc, warnings, parts.profile)
+}
+
 /// What looks wrong of a profile, in the order of the codes V1 to V26; the word of each is the file
 /// that it is of.
 pub fn warnings_on(alloc: Global, parts: &Parts<'_>) -> Result<Vec<Notice>, AllocError> {
     let mut warnings = Notices::new(alloc);
-    add_unread(alloc, &mut warnings, &parts.files)?;
-    add_headings(alloc, &mut warnings, &parts.files)?;
-    add_sizes(alloc, &mut warnings, parts)?;
-    add_limits(alloc, &mut warnings, parts.profile)?;
-    add_keys(alloc, &mut warnings, parts.profile)?;
-    add_hydro(alloc, &mut warnings, parts.profile)?;
-    add_levers(alloc, &mut warnings, parts.profile)?;
-    add_bonjean(alloc, &mut warnings, parts)?;
-    add_reaches(alloc, &mut warnings, parts.profile)?;
-    add_tanks(alloc, &mut warnings, parts.tanks.as_slice())?;
-    add_fills(alloc, &mut warnings, parts)?;
-    add_cells(alloc, &mut warnings, parts.cells)?;
-    add_frames(alloc, &mut warnings, parts.profile)?;
-    add_alone(alloc, &mut warnings, parts.profile)?;
+    add_all(alloc, &mut warnings, parts)?;
     Ok(warnings.into_list())
 }

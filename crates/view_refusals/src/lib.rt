@@ -2,8 +2,8 @@
 //! message has there, how many more there are, and what to do ([`refusal_of`]).
 //!
 //! A quoted segment is the one of its number in the text ([`edifact_text::segment_at`]), a quoted
-//! record the one of its number in its table ([`view_inputs::line_of_record`]), and who stands in a
-//! cell is the one of the definition of what is aboard ([`view_inputs::stands`]).
+//! record the one of its number in its table ([`view_quotes::line_of_record`]), and who stands in a
+//! cell is the one of the definition of what is aboard ([`view_quotes::stands`]).
 #![tactic(auto)]
 
 mod advice;

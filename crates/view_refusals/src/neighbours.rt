@@ -64,40 +64,61 @@ impl Numbers {
     }
 }
 
+/// The bays of a ship.
+fn bays_of(alloc: Global, rows: &[CellRow]) -> Result<Numbers, AllocError> {
+    let mut bays = Numbers::new(alloc)?;
+    for place in rows {
+        bays.add(usize::from(place.cell.bay));
+    }
+    Ok(bays)
+}
+
+/// The rows of a bay.
+fn rows_of(alloc: Global, rows: &[CellRow], bay: u16) -> Result<Numbers, AllocError> {
+    let mut near = Numbers::new(alloc)?;
+    for place in rows {
+        if place.cell.bay == bay {
+            near.add(usize::from(place.cell.row));
+        }
+    }
+    Ok(near)
+}
+
+/// The tiers of a row of a bay.
+fn tiers_of(alloc: Global, rows: &[CellRow], bay: u16, row: u8) -> Result<Numbers, AllocError> {
+    let mut tiers = Numbers::new(alloc)?;
+    for place in rows {
+        if place.cell.bay == bay && place.cell.row == row {
+            tiers.add(usize::from(place.cell.tier));
+        }
+    }
+    Ok(tiers)
+}
+
+/// What a bay of the ship has in place of a row or a tier that isn't in it.
+fn row_words(alloc: Global, rows: &[CellRow], cell: Cell) -> Result<String, AllocError> {
+    let Cell { bay, row, tier } = cell;
+    let near = rows_of(alloc, rows, bay)?;
+    if !near.has(usize::from(row)) {
+        let list = near.list_text(alloc)?;
+        return Ok(format!(in alloc; "Bay {bay:03} has no row {row:02}; its rows are{list}.")?);
+    }
+    let list = tiers_of(alloc, rows, bay, row)?.list_text(alloc)?;
+    Ok(format!(in alloc; "Bay {bay:03} row {row:02} has no tier {tier:02}; its tiers are{list}.")?)
+}
+
 /// What the ship has in place of a cell that isn't hers: her bays, or the bay's rows, or the row's
 /// tiers.
 pub fn bay_words(alloc: Global, rows: &[CellRow], cell: Cell) -> Result<String, AllocError> {
-    let Cell { bay, row, tier } = cell;
-    let mut bays = Numbers::new(alloc)?;
-    let mut near = Numbers::new(alloc)?;
-    let mut tiers = Numbers::new(alloc)?;
-    for place in rows {
-        let other = place.cell;
-        bays.add(usize::from(other.bay));
-        if other.bay == bay {
-            near.add(usize::from(other.row));
-            if other.row == row {
-                tiers.add(usize::from(other.tier));
-            }
-        }
+    let bay = cell.bay;
+    let bays = bays_of(alloc, rows)?;
+    if bays.has(usize::from(bay)) {
+        return row_words(alloc, rows, cell);
     }
-    if !bays.has(usize::from(bay)) {
-        let (least, most, count) = bays.reach();
-        let text = format!(in alloc;
-            "She has no bay {bay:03}; hers are {least:03} to {most:03} ({count} bays)."
-        )?;
-        return Ok(text);
-    }
-    if !near.has(usize::from(row)) {
-        let list = near.list_text(alloc)?;
-        let text = format!(in alloc; "Bay {bay:03} has no row {row:02}; its rows are{list}.")?;
-        return Ok(text);
-    }
-    let list = tiers.list_text(alloc)?;
-    let text = format!(in alloc;
-        "Bay {bay:03} row {row:02} has no tier {tier:02}; its tiers are{list}."
-    )?;
-    Ok(text)
+    let (least, most, count) = bays.reach();
+    Ok(format!(in alloc;
+        "She has no bay {bay:03}; hers are {least:03} to {most:03} ({count} bays)."
+    )?)
 }
 
 /// Whether a byte is a blank of any kind.

@@ -13,8 +13,9 @@ use units_core::Cell;
 use view_inputs::{
     Cargo, CellRow, Entry, NOBODY, Names, StepPlace, arrive, cell_text, cells_in, do_step,
     document, entries_of, item_of, items_read, lifts_read, line_at, messages_of, number_in,
-    place_of, rows_read, stands, table_at, tanks_in, text_in,
+    place_of, rows_read, table_at, tanks_in, text_in,
 };
+use view_quotes::stands;
 
 /// The identification of a container, in words where it has none.
 fn name_words(alloc: Global, id: &[u8]) -> Result<String, AllocError> {
@@ -100,6 +101,33 @@ fn earlier_words(
     Ok(String::new(alloc))
 }
 
+/// How many items behind that at a place are in cells that the ship hasn't, too.
+fn later_words(
+    alloc: Global,
+    rows: &[CellRow],
+    items: &[Item],
+    place: usize,
+) -> Result<String, AllocError> {
+    let cargo = Cargo::new(alloc, rows)?;
+    let behind = items.get(place.saturating_add(1)..).unwrap_or(&[]);
+    let count = unknown_items(&cargo, behind);
+    let all = many(alloc, count_of(items.len()), "item")?;
+    let words = format!(in alloc; "in cells that she hasn't, of {all}")?;
+    more_of(alloc, count, "later item", words.as_str())
+}
+
+/// Who stands in a cell that an item overlaps.
+fn overlap_words(
+    alloc: Global,
+    before: &[Item],
+    entries: &[Entry],
+    cell: Cell,
+) -> Result<String, AllocError> {
+    let name = cell_text(alloc, cell)?;
+    let front = format!(in alloc; "In {name} stands")?;
+    earlier_words(alloc, before, entries, cell, front.as_str())
+}
+
 /// What the ship or the bay plan has where an item can't be in its cell.
 fn tell_item(
     alloc: Global,
@@ -120,18 +148,9 @@ fn tell_item(
     match fault.code {
         SeqCode::UnknownCell => {
             told.here = bay_words(alloc, rows, item.cell)?;
-            let cargo = Cargo::new(alloc, rows)?;
-            let behind = items.get(place.saturating_add(1)..).unwrap_or(&[]);
-            let all = many(alloc, count_of(items.len()), "item")?;
-            let words = format!(in alloc; "in cells that she hasn't, of {all}")?;
-            let count = unknown_items(&cargo, behind);
-            told.more = more_of(alloc, count, "later item", words.as_str())?;
+            told.more = later_words(alloc, rows, items, place)?;
         }
-        SeqCode::Overlap(cell) => {
-            let name = cell_text(alloc, cell)?;
-            let front = format!(in alloc; "In {name} stands")?;
-            told.here = earlier_words(alloc, before, entries, cell, front.as_str())?;
-        }
+        SeqCode::Overlap(cell) => told.here = overlap_words(alloc, before, entries, cell)?,
         _ => told.here = earlier_words(alloc, before, entries, item.cell, "There stands")?,
     }
     Ok(())

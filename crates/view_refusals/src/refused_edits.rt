@@ -7,7 +7,8 @@ use std::alloc::{AllocError, Global};
 use step_edits::{Edit, EditFault, edit_list, fault_of};
 use stow_messages::{Item, Lift};
 use units_core::Cell;
-use view_inputs::{cell_text, stands, tanks_in};
+use view_inputs::{cell_text, tanks_in};
+use view_quotes::stands;
 
 /// The numbers of the steps that an edit names, the first of them twice where it is the only one.
 fn numbers_in(edit: &Edit) -> (u32, u32) {

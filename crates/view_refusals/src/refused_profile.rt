@@ -334,6 +334,14 @@ fn tell_table<'a>(
     }
 }
 
+/// Tells of an angle of down-flooding that is too small.
+fn tell_downflooding(alloc: Global, told: &mut Told<'_>, angle: u32) -> Result<(), AllocError> {
+    let angle = format!(in alloc; "{angle}")?;
+    name_in_what(alloc, told, "{angle}", angle.as_str())?;
+    told.place = String::from_str(alloc, "ship.toml, downflooding_deg")?;
+    Ok(())
+}
+
 /// What is told of a refused profile.
 pub fn told_of_profile<'a>(
     alloc: Global,
@@ -354,11 +362,7 @@ pub fn told_of_profile<'a>(
         }
         ProfileFault::DoubleCell(record) => tell_cell(alloc, &mut told, files.cells, record)?,
         ProfileFault::FrameNotStation(frame) => tell_frame(alloc, &mut told, ship, frame)?,
-        ProfileFault::Downflooding(angle) => {
-            let angle = format!(in alloc; "{angle}")?;
-            name_in_what(alloc, &mut told, "{angle}", angle.as_str())?;
-            told.place = String::from_str(alloc, "ship.toml, downflooding_deg")?;
-        }
+        ProfileFault::Downflooding(angle) => tell_downflooding(alloc, &mut told, angle)?,
         ProfileFault::UnknownTank(fill) => tell_fill(alloc, &mut told, files, fill)?,
         _ => tell_table(alloc, &mut told, fault, files)?,
     }

@@ -8,7 +8,8 @@ use plain_text::{count_of, front, in_thousandths, many, shown_line};
 use ship_profile::{File, ProfileBytes};
 use std::alloc::{AllocError, Global};
 use toml::Table;
-use view_inputs::{cell_named, document, elements, field, line_of_record, number_at, record_at};
+use view_inputs::{cell_named, document, elements};
+use view_quotes::{field, line_of_record, number_at, record_at};
 
 /// How far a record of a tank may lie above the one before it, in kg.
 const GAP: i64 = 100_000_000;

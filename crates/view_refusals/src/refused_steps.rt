@@ -8,7 +8,8 @@ use plain_text::{Runs, many_of, path, shown_word};
 use port_call::Inputs;
 use std::alloc::{AllocError, Global};
 use stow_messages::{Lift, StepsCode, StepsFault};
-use view_inputs::{Names, entries_of, field, lifts_read, number_at, record_at};
+use view_inputs::{Names, entries_of, lifts_read};
+use view_quotes::{field, number_at, record_at};
 
 /// The record before one that orders the same lift, and the number of the lift.
 fn earlier_record(

@@ -3,7 +3,8 @@
 use edifact_text::{PlacedSegment, segment_at};
 use plain_text::{add_paragraph, add_quoted, path};
 use std::alloc::{AllocError, Global};
-use view_inputs::{MessageText, line_at, line_of_record};
+use view_inputs::{MessageText, line_at};
+use view_quotes::line_of_record;
 
 /// What is the matter, and what to do.
 #[derive(Clone, Copy, Debug)]

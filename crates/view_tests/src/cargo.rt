@@ -5,7 +5,8 @@ use lift_sequence::Op;
 use std::test::Fail;
 use stow_messages::{Item, Lift};
 use units_core::{Cell, Kg};
-use view_inputs::{CellRow, NOBODY, arrive, do_step, item_of, stands};
+use view_inputs::{CellRow, NOBODY, arrive, do_step, item_of};
+use view_quotes::stands;
 
 /// A cell amidships, in this tier.
 fn in_tier(tier: u8) -> Cell {

@@ -1,6 +1,6 @@
-//! Tests of `view_inputs`, `view_profile`, `view_refusals` and `view_page`, which go by their
-//! public calls alone. What they print of whole inputs is tested by runs of the program, in
-//! `tests/program.d`.
+//! Tests of `view_quotes`, `view_inputs`, `view_profile`, `view_refusals` and `view_page`, which go
+//! by their public calls alone. What they print of whole inputs is tested by runs of the program,
+//! in `tests/program.d`.
 #![tactic(auto)]
 
 #[cfg(test)]
@@ -11,6 +11,8 @@ mod checks;
 mod curves;
 #[cfg(test)]
 mod messages;
+#[cfg(test)]
+mod quotes;
 #[cfg(test)]
 mod ships;
 #[cfg(test)]

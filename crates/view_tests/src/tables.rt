@@ -3,9 +3,10 @@ use crate::checks::{holds, same};
 use std::test::Fail;
 use units_core::Cell;
 use view_inputs::{
-    cell_named, cell_text, cells_in, document, elements, field, line_beginning, line_of_record,
-    number_at, number_in, record_at, table_at, tanks_in, text_in, unread_keys,
+    cell_named, cell_text, cells_in, document, elements, line_beginning, number_in, table_at,
+    tanks_in, text_in, unread_keys,
 };
+use view_quotes::{PlainLines, field, line_of_record, number_at, record_at, split_field};
 
 /// The first record is the heading; a line that is blank, and one of a field in quotes, count as
 /// the lines that they are.
@@ -28,6 +29,25 @@ fn records_and_their_lines(rt: HostRuntime) -> Result<(), Fail> {
     same(&rt, line.text, b"A,12".as_slice());
     // two lines, of which none is the record
     holds(&rt, line_of_record(alloc, text, 3)?.is_none());
+    Ok(())
+}
+
+/// The lines of a text without quotes, whatever ends them, and the first field of one.
+#[test]
+fn plain_lines(rt: HostRuntime) -> Result<(), Fail> {
+    let mut lines = PlainLines::of(b"a,b\r\nc\n\rd").ok_or("lines")?;
+    for line in [
+        b"a,b".as_slice(),
+        b"c".as_slice(),
+        b"".as_slice(),
+        b"d".as_slice(),
+    ] {
+        same(&rt, lines.next_line(), Some(line));
+    }
+    same(&rt, lines.next_line(), None);
+    holds(&rt, PlainLines::of(b"a,\"b\"").is_none());
+    same(&rt, split_field(b"a,b,c").0, b"a".as_slice());
+    same(&rt, split_field(b"a,b,c").1, b"b,c".as_slice());
     Ok(())
 }
 

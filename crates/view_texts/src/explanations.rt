@@ -261,8 +261,8 @@ fn add_others(
     write!(text, " At this step {others} {verb} hold either.")
 }
 
-/// At how many conditions a criterion fails, where it is worst, and what else fails here.
-fn more_words(
+/// At how many conditions a criterion fails.
+fn count_words(
     alloc: Global,
     lines: &Lines<'_>,
     findings: &Findings,
@@ -274,23 +274,31 @@ fn more_words(
     let conditions = lines.case.lines();
     let runs = runs_with(alloc, &findings.unmet, mark)?;
     let code = criterion.code();
-    match &condition.told {
-        Err(_) => {
-            let text = format!(in alloc;
-                "{count} of {conditions} conditions lie outside the tables: {runs}."
-            )?;
-            Ok(text)
-        }
-        Ok(inside) => {
-            let mut text = format!(in alloc;
-                "{code} doesn't hold at {count} of {conditions} conditions: {runs}."
-            )?;
-            let rows = worst_rows(alloc, lines, findings)?;
-            add_worst(alloc, &mut text, rows.as_slice(), criterion, condition.step)?;
-            add_others(alloc, &mut text, inside, criterion)?;
-            Ok(text)
-        }
+    Ok(match &condition.told {
+        Err(_) => format!(in alloc;
+            "{count} of {conditions} conditions lie outside the tables: {runs}."
+        )?,
+        Ok(_) => format!(in alloc;
+            "{code} doesn't hold at {count} of {conditions} conditions: {runs}."
+        )?,
+    })
+}
+
+/// At how many conditions a criterion fails, where it is worst, and what else fails here.
+fn more_words(
+    alloc: Global,
+    lines: &Lines<'_>,
+    findings: &Findings,
+    condition: &Condition,
+    criterion: Criterion,
+) -> Result<String, AllocError> {
+    let mut text = count_words(alloc, lines, findings, condition, criterion)?;
+    if let Ok(inside) = &condition.told {
+        let rows = worst_rows(alloc, lines, findings)?;
+        add_worst(alloc, &mut text, rows.as_slice(), criterion, condition.step)?;
+        add_others(alloc, &mut text, inside, criterion)?;
     }
+    Ok(text)
 }
 
 /// What is missing to the limit of a list.
@@ -389,6 +397,30 @@ fn where_words(
     Ok(format!(in alloc; "step {step} of {last}: {deed}{place}")?)
 }
 
+/// What a condition that fails has by a criterion, or how far it is outside of the tables.
+fn here_words(
+    alloc: Global,
+    lines: &Lines<'_>,
+    condition: &Condition,
+    criterion: Criterion,
+) -> Result<String, AllocError> {
+    match &condition.told {
+        Ok(_) => inside_words(alloc, lines, condition, criterion),
+        Err(missed) => missed_words(alloc, lines.case.profile, condition.kg, missed),
+    }
+}
+
+/// Adds a paragraph of words that are made for it. They go with the call, so that none are let go
+/// of where a later one fails.
+fn add_words(
+    alloc: Global,
+    text: &mut String,
+    heading: &str,
+    words: String,
+) -> Result<(), AllocError> {
+    add_paragraph(alloc, text, heading, words.as_str())
+}
+
 /// Adds the explanation of a condition that fails.
 fn add_failure(
     alloc: Global,
@@ -399,20 +431,16 @@ fn add_failure(
     condition: &Condition,
     criterion: Criterion,
 ) -> Result<(), AllocError> {
-    let case = lines.case;
     let advice = advice_of(condition, criterion);
     add_paragraph(alloc, text, "WHAT", advice.what)?;
-    let place = where_words(alloc, case, inputs, condition.step)?;
-    add_paragraph(alloc, text, "WHERE", place.as_str())?;
-    let here = match &condition.told {
-        Ok(_) => inside_words(alloc, lines, condition, criterion)?,
-        Err(missed) => missed_words(alloc, case.profile, condition.kg, missed)?,
-    };
-    add_paragraph(alloc, text, "HERE", here.as_str())?;
-    let more = more_words(alloc, lines, findings, condition, criterion)?;
-    add_paragraph(alloc, text, "MORE", more.as_str())?;
-    let need = need_words(alloc, condition, criterion)?;
-    add_paragraph(alloc, text, "NEED", need.as_str())?;
+    let words = where_words(alloc, lines.case, inputs, condition.step)?;
+    add_words(alloc, text, "WHERE", words)?;
+    let words = here_words(alloc, lines, condition, criterion)?;
+    add_words(alloc, text, "HERE", words)?;
+    let words = more_words(alloc, lines, findings, condition, criterion)?;
+    add_words(alloc, text, "MORE", words)?;
+    let words = need_words(alloc, condition, criterion)?;
+    add_words(alloc, text, "NEED", words)?;
     add_paragraph(alloc, text, "DO", advice.remedy)
 }
 

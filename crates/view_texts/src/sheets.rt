@@ -9,7 +9,7 @@ use port_call::Case;
 use seq_report::cause_word;
 use std::alloc::{AllocError, Global};
 use std::cmp::Ordering;
-use view_figures::{Condition, Figures, FrameRow, Inside, Missed, Row};
+use view_figures::{Condition, Figures, Floating, FrameRow, Inside, Missed, Row};
 use worst_values::{Limit, Unmet, criterion_at};
 
 /// The heading of the table of one condition.
@@ -103,14 +103,13 @@ fn list_words(alloc: Global, inside: &Inside) -> Result<String, AllocError> {
     Ok(format!(in alloc; "{value} deg{side}")?)
 }
 
-/// Adds how the ship floats.
-fn add_floating(
+/// Adds the displacement and the draughts.
+fn add_draughts(
     alloc: Global,
     text: &mut String,
     kg: i128,
-    inside: &Inside,
+    floating: &Floating,
 ) -> Result<(), AllocError> {
-    let floating = &inside.floating;
     let tonnes = in_thousandths(alloc, kg)?;
     let aft = in_thousandths(alloc, floating.aft)?;
     let mean = in_thousandths(alloc, floating.mean)?;
@@ -118,19 +117,32 @@ fn add_floating(
     write!(
         text,
         "displacement {tonnes} t  draughts, m: aft {aft}  mean {mean}  fwd {fwd}\n"
-    )?;
-    let trim = trim_words(alloc, inside)?;
-    let list = list_words(alloc, inside)?;
-    write!(text, "trim {trim}  list {list}\n")?;
+    )
+}
+
+/// Adds the heights above the keel that make the metacentric height.
+fn add_heights(alloc: Global, text: &mut String, floating: &Floating) -> Result<(), AllocError> {
     let solid = in_thousandths(alloc, floating.kg_solid)?;
     let surfaces = in_thousandths(alloc, floating.surfaces)?;
     let height = in_thousandths(alloc, floating.kg)?;
+    write!(text, "KG {solid} + {surfaces} free surfaces = {height}  ")?;
     let kmt = in_thousandths(alloc, floating.kmt)?;
     let gm = in_thousandths(alloc, floating.gm)?;
-    write!(
-        text,
-        "KG {solid} + {surfaces} free surfaces = {height}  KMT {kmt}  GM {gm} m\n"
-    )
+    write!(text, "KMT {kmt}  GM {gm} m\n")
+}
+
+/// Adds how the ship floats.
+fn add_floating(
+    alloc: Global,
+    text: &mut String,
+    kg: i128,
+    inside: &Inside,
+) -> Result<(), AllocError> {
+    add_draughts(alloc, text, kg, &inside.floating)?;
+    let trim = trim_words(alloc, inside)?;
+    let list = list_words(alloc, inside)?;
+    write!(text, "trim {trim}  list {list}\n")?;
+    add_heights(alloc, text, &inside.floating)
 }
 
 /// Adds the righting levers, in hundredths of a metre.
@@ -215,6 +227,29 @@ pub fn unmet_words(alloc: Global, unmet: &Unmet) -> Result<String, AllocError> {
     Ok(text)
 }
 
+/// Adds the frames of a condition within the tables.
+fn add_frames(alloc: Global, text: &mut String, inside: &Inside) -> Result<(), AllocError> {
+    add_line(text, FRAMES)?;
+    let mut number = 0u32;
+    for frame in &inside.frames {
+        if let Some(frame) = frame {
+            number = number.saturating_add(1);
+            add_frame(alloc, text, number, frame)?;
+        }
+    }
+    Ok(())
+}
+
+/// Adds whether a condition within the tables passes, and if not, by which criteria.
+fn add_verdict(alloc: Global, text: &mut String, inside: &Inside) -> Result<(), AllocError> {
+    let unmet = unmet_words(alloc, &inside.unmet)?;
+    if unmet.is_empty() {
+        text.push_str("VERDICT PASS\n")
+    } else {
+        write!(text, "VERDICT FAIL {unmet}\n")
+    }
+}
+
 /// Adds what is told of a condition within the tables.
 fn add_inside(
     alloc: Global,
@@ -231,20 +266,8 @@ fn add_inside(
     if row_by(inside, Limit::LeastGm).is_none() {
         add_line(text, NO_LEAST_GM)?;
     }
-    add_line(text, FRAMES)?;
-    let mut number = 0u32;
-    for frame in &inside.frames {
-        if let Some(frame) = frame {
-            number = number.saturating_add(1);
-            add_frame(alloc, text, number, frame)?;
-        }
-    }
-    let unmet = unmet_words(alloc, &inside.unmet)?;
-    if unmet.is_empty() {
-        text.push_str("VERDICT PASS\n")
-    } else {
-        write!(text, "VERDICT FAIL {unmet}\n")
-    }
+    add_frames(alloc, text, inside)?;
+    add_verdict(alloc, text, inside)
 }
 
 /// Adds the sheet of a condition of a case.

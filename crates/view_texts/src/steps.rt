@@ -98,6 +98,28 @@ pub fn deed(alloc: Global, case: Case<'_>, step: u32) -> Result<String, AllocErr
     deed_by(alloc, case, &MovedBy::new(alloc, case)?, step)
 }
 
+/// Which way a container goes through a cell.
+#[derive(Clone, Copy)]
+enum Way {
+    Into,
+    From,
+    /// From there into this one.
+    FromTo(Cell),
+}
+
+/// What becomes of a container.
+fn way_words(alloc: Global, what: &str, cell: Cell, way: Way) -> Result<String, AllocError> {
+    let cell = cell_words(alloc, cell)?;
+    Ok(match way {
+        Way::Into => format!(in alloc; "loads {what}, into {cell}")?,
+        Way::From => format!(in alloc; "discharges {what}, from {cell}")?,
+        Way::FromTo(to) => {
+            let to = cell_words(alloc, to)?;
+            format!(in alloc; "restows {what}, from {cell} to {to}")?
+        }
+    })
+}
+
 /// What the step of a number does, where it is known which container each step moves.
 pub fn deed_by(
     alloc: Global,
@@ -108,23 +130,12 @@ pub fn deed_by(
     let Some(op) = op_at(case, step) else {
         return String::from_str(alloc, "the condition on arrival");
     };
-    match op {
-        Op::Fill { name, kg } => fill_words(alloc, case, step, name.as_slice(), *kg),
-        Op::Lift(Lift::Load(item)) => {
-            let what = container_words(alloc, case, moved, step)?;
-            let into = cell_words(alloc, item.cell)?;
-            Ok(format!(in alloc; "loads {what}, into {into}")?)
-        }
-        Op::Lift(Lift::Discharge { cell, .. }) => {
-            let what = container_words(alloc, case, moved, step)?;
-            let from = cell_words(alloc, *cell)?;
-            Ok(format!(in alloc; "discharges {what}, from {from}")?)
-        }
-        Op::Restow { from, to, .. } => {
-            let what = container_words(alloc, case, moved, step)?;
-            let from = cell_words(alloc, *from)?;
-            let to = cell_words(alloc, *to)?;
-            Ok(format!(in alloc; "restows {what}, from {from} to {to}")?)
-        }
-    }
+    let (way, cell) = match op {
+        Op::Fill { name, kg } => return fill_words(alloc, case, step, name.as_slice(), *kg),
+        Op::Lift(Lift::Load(item)) => (Way::Into, item.cell),
+        Op::Lift(Lift::Discharge { cell, .. }) => (Way::From, *cell),
+        Op::Restow { from, to, .. } => (Way::FromTo(*to), *from),
+    };
+    let what = container_words(alloc, case, moved, step)?;
+    way_words(alloc, what.as_str(), cell, way)
 }

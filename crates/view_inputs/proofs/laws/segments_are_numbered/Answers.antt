@@ -1,5 +1,0 @@
-use Rattle.view_inputs.proofs.NumberLemmas.{segments_numbered}
-use Rattle.view_inputs.proofs.laws.segments_are_numbered.Goals as goal
-
-pub returns : goal.returns
-returns c = segments_numbered

@@ -1,0 +1,4 @@
+pub mod Laws
+pub mod Printed
+pub mod Records
+pub mod Standing
