@@ -3,11 +3,9 @@ ghost use Rattle.std.specs.Prelude.{◌≤◌};
 
 use crate::curves::CurvePoint;
 use crate::escaping::add_escaped;
-use crate::scales::{
-    BOTTOM, Extent, Height, LEFT, RIGHT, Scale, TOP, Tenths, add_grid, add_point, add_tick,
-    tick_step, x_of,
-};
+use crate::grids::{add_grid, add_point, add_tick};
 use std::alloc::{AllocError, Global};
+use view_curves::{BOTTOM, Extent, Height, LEFT, RIGHT, Scale, TOP, Tenths, tick_step, x_of};
 use view_figures::list_of_degrees;
 use view_texts::Run;
 

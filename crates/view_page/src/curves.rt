@@ -1,13 +1,12 @@
 //! The curves by step: which points of each are drawn, worked out once for its chart and for the
 //! script.
-use crate::decimation::drawn_points;
-use crate::series::{Figure, Series, curve_of};
 use claim_run::{Gate, Job, Workers, run};
 use plain_text::count_of;
 use std::alloc::{AllocError, Global};
 use std::marker::Model;
 use std::sync::Wait;
 use std::thread::Threads;
+use view_curves::{Figure, Series, drawn_points};
 
 /// The figures of the curves, in the order in which the script names them. Behind them is the curve
 /// of the least metacentric height.
@@ -48,6 +47,22 @@ impl Model for Thinned {
     ghost Value = { ℕ };
 
     ghost view = { λ t. t.number };
+}
+
+/// A figure of each condition, none where it has none.
+fn curve_of(
+    alloc: Global,
+    series: &Series,
+    figure: Figure,
+) -> Result<Vec<Option<i128>>, AllocError> {
+    let mut curve = Vec::with_capacity(alloc, series.figures().len())?;
+    for plotted in series.figures() {
+        curve.push(match plotted {
+            Some(plotted) => plotted.figure(figure),
+            None => None,
+        })?;
+    }
+    Ok(curve)
 }
 
 /// Whether a condition without a figure lies between one, if there is one, and another behind it.

@@ -1,10 +1,10 @@
 //! The loads along the ship: the least and the greatest at each frame, with their limits.
 use crate::escaping::add_escaped;
-use crate::loads::{FRAMES, Reaches};
-use crate::scales::{Extent, Height, Scale, Tenths, add_grid, add_point, x_along};
+use crate::grids::{add_grid, add_point, x_along};
 use ship_profile::{Frame, Profile};
 use std::alloc::{AllocError, Global};
 use strength::Strains;
+use view_curves::{Extent, FRAMES, Height, Reaches, Scale, Tenths};
 
 /// A kind of load.
 #[derive(Clone, Copy, Debug, PartialEq, Eq)]

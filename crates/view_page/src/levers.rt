@@ -1,9 +1,10 @@
 //! The righting levers of a condition.
 use crate::escaping::add_escaped;
-use crate::scales::{Extent, Height, LEFT, RIGHT, Scale, Tenths, add_grid, add_point};
+use crate::grids::{add_grid, add_point};
 use plain_text::in_thousandths;
 use seq_report::Lines;
 use std::alloc::{AllocError, Global};
+use view_curves::{Extent, Height, LEFT, RIGHT, Scale, Tenths};
 use view_figures::{Condition, Figures, Inside, condition_at};
 use view_texts::{lift_at, row_by};
 use worst_values::Limit;

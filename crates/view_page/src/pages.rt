@@ -1,11 +1,10 @@
 //! The whole page.
 use crate::curves::curves_of;
-use crate::decimation::{STRETCHES, WHOLE, drawn_runs};
+use crate::drawn_runs::drawn_runs;
 use crate::envelopes::{Kind, add_envelope};
 use crate::escaping::add_escaped;
 use crate::levers::add_lever_chart;
 use crate::rows::{add_rows, kept_of};
-use crate::series::Series;
 use crate::steps::{StepCharts, add_step_charts};
 use crate::style::{SCRIPT, STYLE};
 use crate::tables::{add_criteria, add_frames, add_odd, add_tightest, tightest_lever};
@@ -17,6 +16,7 @@ use seq_report::{Lines, write_last_line};
 use std::alloc::{AllocError, Global};
 use std::sync::Wait;
 use std::thread::Threads;
+use view_curves::{STRETCHES, Series, WHOLE};
 use view_inputs::{Names, Notice, identity_line};
 use view_texts::{
     RowText, Sources, VERSION, failing_runs, fails_words, tightest, tightest_line, verdict_line,

@@ -8,7 +8,6 @@ ghost use Rattle.port_call.specs.Views.{case_in_view};
 ghost use Rattle.seq_report.specs.Cases.{IsChunk};
 
 use crate::curves::{CurvePoint, Curves, FIGURES};
-use crate::series::{Plotted, Series};
 use claim_run::{Gate, Job, Workers, run};
 use criteria::{Criterion, Exact, Nearby, exact_into};
 use hydrostat::Outside;
@@ -24,6 +23,7 @@ use std::marker::Model;
 use std::sync::Wait;
 use std::thread::Threads;
 use strength::{Hull, Strains};
+use view_curves::{Plotted, Series};
 use view_figures::row_of;
 use view_table::add_json_text;
 use view_texts::{lift_at, value_text};

@@ -1,11 +1,11 @@
 //! The six charts by step.
 use crate::charts::{Axis, Bound, Chart, Curve, Mark, add_chart};
 use crate::curves::Curves;
-use crate::series::{Figure, Series};
 use criteria::Criterion;
 use plain_text::in_thousandths;
 use ship_profile::Profile;
 use std::alloc::{AllocError, Global};
+use view_curves::{Figure, Series};
 use view_figures::is_more;
 use view_texts::{RowText, Run};
 

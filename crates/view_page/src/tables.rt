@@ -1,7 +1,5 @@
 //! The tables of a page.
 use crate::escaping::add_escaped;
-use crate::loads::Reaches;
-use crate::scales::Tenths;
 use crate::tight_steps::tight_steps;
 use criteria::Criterion;
 use plain_text::{count_of, in_thousandths};
@@ -10,6 +8,7 @@ use seq_report::Lines;
 use ship_profile::Profile;
 use std::alloc::{AllocError, Global};
 use units_core::{Frac, floor};
+use view_curves::{Reaches, Tenths};
 use view_figures::{FrameRow, condition_at, frame_rows, is_more};
 use view_inputs::Notice;
 use view_table::MovedBy;

@@ -8,7 +8,7 @@ ghost use Rattle.view_quotes.specs.Printed.{whole_tonnes as in_whole};
 use plain_text::{in_tenths, in_thousandths};
 use std::alloc::{AllocError, Global};
 
-/// Kilograms in tonnes, with three decimals: each is told.
+/// Kilograms in tonnes, with three decimals, so that none is lost.
 pub fn tonnes(alloc: Global, kg: i128) -> Result<String, AllocError>
     ensures { IfOk result (λ text. string_bytes text ≡ thousandths kg) }
 {
@@ -30,7 +30,7 @@ pub fn whole_tonnes(alloc: Global, kg: i128) -> Result<String, AllocError>
     Ok(format!(in alloc; "{tonnes}")?)
 }
 
-/// Millimetres in metres: each is told.
+/// Millimetres in metres, with three decimals, so that none is lost.
 pub fn metres(alloc: Global, mm: i128) -> Result<String, AllocError>
     ensures { IfOk result (λ text. string_bytes text ≡ thousandths mm) }
 {

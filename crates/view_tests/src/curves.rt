@@ -1,8 +1,14 @@
 //! What is drawn of a curve, and where.
 use crate::checks::{holds, same};
+use box_ship::{Check, on_box_ship};
+use ship_profile::Profile;
 use std::alloc::{AllocError, Global};
+use std::process::Abort;
 use std::test::Fail;
-use view_page::{Height, Scale, Tenths, drawn_points, percent_of, tick_step, x_of};
+use strength::Strains;
+use view_curves::{
+    Extent, Height, Reaches, Scale, Tenths, drawn_points, percent_of, start_of, tick_step, x_of,
+};
 
 /// Of a short curve every condition with a figure is drawn.
 #[test]
@@ -54,6 +60,63 @@ fn long_curves(rt: HostRuntime) -> Result<(), Fail> {
     same(&rt, ks.get(303).copied(), Some(1_009usize));
     same(&rt, ks.get(304).copied(), Some(1_010usize));
     Ok(())
+}
+
+/// Of 1,234 conditions the seventh stretch begins behind 7 * 1,234 / 300 = 28.79 of them.
+#[test]
+fn stretches(rt: HostRuntime) {
+    same(&rt, start_of(0, 1_234), 0);
+    same(&rt, start_of(7, 1_234), 28);
+    same(&rt, start_of(300, 1_234), 1_234);
+}
+
+/// The loads of a condition, with these at the second frame and none elsewhere.
+fn loads_at_second(shear: i64, bending: i64) -> Strains {
+    let mut strains = Strains::default();
+    strains.shear[1] = shear;
+    strains.bending[1] = bending;
+    strains
+}
+
+/// Looks at the loads at each frame over two conditions: those that use most of their limits, and
+/// the least and the greatest. Both of the second use more of theirs than the first, the bending
+/// moment since both limits are the same.
+#[derive(Clone, Copy)]
+struct Loads;
+
+impl<R: AllocGlobal + Abort> Check<R> for Loads {
+    fn check(&self, rt: &R, profile: &Profile) -> Result<(), Fail> {
+        let frames = profile.frames();
+        let mut reaches = Reaches::default();
+        reaches.note(&loads_at_second(-5, 7), 3, frames);
+        let mut behind = Reaches::default();
+        behind.note(&loads_at_second(6, -9), 4, frames);
+        reaches.join(&behind, frames);
+        let worst = reaches.worst();
+        same(rt, (worst.shear[1], worst.bending[1]), (6, -9));
+        same(rt, (worst.shear[2], worst.bending[2]), (0, 0));
+        let reach = reaches.frames[1];
+        same(rt, (reach.shear_least, reach.shear_greatest), (-5, 6));
+        same(rt, (reach.bending_least, reach.bending_greatest), (-9, 7));
+        same(rt, (reach.shear.step, reach.bending.step), (4, 4));
+        same(rt, reaches.count, 2);
+        Ok(())
+    }
+}
+
+#[test]
+fn loads_over_conditions(rt: HostRuntime) -> Result<(), Fail> {
+    on_box_ship(&rt, &Loads)
+}
+
+/// A scale has a twelfth of its figures as room above and below them, and one at least.
+#[test]
+fn scales(rt: HostRuntime) {
+    let scale = Scale::of(Extent::of(-20).with(40).with(7), Height::Low);
+    same(&rt, (scale.low, scale.high), (-25, 45));
+    same(&rt, scale.span(), 70);
+    let scale = Scale::of(Extent::of(3), Height::Tall);
+    same(&rt, (scale.low, scale.high), (2, 4));
 }
 
 /// Places are rounded down, in tenths of a pixel that print as pixels.

@@ -1,6 +1,6 @@
-//! Tests of `view_quotes`, `view_inputs`, `view_profile`, `view_refusals` and `view_page`, which go
-//! by their public calls alone. What they print of whole inputs is tested by runs of the program,
-//! in `tests/program.d`.
+//! Tests of `view_quotes`, `view_inputs`, `view_profile`, `view_refusals` and `view_curves`, which
+//! go by their public calls alone. What they print of whole inputs is tested by runs of the
+//! program, in `tests/program.d`.
 #![tactic(auto)]
 
 #[cfg(test)]

@@ -8,7 +8,7 @@ use port_call::PortCall;
 use seq_report::{Criterion, CutPlan, Lines, cuts_of, sums_of};
 use std::test::Fail;
 use strength::Hull;
-use view_page::charted_in;
+use view_curves::charted_in;
 use worst_values::{Limit, found_in, limit_at};
 
 // The second load lists the ship beyond her limit, so that she lists most at step 2, and her GM is

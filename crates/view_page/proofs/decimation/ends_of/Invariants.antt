@@ -1,5 +1,0 @@
-use Rattle.view_page.specs.Decimation.{AreFound}
-use Rattle.view_page.proofs.decimation.ends_of.Given as goal
-
-abbrev pub invariant-loop-k : goal.invariant-loop-k
-invariant-loop-k l = AreFound l.curve l.start l.k l.ends
