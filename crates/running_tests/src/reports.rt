@@ -42,8 +42,8 @@ fn options(workers: u8, cuts: CutPlan<'_>) -> Options<'_>
     Options { workers, cuts }
 }
 
-/// The report on an instruction, as text, and what it came to, made so. The first step that fails
-/// is asked for by itself, too, and is the same.
+/// The report on an instruction, as text, and its summary, made so. The first step that fails is
+/// asked for by itself, too, and is the same.
 fn bytes_by(
     rt: &(impl Abort + AllocGlobal + Threads + Wait + Sync),
     movins: &[u8],
