@@ -28,7 +28,7 @@ const AREA_TO_40_MIN: i128 = 5_156_621;
 /// The least area from 30 to 40 degrees (C4): 0.03 metre-radians, rounded up (1,718,873.4).
 const AREA_30_TO_40_MIN: i128 = 1_718_874;
 
-/// What the greatest lever from 30 to 60 degrees comes to at least (C5), in mm.
+/// The least that the greatest lever from 30 to 60 degrees may be (C5), in mm.
 const LEVER_MIN: i128 = 200;
 
 /// The least angle that carries the greatest of all levers (C6), in steps of 5 degrees.

@@ -11,8 +11,8 @@ use criteria::Criterion;
 use std::alloc::{AllocError, Global};
 use std::marker::Model;
 
-/// What a report came to: how many steps it has lines of, and the first step that fails, with its
-/// first criterion.
+/// A report in short: how many steps it has lines of, and the first step that fails, with its first
+/// criterion.
 #[derive(Clone, Copy, Debug, PartialEq, Eq)]
 pub struct Summary {
     /// The condition on arrival, and each step behind it.
@@ -164,7 +164,7 @@ impl CompleteReport {
         )
     }
 
-    /// What it came to.
+    /// The summary of the report.
     pub fn summary(&self) -> Summary
         ensures { result ≡ self.now.summary }
     {
